@@ -1,0 +1,48 @@
+-- Document 01, "Refused calls": what a call comes to, the number and the code point of each refusal, and the order in
+-- which causes are tested.
+use mathlib.Core.Bool.{Bool}
+use mathlib.Core.List.{List, [], _∷_}
+use Prim.Native.Nat.{ℕ}
+use Rattle.integers.specs.Integers.{pick}
+use Rattle.types.specs.declared.error.Error.{Error}
+use Rattle.types.specs.declared.error.Error.the-variants.{FontLength, FontHeader, FramebufferSize, TextEncoding, PositionOrLineHeight, BackgroundColorNotSupported, GlyphNotFound, FontEnds}
+
+-- A call succeeds with a value, or is refused with 01's number and a code point.
+pub data Outcome (A : Type 0) : Type 0 where
+  success : A → Outcome A
+  refused : ℕ → ℕ → Outcome A
+
+-- 01's number of each case of the error type
+abbrev pub number : Error → ℕ
+number FontLength = 1
+number FontHeader = 2
+number FramebufferSize = 3
+number TextEncoding = 4
+number PositionOrLineHeight = 5
+number BackgroundColorNotSupported = 6
+number (GlyphNotFound c) = 7
+number (FontEnds c) = 8
+
+-- the code point that is returned with it: 0 where no letter is to blame
+abbrev pub codePoint : Error → ℕ
+codePoint FontLength = 0
+codePoint FontHeader = 0
+codePoint FramebufferSize = 0
+codePoint TextEncoding = 0
+codePoint PositionOrLineHeight = 0
+codePoint BackgroundColorNotSupported = 0
+codePoint (GlyphNotFound c) = c
+codePoint (FontEnds c) = c
+
+abbrev pub refusal : {A : Type 0} → Error → Outcome A
+refusal e = refused (number e) (codePoint e)
+
+-- A cause that is tested before any letter: its number, and whether it applies to the call.
+pub record Cause : Type 0 where
+  pub number : ℕ
+  pub applies : Bool
+
+-- The first cause that applies refuses the call; where none does, the call comes to what is left.
+abbrev pub unlessRefused : {A : Type 0} → List Cause → Outcome A → Outcome A
+unlessRefused [] rest = rest
+unlessRefused (c ∷ cs) rest = pick (c .applies) (refused (c .number) 0) (unlessRefused cs rest)

@@ -1,0 +1,7 @@
+// The types of the calls: what they are handed and what they answer. The names are those of the
+// Rust library u8g2-fonts where it has a counterpart. There is no code here.
+pub mod error;
+pub mod font_reader;
+pub mod geometry;
+pub mod results;
+pub mod style;

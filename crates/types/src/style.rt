@@ -1,0 +1,28 @@
+// How a text is placed and coloured.
+
+// Which height of the font stands at the given y (01's anchor).
+pub enum VerticalPosition {
+    Baseline,
+    Top,
+    Center,
+    Bottom,
+}
+
+// Which side of each line stands at the given x.
+pub enum HorizontalAlignment {
+    Left,
+    Center,
+    Right,
+}
+
+// The colour of the pixels (01's ink). Transparent leaves the background pixels of a glyph as they
+// were; WithBackground fills them, which not every font allows.
+pub enum FontColor {
+    Transparent(u8),
+    WithBackground { fg: u8, bg: u8 },
+}
+
+pub struct FontStyle {
+    pub color: FontColor,
+    pub vertical_pos: VerticalPosition,
+}
