@@ -8,10 +8,14 @@ use lib.IntN.{ℤ, pos, negsuc}
 use lib.ListN.{take, set}
 use Rattle.types.specs.declared.font_reader.FontReader.{FontReader}
 use Rattle.types.specs.declared.geometry.Rectangle.{Rectangle}
+use Rattle.types.specs.declared.glyph_reader.GlyphReader.{GlyphReader}
 use Rattle.types.specs.declared.style.VerticalPosition.the-variants.{Baseline, Top, Center, Bottom}
 use Rattle.integers.specs.Integers.{signed8}
 use Rattle.definitions.specs.Refusals.{Outcome, success, refused}
 use Rattle.definitions.specs.Header.{header, headerOff}
+use Rattle.definitions.specs.Bits.{lowBits, bits, number, readAt}
+use Rattle.definitions.specs.Lookup.{chain, unicodeChain, jumpTable, search}
+use Rattle.definitions.specs.Glyph.{fields, glyph}
 use Rattle.definitions.specs.VerticalOffset.{verticalOffset}
 use Rattle.definitions.specs.Calls.{openFont, fontBoundingBox}
 use Rattle.definitions.specs.FontT.{T}
@@ -21,6 +25,7 @@ pub data Result : Type 0 where
   offset : ℤ → Result
   opened : Outcome FontReader → Result
   box : Outcome Rectangle → Result
+  answered : Outcome GlyphReader → Result
 
 pub record Case : Type 0 where
   pub given : Result
@@ -28,6 +33,9 @@ pub record Case : Type 0 where
 
 abbrev rectangle : ℤ → ℤ → ℕ → ℕ → Rectangle
 rectangle x y w h = record { «top_left» = record { x = x; y = y }; size = record { width = w; height = h } }
+
+abbrev metrics : ℕ → ℕ → ℤ → ℤ → ℤ → ℕ → GlyphReader
+metrics w h x y d at = record { «glyph_width» = w; «glyph_height» = h; «offset_x» = x; «offset_y» = y; advance = d; «bit_pos» = at }
 
 -- header values of T, and its line height 4
 abbrev headerOfT : FontReader
@@ -65,8 +73,19 @@ cases =
     ∷ record { given = box (fontBoundingBox T Top); expected = box (success (rectangle (pos 0) (pos 1) 2 3)) }
     ∷ record { given = box (fontBoundingBox T Center); expected = box (success (rectangle (pos 0) (negsuc 0) 2 3)) }
     ∷ record { given = box (fontBoundingBox T Bottom); expected = box (success (rectangle (pos 0) (negsuc 2) 2 3)) }
+    -- the glyphs of "-" and "4"
+    ∷ record { given = answered (glyph T 45); expected = answered (success (metrics 2 1 (pos 0) (pos 2) (pos 3) 214)) }
+    ∷ record { given = answered (glyph T 52); expected = answered (success (metrics 2 2 (pos 0) (pos 0) (pos 3) 254)) }
+    -- * "A", U+0100 and U+10000: 7; U+0000: 8, the end record being taken as its glyph
+    ∷ record { given = answered (glyph T 65); expected = answered (refused 7 65) }
+    ∷ record { given = answered (glyph T 256); expected = answered (refused 7 256) }
+    ∷ record { given = answered (glyph T 65536); expected = answered (refused 7 65536) }
+    ∷ record { given = answered (glyph T 0); expected = answered (refused 8 0) }
+    -- * T cut to 33 bytes: "4" is there, "A" gives 8
+    ∷ record { given = answered (glyph (take 33 T) 52); expected = answered (success (metrics 2 2 (pos 0) (pos 0) (pos 3) 254)) }
+    ∷ record { given = answered (glyph (take 33 T) 65); expected = answered (refused 8 65) }
     ∷ []
 
 pub cases-hold : map (λ (c : Case). c .given) cases ≡ map (λ (c : Case). c .expected) cases
-unfolding cases openFont fontBoundingBox header headerOff signed8 T
+unfolding cases openFont fontBoundingBox header headerOff signed8 T glyph fields search chain unicodeChain jumpTable readAt bits lowBits number
 cases-hold = refl

@@ -1,11 +1,12 @@
 -- Document 01, "The header", and its limits: causes 1 and 2 of the table of refusals.
 use mathlib.Core.Bool.{Bool, _||_, not}
 use mathlib.Core.List.{List, [], _∷_}
-use Prim.Native.Nat.{ℕ, _+_, _*_}
+use mathlib.Core.Path.{_≡_}
+use Prim.Native.Nat.{ℕ, _+_, _*_, _≤_}
 use lib.Dec.{ltb, eqb}
 use lib.IntN.{ℤ, pos, natAbs, _+ℤ_}
 use lib.ListN.{length, getD}
-use lib.Signed.{ltZ}
+use lib.Signed.{ltZ, _≤ℤ_}
 use Rattle.integers.specs.Integers.{signed8}
 use Rattle.types.specs.declared.font_reader.FontReader.{FontReader}
 use Rattle.definitions.specs.Refusals.{Cause}
@@ -86,3 +87,18 @@ fontCauses font =
     record { number = 1; applies = lengthOff font }
     ∷ record { number = 2; applies = headerOff font }
     ∷ []
+
+-- A font to which neither cause applies, and the header that was read from it: what the functions inside may count on.
+pub record Opened (font : List ℕ) (head : FontReader) : Type 0 where
+  pub least : 23 ≤ length font
+  pub most : length font ≤ 1048576
+  pub read : head ≡ header font
+  pub m0 : head .m0 ≤ 8
+  pub m1 : head .m1 ≤ 8
+  pub w : head .«bitcnt_w» ≤ 8
+  pub h : head .«bitcnt_h» ≤ 8
+  pub x : (1 ≤ head .«bitcnt_x») × (head .«bitcnt_x» ≤ 8)
+  pub y : (1 ≤ head .«bitcnt_y») × (head .«bitcnt_y» ≤ 8)
+  pub d : (1 ≤ head .«bitcnt_d») × (head .«bitcnt_d» ≤ 8)
+  pub width : pos 0 ≤ℤ head .«font_bounding_box_width»
+  pub height : pos 0 ≤ℤ head .«font_bounding_box_height»

@@ -3,6 +3,9 @@ pub mod Refusals
 pub mod Header
 pub mod VerticalOffset
 pub mod Geometry
+pub mod Bits
+pub mod Lookup
+pub mod Glyph
 pub mod Calls
 pub mod FontT
 pub mod Cases

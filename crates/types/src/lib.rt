@@ -3,5 +3,6 @@
 pub mod error;
 pub mod font_reader;
 pub mod geometry;
+pub mod glyph_reader;
 pub mod results;
 pub mod style;

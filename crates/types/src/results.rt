@@ -2,6 +2,7 @@
 use crate::error::Error;
 use crate::font_reader::FontReader;
 use crate::geometry::Rectangle;
+use crate::glyph_reader::GlyphReader;
 
 pub enum FontReaderResult {
     Ok(FontReader),
@@ -10,5 +11,11 @@ pub enum FontReaderResult {
 
 pub enum RectangleResult {
     Ok(Rectangle),
+    Err(Error),
+}
+
+// A lookup answers with the glyph or with the reason there is none.
+pub enum GlyphResult {
+    Ok(GlyphReader),
     Err(Error),
 }
