@@ -30,7 +30,7 @@ signed-width-in b e =
     (omega arith, ltb-false 8 b (or-false (eqb b 0) (ltb 8 b) e .1))
 
 module _ (font : List ℕ) where
-  opened-limits : lengthOff font ≡ false → headerOff font ≡ false → Opened font (header font)
+  pub opened-limits : lengthOff font ≡ false → headerOff font ≡ false → Opened font (header font)
   unfolding header headerOff
   opened-limits p q =
       let l = or-false _ _ p in

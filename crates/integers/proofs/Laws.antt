@@ -15,7 +15,7 @@ use native.Mathlib.Omega.{arith}
 use lib.IntN.{ℤ, pos, negsuc, negℤ, natAbs, subℕ, _+ℤ_, _-ℤ_}
 use lib.Dec.{T, ltb, le→leb, lt→ltb}
 use lib.Signed.{mag, nonNeg, quotZ, ltZ, leZ, _≤ℤ_, _<ℤ_}
-use borrow.Author.Tests.{ltb-true, ltb-false, leb-true, leb-false}
+use borrow.Author.Tests.{ltb-true, ltb-false, leb-true, leb-false, lt-ltb, le-ltb}
 use mir.Syntax.{Width, w8}
 use mir.Val.{Fits, SFits, bits, hbits, toZ, ofZ}
 use mir.Facts.{toZ-ofZ, fits-natAbs}
@@ -176,6 +176,10 @@ range {w} {z} f = bounds z (f .sfits)
 pub back : {w : Width} {z : ℤ} → SFits w z → up (toZ w (ofZ w z)) + down z ≡ up z + down (toZ w (ofZ w z))
 back {w} {z} f = eq-up (toZ w (ofZ w z)) z (toZ-ofZ f)
 
+-- a signed result of a call, stored and read back
+pub stored : (w : Width) {r z : ℤ} → mag r < 2 ^ hbits w → r ≡ z → toZ w (ofZ w r) ≡ z
+stored w f e = toZ-ofZ (record { sfits = f }) ∙ e
+
 -- ---- integers that are not negative
 
 pub nonneg : (z : ℤ) → down z ≤ up z → T (nonNeg z)
@@ -227,3 +231,23 @@ signed8′ b false e h = omega (zarith, ltb-false, minus (pos b) (pos 256))
 pub signed8-fits : (b : ℕ) → b < 256 → SFits w8 (signed8 b)
 unfolding signed8
 signed8-fits b h = signed8′ b (ltb b 128) refl h
+
+-- it is negative from 128 on
+negative′ : (b : ℕ) (t : Bool) → ltb b 128 ≡ t → b < 256 → ltZ (pick t (pos b) (pos b -ℤ pos 256)) (pos 0) ≡ ltb 127 b
+negative′ b true e h = let k = ltb-true b 128 e in le-ltb b 0 (omega arith) ∙ sym (le-ltb 127 b (omega arith))
+negative′ b false e h =
+    let k = ltb-false b 128 e in
+    ltZ-yes (pos b -ℤ pos 256) (pos 0) (omega (arith, minus (pos b) (pos 256))) ∙ sym (lt-ltb 127 b (omega arith))
+
+pub signed8-negative : (b : ℕ) → b < 256 → ltZ (signed8 b) (pos 0) ≡ ltb 127 b
+unfolding signed8
+signed8-negative b h = negative′ b (ltb b 128) refl h
+
+-- and else the byte itself
+whole′ : (b : ℕ) (t : Bool) → ltb b 128 ≡ t → b < 256 → pos 0 ≤ℤ pick t (pos b) (pos b -ℤ pos 256) → pick t (pos b) (pos b -ℤ pos 256) ≡ pos b
+whole′ b true e h k = refl
+whole′ b false e h k = absurd (omega (zarith, minus (pos b) (pos 256)))
+
+pub signed8-whole : (b : ℕ) → b < 256 → pos 0 ≤ℤ signed8 b → signed8 b ≡ pos b
+unfolding signed8
+signed8-whole b h k = whole′ b (ltb b 128) refl h k

@@ -1,0 +1,50 @@
+-- The tests are the definition's causes, in its order.
+use mathlib.Core.Path.{_≡_, sym, _∙_}
+use mathlib.Core.Bool.{true, false}
+use mathlib.Core.Logic.{⊎-elim}
+use lib.ListN.{length}
+use borrow.Author.Needs.{needs}
+use borrow.Author.Tests.{lt-ltb, le-ltb}
+use Rattle.definitions.specs.Calls.{openFont}
+use Rattle.definitions.specs.Header.{header, lengthOff}
+use Rattle.definitions.proofs.OpenedLaws.{opened-limits}
+use Rattle.font_reader.proofs.new_from_raw_data.Statement.{statement}
+use Rattle.font_reader.proofs.new_from_raw_data.Tie as tie
+
+-- where the length is within its limits
+length-in : (c : tie.Else2) → lengthOff (c .before .before .before .args .font .now) ≡ false
+length-in c = simp (le-ltb _ _ (c .before .if1 .left), c .if2 .left)
+
+returns : tie.Need-returns
+unfolding openFont
+returns c =
+    ⊎-elim
+    (λ w. simp (lt-ltb _ _ (w .taken)))
+    (λ w. simp (le-ltb _ _ (w .0 .left), w .1 .taken))
+    (c .if1 .came)
+
+has-bad-header-requires : tie.Need-has-bad-header-requires
+has-bad-header-requires c κs = search needs
+
+returns-2 : tie.Need-returns-2
+unfolding openFont
+returns-2 c = simp (length-in (c .before .before), sym (c .before .has-bad-header .ensures), c .if3 .taken)
+
+read-header-requires : tie.Need-read-header-requires
+unfolding header
+read-header-requires c κs =
+    let o = opened-limits
+    (c .before .before .before .before .before .args .font .now)
+    (length-in (c .before .before))
+    (sym (c .before .has-bad-header .ensures) ∙ c .if3 .left) in
+    (o .least, o .height)
+
+returns-3 : tie.Need-returns-3
+unfolding openFont
+returns-3 c =
+    simp
+    (length-in (c .before .before .before), sym (c .before .before .has-bad-header .ensures), c .before .if3 .left, c .read-header .ensures)
+
+pub new-from-raw-data-spec : {M : Type 1} → statement M
+new-from-raw-data-spec =
+    tie.close (tie.spec returns has-bad-header-requires returns-2 read-header-requires returns-3)

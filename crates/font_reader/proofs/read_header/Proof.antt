@@ -1,0 +1,126 @@
+-- Each field is what the read of its byte or bytes ensures.
+use mir.Syntax.{w8}
+use Rattle.integers.proofs.Laws.{stored}
+use Rattle.definitions.specs.Header.{header}
+use borrow.Author.Needs.{needs}
+use Rattle.font_reader.proofs.read_header.Statement.{statement}
+use Rattle.font_reader.proofs.read_header.Tie as tie
+
+shared-slice-read-t3 : tie.Need-shared-slice-read-t3
+shared-slice-read-t3 c = search needs
+
+shared-slice-read-t5 : tie.Need-shared-slice-read-t5
+shared-slice-read-t5 c = search needs
+
+shared-slice-read-t8 : tie.Need-shared-slice-read-t8
+shared-slice-read-t8 c = search needs
+
+shared-slice-read-t10 : tie.Need-shared-slice-read-t10
+shared-slice-read-t10 c = search needs
+
+shared-slice-read-t12 : tie.Need-shared-slice-read-t12
+shared-slice-read-t12 c = search needs
+
+shared-slice-read-t14 : tie.Need-shared-slice-read-t14
+shared-slice-read-t14 c = search needs
+
+shared-slice-read-t16 : tie.Need-shared-slice-read-t16
+shared-slice-read-t16 c = search needs
+
+shared-slice-read-t18 : tie.Need-shared-slice-read-t18
+shared-slice-read-t18 c = search needs
+
+shared-slice-read-t20 : tie.Need-shared-slice-read-t20
+shared-slice-read-t20 c = search needs
+
+i8-at-requires : tie.Need-i8-at-requires
+i8-at-requires c κs = search needs
+
+i8-at-requires-2 : tie.Need-i8-at-requires-2
+i8-at-requires-2 c κs = search needs
+
+i8-at-requires-3 : tie.Need-i8-at-requires-3
+i8-at-requires-3 c κs = search needs
+
+i8-at-requires-4 : tie.Need-i8-at-requires-4
+i8-at-requires-4 c κs = search needs
+
+i8-at-requires-5 : tie.Need-i8-at-requires-5
+i8-at-requires-5 c κs = search needs
+
+i8-at-requires-6 : tie.Need-i8-at-requires-6
+i8-at-requires-6 c κs = search needs
+
+i8-at-requires-7 : tie.Need-i8-at-requires-7
+i8-at-requires-7 c κs = search needs
+
+i8-at-requires-8 : tie.Need-i8-at-requires-8
+i8-at-requires-8 c κs = search needs
+
+u16-at-requires : tie.Need-u16-at-requires
+u16-at-requires c κs = search needs
+
+u16-at-requires-2 : tie.Need-u16-at-requires-2
+u16-at-requires-2 c κs = search needs
+
+u16-at-requires-3 : tie.Need-u16-at-requires-3
+u16-at-requires-3 c κs = search needs
+
+get-default-line-height-requires : tie.Need-get-default-line-height-requires
+get-default-line-height-requires c κs = search needs
+
+returns : tie.Need-returns
+unfolding header
+returns c =
+    let u3 = c .before in
+    let u2 = u3 .before in
+    let u1 = u2 .before in
+    let s8 = u1 .before in
+    let s7 = s8 .before in
+    let s6 = s7 .before in
+    let s5 = s6 .before in
+    let s4 = s5 .before in
+    let s3 = s4 .before in
+    let s2 = s3 .before in
+    let s1 = s2 .before in
+    simp (
+      stored w8 (s1 .i8-at .ok) (s1 .i8-at .ensures),
+      stored w8 (s2 .i8-at2 .ok) (s2 .i8-at2 .ensures),
+      stored w8 (s3 .i8-at3 .ok) (s3 .i8-at3 .ensures),
+      stored w8 (s4 .i8-at4 .ok) (s4 .i8-at4 .ensures),
+      stored w8 (s5 .i8-at5 .ok) (s5 .i8-at5 .ensures),
+      stored w8 (s6 .i8-at6 .ok) (s6 .i8-at6 .ensures),
+      stored w8 (s7 .i8-at7 .ok) (s7 .i8-at7 .ensures),
+      stored w8 (s8 .i8-at8 .ok) (s8 .i8-at8 .ensures),
+      u1 .u16-at .ensures,
+      u2 .u16-at2 .ensures,
+      u3 .u16-at3 .ensures,
+      c .get-default-line-height .ensures,
+    )
+
+pub read-header-spec : {M : Type 1} → statement M
+read-header-spec =
+    tie.close
+    (tie.spec
+    shared-slice-read-t3
+    shared-slice-read-t5
+    shared-slice-read-t8
+    shared-slice-read-t10
+    shared-slice-read-t12
+    shared-slice-read-t14
+    shared-slice-read-t16
+    shared-slice-read-t18
+    shared-slice-read-t20
+    i8-at-requires
+    i8-at-requires-2
+    i8-at-requires-3
+    i8-at-requires-4
+    i8-at-requires-5
+    i8-at-requires-6
+    i8-at-requires-7
+    i8-at-requires-8
+    u16-at-requires
+    u16-at-requires-2
+    u16-at-requires-3
+    get-default-line-height-requires
+    returns)
