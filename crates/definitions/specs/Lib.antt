@@ -6,6 +6,10 @@ pub mod Geometry
 pub mod Bits
 pub mod Lookup
 pub mod Glyph
+pub mod Text
+pub mod Runs
+pub mod Picture
+pub mod Framebuffer
 pub mod Calls
 pub mod FontT
 pub mod Cases
