@@ -6,6 +6,7 @@ pub mod Geometry
 pub mod Bits
 pub mod Lookup
 pub mod Glyph
+pub mod Utf8
 pub mod Calls
 pub mod FontT
 pub mod Cases
