@@ -6,6 +6,7 @@ use Prim.Native.Nat.{ℕ, zero, suc, _+_, _-_, _*_, _/_, _%_, _≤_, _<_}
 use native.Mathlib.Omega.{arith}
 use lib.Dec.{leb}
 use lib.ListN.{length, getD, take, drop}
+use lib.Seq.{drop-cons, getD-drop}
 use borrow.Author.Tests.{le-leb, lt-leb, leb-true}
 use Rattle.integers.specs.Integers.{pick}
 use Rattle.definitions.specs.Utf8.{isIn, continues, Row, one, two, three, four, none, rowOf, Character, character, malformed, sequence, first, Scalar, encode}
@@ -69,3 +70,69 @@ by-rows P a p1 p2 p3 p4 p5 p6 p7 p8 p9 p0 =
     (by-range P 0xF1 0xF3 a p8
     (by-range P 0xF4 0xF4 a p9
     p0))))))))
+
+-- .. and the other way: the row of a, from a's range. A test whose range lies below a fails, and so on.
+module _ (a : ℕ) where
+  pub row-one : 0x00 ≤ a → a ≤ 0x7F → rowOf a ≡ one
+  unfolding rowOf
+  row-one p q = simp (within 0x00 0x7F a p q)
+
+  pub row-two : 0xC2 ≤ a → a ≤ 0xDF → rowOf a ≡ two 0x80 0xBF
+  unfolding rowOf
+  row-two p q = simp (above 0x00 0x7F a (omega arith), within 0xC2 0xDF a p q)
+
+  pub row-three-E0 : 0xE0 ≤ a → a ≤ 0xE0 → rowOf a ≡ three 0xA0 0xBF
+  unfolding rowOf
+  row-three-E0 p q = simp (above 0x00 0x7F a (omega arith), above 0xC2 0xDF a (omega arith), within 0xE0 0xE0 a p q)
+
+  pub row-three-E1 : 0xE1 ≤ a → a ≤ 0xEC → rowOf a ≡ three 0x80 0xBF
+  unfolding rowOf
+  row-three-E1 p q = simp (above 0x00 0x7F a (omega arith), above 0xC2 0xDF a (omega arith), above 0xE0 0xE0 a (omega arith), within 0xE1 0xEC a p q)
+
+  pub row-three-ED : 0xED ≤ a → a ≤ 0xED → rowOf a ≡ three 0x80 0x9F
+  unfolding rowOf
+  row-three-ED p q = simp (above 0x00 0x7F a (omega arith), above 0xC2 0xDF a (omega arith), above 0xE0 0xE0 a (omega arith), above 0xE1 0xEC a (omega arith), within 0xED 0xED a p q)
+
+  pub row-three-EE : 0xEE ≤ a → a ≤ 0xEF → rowOf a ≡ three 0x80 0xBF
+  unfolding rowOf
+  row-three-EE p q = simp (above 0x00 0x7F a (omega arith), above 0xC2 0xDF a (omega arith), above 0xE0 0xE0 a (omega arith), above 0xE1 0xEC a (omega arith), above 0xED 0xED a (omega arith), within 0xEE 0xEF a p q)
+
+  pub row-four-F0 : 0xF0 ≤ a → a ≤ 0xF0 → rowOf a ≡ four 0x90 0xBF
+  unfolding rowOf
+  row-four-F0 p q = simp (above 0x00 0x7F a (omega arith), above 0xC2 0xDF a (omega arith), above 0xE0 0xE0 a (omega arith), above 0xE1 0xEC a (omega arith), above 0xED 0xED a (omega arith), above 0xEE 0xEF a (omega arith), within 0xF0 0xF0 a p q)
+
+  pub row-four-F1 : 0xF1 ≤ a → a ≤ 0xF3 → rowOf a ≡ four 0x80 0xBF
+  unfolding rowOf
+  row-four-F1 p q = simp (above 0x00 0x7F a (omega arith), above 0xC2 0xDF a (omega arith), above 0xE0 0xE0 a (omega arith), above 0xE1 0xEC a (omega arith), above 0xED 0xED a (omega arith), above 0xEE 0xEF a (omega arith), above 0xF0 0xF0 a (omega arith), within 0xF1 0xF3 a p q)
+
+  pub row-four-F4 : 0xF4 ≤ a → a ≤ 0xF4 → rowOf a ≡ four 0x80 0x8F
+  unfolding rowOf
+  row-four-F4 p q = simp (above 0x00 0x7F a (omega arith), above 0xC2 0xDF a (omega arith), above 0xE0 0xE0 a (omega arith), above 0xE1 0xEC a (omega arith), above 0xED 0xED a (omega arith), above 0xEE 0xEF a (omega arith), above 0xF0 0xF0 a (omega arith), above 0xF1 0xF3 a (omega arith), within 0xF4 0xF4 a p q)
+
+  pub row-none-80 : 0x80 ≤ a → a ≤ 0xC1 → rowOf a ≡ none
+  unfolding rowOf
+  row-none-80 p q = simp (above 0x00 0x7F a (omega arith), below 0xC2 0xDF a (omega arith), below 0xE0 0xE0 a (omega arith), below 0xE1 0xEC a (omega arith), below 0xED 0xED a (omega arith), below 0xEE 0xEF a (omega arith), below 0xF0 0xF0 a (omega arith), below 0xF1 0xF3 a (omega arith), below 0xF4 0xF4 a (omega arith))
+
+  pub row-none-F5 : 0xF5 ≤ a → rowOf a ≡ none
+  unfolding rowOf
+  row-none-F5 p = simp (above 0x00 0x7F a (omega arith), above 0xC2 0xDF a (omega arith), above 0xE0 0xE0 a (omega arith), above 0xE1 0xEC a (omega arith), above 0xED 0xED a (omega arith), above 0xEE 0xEF a (omega arith), above 0xF0 0xF0 a (omega arith), above 0xF1 0xF3 a (omega arith), above 0xF4 0xF4 a (omega arith))
+
+-- ---- the character at a position
+
+module _ (text : List ℕ) (at : ℕ) (h : at < length text) where
+  pub first-at : first (drop at text) ≡ sequence (rowOf (getD text at 0)) (getD text at 0) (getD text (at + 1) 0) (getD text (at + 2) 0) (getD text (at + 3) 0)
+  unfolding first
+  first-at =
+      let second : suc at + 0 ≡ at + 1 = omega arith in
+      let third : suc at + 1 ≡ at + 2 = omega arith in
+      let fourth : suc at + 2 ≡ at + 3 = omega arith in
+      rw (drop-cons text at 0) (simp (getD-drop, second, third, fourth))
+
+  -- .. from the row of its first byte, and the three bytes after it
+  pub first-by : {r : Row} {b c d : ℕ} {x : Character}
+      → rowOf (getD text at 0) ≡ r → b ≡ getD text (at + 1) 0 → c ≡ getD text (at + 2) 0 → d ≡ getD text (at + 3) 0
+      → x ≡ sequence r (getD text at 0) b c d
+      → x ≡ first (drop at text)
+  first-by {r} {b} {c} {d} {x} row second third fourth e =
+      let whole : sequence r (getD text at 0) b c d ≡ sequence (rowOf (getD text at 0)) (getD text at 0) (getD text (at + 1) 0) (getD text (at + 2) 0) (getD text (at + 3) 0) = cc in
+      e ∙ whole ∙ sym first-at
