@@ -1,1 +1,3 @@
 pub mod OpenedLaws
+pub mod Utf8Cases
+pub mod Utf8Laws

@@ -10,6 +10,7 @@ pub mod Text
 pub mod Runs
 pub mod Picture
 pub mod Framebuffer
+pub mod Utf8
 pub mod Calls
 pub mod FontT
 pub mod Cases

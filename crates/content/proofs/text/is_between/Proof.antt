@@ -1,0 +1,16 @@
+use borrow.Author.Tests.{le-leb, lt-leb}
+use Rattle.content.proofs.text.is_between.Statement.{statement}
+use Rattle.content.proofs.text.is_between.Tie as tie
+use Rattle.content.proofs.text.is_between.Reads as reads
+use Rattle.content.proofs.text.is_between.Lts as lts
+
+-- src/text.rt:41:1
+returns : tie.Need-returns
+returns c = simp (le-leb _ _ (c .if1 .taken))
+
+-- src/text.rt:41:1
+returns-2 : tie.Need-returns-2
+returns-2 c = simp (lt-leb _ _ (c .if1 .left))
+
+pub is-between-spec : {M : Type 1} → statement M
+is-between-spec = tie.close (tie.spec returns returns-2)

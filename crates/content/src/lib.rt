@@ -1,0 +1,2 @@
+// The content of a text: its bytes taken as UTF-8, its characters and its newlines.
+pub mod text;
