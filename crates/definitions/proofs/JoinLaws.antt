@@ -2,17 +2,15 @@
 -- does, and boxes within reach join to one within reach. The laws of one dimension come first: a span is a start and a length,
 -- and a rectangle is a span of columns and a span of rows. Assumes nothing.
 use mathlib.Core.Path.{_≡_, refl, ap, subst}
-use Prim.Native.Nat.{ℕ, _≤_, _<_, _^_}
+use Prim.Native.Nat.{ℕ, _≤_}
 use lib.IntN.{ℤ, pos, _+ℤ_, _-ℤ_}
 use lib.Signed.{_≤ℤ_, _<ℤ_}
-use mir.Syntax.{w32}
-use mir.Val.{SFits}
 use Rattle.types.specs.declared.geometry.Rectangle.{Rectangle}
 use Rattle.types.specs.declared.geometry.BoundingBox.{BoundingBox}
 use Rattle.types.specs.declared.geometry.BoundingBox.the-variants.{None, Some}
 use Rattle.integers.specs.Integers.{minZ, maxZ}
 use Rattle.integers.proofs.Laws.{zarith, up, down, plus, minus, min-is, max-is, whole}
-use Rattle.definitions.specs.Geometry.{left, top, right, bottom, Inside, InsideBox, spanLength, joinRectangles, join, SpanInReach, RectangleInReach, InReach}
+use Rattle.definitions.specs.Geometry.{left, top, Inside, InsideBox, spanLength, joinRectangles, join, SpanInReach, InReach}
 
 -- ---- the lesser and the greater
 
@@ -113,7 +111,8 @@ module _ (r c : Rectangle) (some : HasCell r) (within : Within r c) where
   last-cell : Inside (last (left r) (width r)) (last (top r) (height r)) c
   last-cell = within _ _ (inside r (last-in (left r) (width r) (some .wide)) (last-in (top r) (height r) (some .high)))
 
--- The joined rectangle is the smallest over both. One without a cell has no place of its own, so both must have one.
+-- The joined rectangle is the smallest over both. A rectangle without a cell lies in every c, and the joined one reaches to it
+-- all the same: so both must have a cell.
 pub join-smallest : (p q c : Rectangle) → HasCell p → HasCell q → Within p c → Within q c → Within (joinRectangles p q) c
 join-smallest p q c s t h k column row i =
     let f = first-cell p c s h in
@@ -156,20 +155,10 @@ module _ (column row : ℤ) where
 
 -- ---- the reach
 
-module _ {a : ℤ} {m : ℕ} (h : SpanInReach a m) where
-  pub length-below : m < 2 ^ 31
-  length-below = omega (zarith, plus a (pos m))
-
-  pub end-fits : SFits w32 (end a m)
-  end-fits = omega (zarith, plus a (pos m))
-
-  module _ {b : ℤ} {n : ℕ} (k : SpanInReach b n) where
-    pub length-fits : SFits w32 (maxZ (end a m) (end b n) -ℤ minZ a b)
-    length-fits =
-        omega (zarith, minus (maxZ (end a m) (end b n)) (minZ a b), max-is (end a m) (end b n), min-is a b, plus a (pos m), plus b (pos n))
-
-    reach-span : SpanInReach (minZ a b) (spanLength a b m n)
-    reach-span = let e = join-end a b m n in record { low = omega (zarith, min-is a b); high = omega (zarith, max-is (end a m) (end b n)) }
+reach-span : {a b : ℤ} {m n : ℕ} → SpanInReach a m → SpanInReach b n → SpanInReach (minZ a b) (spanLength a b m n)
+reach-span {a} {b} {m} {n} h k =
+    let e = join-end a b m n in
+    record { low = omega (zarith, min-is a b); high = omega (zarith, max-is (end a m) (end b n)) }
 
 pub reach-join : (a b : BoundingBox) → InReach a → InReach b → InReach (join a b)
 reach-join None b h k = k
