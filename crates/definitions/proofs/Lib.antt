@@ -1,3 +1,4 @@
 pub mod OpenedLaws
 pub mod Utf8Cases
 pub mod Utf8Laws
+pub mod JoinLaws

@@ -1,6 +1,6 @@
 -- Document 01, boxes: when a cell lies in one, and "Boxes join to the smallest rectangle over both".
 use Prim.Native.Nat.{ℕ}
-use lib.IntN.{ℤ, pos, natAbs, _+ℤ_, _-ℤ_}
+use lib.IntN.{ℤ, pos, negsuc, natAbs, _+ℤ_, _-ℤ_}
 use lib.Signed.{_≤ℤ_, _<ℤ_}
 use Rattle.integers.specs.Integers.{minZ, maxZ}
 use Rattle.types.specs.declared.geometry.Point.{Point}
@@ -50,3 +50,17 @@ abbrev pub join : BoundingBox → BoundingBox → BoundingBox
 join None b = b
 join (Some p) None = Some p
 join (Some p) (Some q) = Some (joinRectangles p q)
+
+-- The reach of the code that joins boxes: every edge lies between −1,073,741,823 and 1,073,741,823, so that the difference of
+-- two edges fits an i32. Whatever a call within 01's limits draws or measures lies far inside.
+pub record SpanInReach (start : ℤ) (len : ℕ) : Type 0 where
+  pub low : negsuc 1073741822 ≤ℤ start
+  pub high : (start +ℤ pos len) ≤ℤ pos 1073741823
+
+pub record RectangleInReach (r : Rectangle) : Type 0 where
+  pub columns : SpanInReach (left r) (r .size .width)
+  pub rows : SpanInReach (top r) (r .size .height)
+
+abbrev pub InReach : BoundingBox → Type 0
+InReach None = Unit {0}
+InReach (Some r) = RectangleInReach r
