@@ -8,12 +8,15 @@ use native.Mathlib.Nat.{add-zero, mul-assoc, div-one}
 use native.Mathlib.Numerals.{add-one, one-add}
 use native.Mathlib.Omega.{arith}
 use lib.Dec.{ltb}
+use lib.IntN.{ℤ, pos, negsuc}
 use lib.ListN.{length, take, drop, getD, length-append, length-take, length-drop}
-use lib.Pow.{pow-pos, shr-shr, mod-pow-add}
+use lib.Pow.{pow-pos, pow-mono, shr-shr, mod-pow-add}
 use lib.Seq.{take-append-le, drop-append-le, drop-append-add, take-nil, drop-nil, getD-drop, drop-drop, drop-cons, take-add, length-take-le}
+use lib.Signed.{_≤ℤ_}
 use borrow.Author.Tests.{ltb-true, ltb-false, lt-ltb, le-ltb}
 use Rattle.integers.specs.Integers.{pick}
-use Rattle.definitions.specs.Bits.{lowBits, bits, number, Read, got, ends, read, readAt}
+use Rattle.integers.proofs.Laws.{zarith, minus}
+use Rattle.definitions.specs.Bits.{lowBits, bits, number, Read, got, ends, readAt, biased}
 
 -- ---- how many
 
@@ -174,6 +177,31 @@ number-small (x ∷ font) = small-lowBits 8 x (bits font) (number-small font)
 
 pub read-small : (font : List ℕ) (at b n : ℕ) → readAt font at b ≡ got n → n < 2 ^ b
 read-small font at b n e = rw (read-inside font at b n e .1) (number-small font at b)
+
+-- An unsigned field of up to 8 bits.
+pub unsigned-range : (font : List ℕ) (at b n : ℕ) → b ≤ 8 → readAt font at b ≡ got n → n ≤ 255
+unsigned-range font at b n h e = omega (arith, read-small font at b n e, pow-mono h)
+
+pub power-pred : (b : ℕ) → 1 ≤ b → 2 ^ b ≡ 2 * 2 ^ (b - 1)
+power-pred zero h = absurd (omega arith)
+power-pred (suc b) h = let e : suc b - 1 ≡ b = omega arith in rw e (omega arith)
+
+pub record SignedByte (z : ℤ) : Type 0 where
+  pub low : negsuc 127 ≤ℤ z
+  pub high : z ≤ℤ pos 127
+
+pub biased-range : (b n : ℕ) → (1 ≤ b) × (b ≤ 8) → n < 2 ^ b → SignedByte (biased b n)
+biased-range b n h k =
+    let p = power-pred b (h .0) in
+    let q : 2 ^ (b - 1) ≤ 128 = pow-mono {j = 7} (omega arith) in
+    record {
+      low = omega (zarith, minus (pos n) (pos (2 ^ (b - 1))));
+      high = omega (zarith, minus (pos n) (pos (2 ^ (b - 1))));
+    }
+
+-- A signed field of 1 to 8 bits.
+pub signed-range : (font : List ℕ) (at b n : ℕ) → (1 ≤ b) × (b ≤ 8) → readAt font at b ≡ got n → SignedByte (biased b n)
+signed-range font at b n h e = biased-range b n h (read-small font at b n e)
 
 -- ---- reads in a row
 

@@ -1,2 +1,3 @@
 pub mod OpenedLaws
 pub mod BitsLaws
+pub mod GlyphLaws
