@@ -7,11 +7,11 @@ use Rattle.font_reader.specs.declared.glyph_reader.SignedRead.{SignedRea
 use Rattle.font_reader.specs.declared.glyph_reader.SignedRead.the-variants as signed
 
 -- an unsigned read after which the next one begins at the bit `next`
-abbrev pub unsignedRead : Read → ℕ → UnsignedRead
+unfoldable pub unsignedRead : Read → ℕ → UnsignedRead
 unsignedRead (got n) next = unsigned.Value n (record { «bit_pos» = next })
 unsignedRead ends next = unsigned.Ends
 
 -- a signed read of b bits
-abbrev pub signedRead : ℕ → Read → ℕ → SignedRead
+unfoldable pub signedRead : ℕ → Read → ℕ → SignedRead
 signedRead b (got n) next = signed.Value (biased b n) (record { «bit_pos» = next })
 signedRead b ends next = signed.Ends

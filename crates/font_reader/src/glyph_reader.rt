@@ -54,4 +54,16 @@ impl BitReader {
         let value = ((word >> (start % 8)) % (1u32 << bits)) as u8;
         UnsignedRead::Value(value, BitReader { bit_pos: end })
     }
+
+    // 1 to 8 bits, less half of their range (01's 2 to the power b − 1).
+    pub fn read_signed(self, font: &[u8], bits: u8) -> SignedRead
+        requires { ⌜ ((1 ≤ bits) × (bits ≤ 8)) × ((length (now font) ≤ 1048576) × (self .«bit_pos» ≤ 16777216)) ⌝ }
+        ensures { λ r. ⌜ r ≡ signedRead bits (readAt (now (font .entry)) (self .«bit_pos») bits) (self .«bit_pos» + bits) ⌝ }
+    {
+        let UnsignedRead::Value(value, next) = self.read_unsigned(font, bits) else {
+            return SignedRead::Ends;
+        };
+        let half = 1u32 << (bits - 1);
+        SignedRead::Value(((value as i32) - (half as i32)) as i8, next)
+    }
 }

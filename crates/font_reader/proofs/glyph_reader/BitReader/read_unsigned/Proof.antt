@@ -3,6 +3,7 @@ use native.Mathlib.Omega.{arith}
 use lib.ListN.{getD}
 use lib.Pow.{pow-pos}
 use Rattle.definitions.proofs.BitsLaws.{read-ends, read-bytes}
+use Rattle.font_reader.specs.BitReads.{unsignedRead}
 use Rattle.font_reader.proofs.ReadLaws.{power, remainder-fits}
 use borrow.Author.Needs.{needs}
 use Rattle.font_reader.proofs.glyph_reader.BitReader.read_unsigned.Statement.{statement}
@@ -21,6 +22,7 @@ mul-if1 c = search needs
 
 -- src/glyph_reader.rt:50:13
 returns : tie.Need-returns
+unfolding unsignedRead
 returns c =
     let s = c .before .before in
     simp (read-ends (s .args .font .now) (s .args .self .«bit_pos») (s .args .bits) (omega arith))
@@ -69,6 +71,7 @@ cast-value-2 c =
 
 -- src/glyph_reader.rt:43:5
 returns-2 : tie.Need-returns-2
+unfolding unsignedRead
 returns-2 c =
     let s = c .before .before .before .before in
     let small : getD (s .args .font .now) (s .args .self .«bit_pos» / 8) 0 < 256 = omega (arith, c .before .byte-or-zero .ensures) in
