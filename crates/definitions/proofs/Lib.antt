@@ -2,3 +2,5 @@ pub mod OpenedLaws
 pub mod Utf8Cases
 pub mod Utf8Laws
 pub mod JoinLaws
+pub mod BitsLaws
+pub mod GlyphLaws

@@ -1,0 +1,220 @@
+-- Bits of a font: how many there are, what the number read from them is in terms of bytes, and how reads of one font, of a
+-- longer one and in a row agree. Assumes nothing.
+use mathlib.Core.Path.{_≡_, refl, sym, ap, subst, _∙_}
+use mathlib.Core.Bool.{Bool, true, false}
+use mathlib.Core.List.{List, [], _∷_, _++_, append-assoc}
+use Prim.Native.Nat.{ℕ, zero, suc, _+_, _-_, _*_, _/_, _%_, _^_, _≤_, _<_}
+use native.Mathlib.Nat.{add-zero, mul-assoc, div-one}
+use native.Mathlib.Numerals.{add-one, one-add}
+use native.Mathlib.Omega.{arith}
+use lib.Dec.{ltb}
+use lib.IntN.{ℤ, pos, negsuc}
+use lib.ListN.{length, take, drop, getD, length-append, length-take, length-drop}
+use lib.Pow.{pow-pos, pow-mono, shr-shr, mod-pow-add}
+use lib.Seq.{take-append-le, drop-append-le, drop-append-add, take-nil, drop-nil, getD-drop, drop-drop, drop-cons, take-add, length-take-le}
+use lib.Signed.{_≤ℤ_}
+use borrow.Author.Tests.{ltb-true, ltb-false, lt-ltb, le-ltb}
+use Rattle.integers.specs.Integers.{pick}
+use Rattle.integers.proofs.Laws.{zarith, minus}
+use Rattle.definitions.specs.Bits.{lowBits, bits, number, Read, got, ends, readAt, biased}
+
+-- ---- how many
+
+pub length-lowBits : (n x : ℕ) → length (lowBits n x) ≡ n
+unfolding lowBits
+length-lowBits zero x = refl
+length-lowBits (suc n) x = ap suc (length-lowBits n (x / 2))
+
+pub length-bits : (font : List ℕ) → length (bits font) ≡ 8 * length font
+unfolding bits
+length-bits [] = refl
+length-bits (b ∷ bs) = omega (arith, length-append (lowBits 8 b) (bits bs), length-lowBits 8 b, length-bits bs)
+
+-- ---- of one font and of a longer one
+
+pub bits-append : (a b : List ℕ) → bits (a ++ b) ≡ bits a ++ bits b
+unfolding bits
+bits-append [] b = refl
+bits-append (x ∷ a) b = rw (bits-append a b) (sym (append-assoc (lowBits 8 x) (bits a) (bits b)))
+
+-- whole bytes are passed as bytes
+pub drop-bytes : (i : ℕ) (font : List ℕ) → drop (8 * i) (bits font) ≡ bits (drop i font)
+unfolding bits
+drop-bytes zero font = refl
+drop-bytes (suc i) [] = drop-nil (8 * suc i)
+drop-bytes (suc i) (x ∷ font) =
+    let e : 8 * suc i ≡ length (lowBits 8 x) + 8 * i = omega (arith, length-lowBits 8 x) in
+    rw (e, drop-append-add (lowBits 8 x) (bits font) (8 * i)) (drop-bytes i font)
+
+-- ---- the number of some bits in a row
+
+double : (k y : ℕ) → 2 ^ suc k * y ≡ 2 * (2 ^ k * y)
+double k y = let e : 2 ^ suc k ≡ 2 * 2 ^ k = omega arith in rw e (mul-assoc 2 (2 ^ k) y)
+
+power-suc : (b x : ℕ) → x % 2 ^ suc b ≡ x % 2 + 2 * (x / 2 % 2 ^ b)
+power-suc b x = let e = rw add-one at (mod-pow-add x b 1) in omega (arith, e)
+
+pub number-lowBits : (n x : ℕ) (more : List ℕ) (r b : ℕ) → r + b ≤ n → number (take b (drop r (lowBits n x ++ more))) ≡ x / 2 ^ r % 2 ^ b
+unfolding lowBits number
+number-lowBits n x more zero zero h = omega arith
+number-lowBits zero x more zero (suc b) h = absurd (omega arith)
+number-lowBits zero x more (suc r) b h = absurd (omega arith)
+number-lowBits (suc n) x more zero (suc b) h =
+    let e = simp div-one at (number-lowBits n (x / 2) more zero b (omega arith)) in
+    simp div-one (omega (arith, e, power-suc b x))
+number-lowBits (suc n) x more (suc r) b h =
+    let e = rw one-add at (shr-shr x 1 r) in
+    number-lowBits n (x / 2) more r b (omega arith) ∙ ap (λ (q : ℕ). q % 2 ^ b) e
+
+-- two bytes make one number of 16 bits
+pub lowBits-append : (n m x y : ℕ) → x < 2 ^ n → lowBits n x ++ lowBits m y ≡ lowBits (n + m) (x + 2 ^ n * y)
+unfolding lowBits
+lowBits-append zero m x y h =
+    let e : x + 2 ^ 0 * y ≡ y = omega arith in
+    let z : 0 + m ≡ m = omega arith in
+    rw (e, z)
+lowBits-append (suc n) m x y h =
+    let z : suc n + m ≡ suc (n + m) = omega arith in
+    let p = double n y in
+    let e : (x + 2 ^ suc n * y) % 2 ≡ x % 2 = omega arith in
+    let f : (x + 2 ^ suc n * y) / 2 ≡ x / 2 + 2 ^ n * y = omega arith in
+    rw (z, e, f) (ap (λ (l : List ℕ). x % 2 ∷ l) (lowBits-append n m (x / 2) y (omega arith)))
+
+-- bits from a byte's bit r on, the byte being the first of some
+number-first : (s : List ℕ) (r b : ℕ) → getD s 0 0 < 256 → b ≤ 8 → r < 8 → r + b < 8 * length s
+    → number (take b (drop r (bits s))) ≡ (getD s 0 0 + 256 * getD s 1 0) / 2 ^ r % 2 ^ b
+unfolding bits
+number-first [] r b x h k l = absurd (omega arith)
+number-first (x ∷ []) r b s h k l =
+    let e : x + 256 * 0 ≡ x = omega arith in
+    rw e (number-lowBits 8 x [] r b (omega arith))
+number-first (x ∷ (y ∷ more)) r b s h k l =
+    rw (← (append-assoc (lowBits 8 x) (lowBits 8 y) (bits more)), lowBits-append 8 8 x y s)
+    (number-lowBits 16 (x + 256 * y) (bits more) r b (omega arith))
+
+number-split : (font : List ℕ) (i r b : ℕ) → getD font i 0 < 256 → b ≤ 8 → r < 8 → 8 * i + r + b < 8 * length font
+    → number (take b (drop (8 * i + r) (bits font))) ≡ (getD font i 0 + 256 * getD font (i + 1) 0) / 2 ^ r % 2 ^ b
+number-split font i r b s h k l =
+    let x : getD (drop i font) 0 0 ≡ getD font i 0 = simp add-zero at (getD-drop i font 0 0) in
+    let y : getD (drop i font) 1 0 ≡ getD font (i + 1) 0 = getD-drop i font 1 0 in
+    let e = number-first (drop i font) r b (omega arith) h k (omega (arith, length-drop i font)) in
+    rw (← (drop-drop r (8 * i) (bits font)), drop-bytes i font) (simp (x, y) at e)
+
+-- The number of b bits of a font from the bit `at` on, from two bytes.
+pub number-bytes : (font : List ℕ) (at b : ℕ) → getD font (at / 8) 0 < 256 → b ≤ 8 → at + b < 8 * length font
+    → number (take b (drop at (bits font))) ≡ (getD font (at / 8) 0 + 256 * getD font (at / 8 + 1) 0) / 2 ^ (at % 8) % 2 ^ b
+number-bytes font at b s h l =
+    let e : 8 * (at / 8) + at % 8 ≡ at = omega arith in
+    subst
+    (λ (p : ℕ). number (take b (drop p (bits font))) ≡ (getD font (at / 8) 0 + 256 * getD font (at / 8 + 1) 0) / 2 ^ (at % 8) % 2 ^ b)
+    e
+    (number-split font (at / 8) (at % 8) b s h (omega arith) (omega arith))
+
+-- ---- a read
+
+-- bits are left from `at` on
+left : (font : List ℕ) (at : ℕ) → length (drop at (bits font)) ≡ 8 * length font - at
+left font at = omega (arith, length-drop at (bits font), length-bits font)
+
+pub read-got : (font : List ℕ) (at b : ℕ) → at + b < 8 * length font → readAt font at b ≡ got (number (take b (drop at (bits font))))
+unfolding readAt
+read-got font at b h = let l : b < length (drop at (bits font)) = omega (arith, left font at) in simp (lt-ltb b (length (drop at (bits font))) l)
+
+pub read-ends : (font : List ℕ) (at b : ℕ) → 8 * length font ≤ at + b → readAt font at b ≡ ends
+unfolding readAt
+read-ends font at b h = let l : length (drop at (bits font)) ≤ b = omega (arith, left font at) in simp (le-ltb b (length (drop at (bits font))) l)
+
+-- The read as arithmetic on two bytes.
+pub read-bytes : (font : List ℕ) (at b : ℕ) → getD font (at / 8) 0 < 256 → b ≤ 8 → at + b < 8 * length font
+    → readAt font at b ≡ got ((getD font (at / 8) 0 + 256 * getD font (at / 8 + 1) 0) / 2 ^ (at % 8) % 2 ^ b)
+read-bytes font at b s h l = read-got font at b l ∙ ap got (number-bytes font at b s h l)
+
+picked : (t : Bool) (m n : ℕ) → pick t (got m) ends ≡ got n → (t ≡ true) × (n ≡ m)
+picked true m n e = (refl, cc)
+picked false m n e = let z : _≡_ {A = ℕ} 0 1 = cc in absurd (omega arith)
+
+-- What a read that gives a number says: at least one bit is left after it, and which number it is.
+pub read-inside : (font : List ℕ) (at b n : ℕ) → readAt font at b ≡ got n → (at + b < 8 * length font) × (n ≡ number (take b (drop at (bits font))))
+unfolding readAt
+read-inside font at b n e =
+    let p = picked (ltb b (length (drop at (bits font)))) (number (take b (drop at (bits font)))) n e in
+    (omega (arith, ltb-true b (length (drop at (bits font))) (p .0), left font at), p .1)
+
+-- A longer font reads the same.
+pub read-longer : (font more : List ℕ) (at b n : ℕ) → readAt font at b ≡ got n → readAt (font ++ more) at b ≡ got n
+read-longer font more at b n e =
+    let r = read-inside font at b n e in
+    let k : at ≤ length (bits font) = omega (arith, r .0, length-bits font) in
+    let l : b ≤ length (drop at (bits font)) = omega (arith, r .0, left font at) in
+    read-got (font ++ more) at b (omega (arith, r .0, length-append font more))
+    ∙ rw (r .1, bits-append font more, drop-append-le at (bits font) (bits more) k, take-append-le b (drop at (bits font)) (bits more) l)
+
+-- ---- the range of a number read
+
+-- a number of b bits is below 2 to the power b, wherever they stand
+abbrev Small : List ℕ → Type 0
+Small s = (at b : ℕ) → number (take b (drop at s)) < 2 ^ b
+
+small-nil : Small []
+unfolding number
+small-nil at b = simp (drop-nil {A = ℕ} at, take-nil {A = ℕ} b) (pow-pos b)
+
+small-cons : (x : ℕ) (s : List ℕ) → x < 2 → Small s → Small (x ∷ s)
+unfolding number
+small-cons x s h k zero zero = omega arith
+small-cons x s h k zero (suc b) = omega (arith, k zero b)
+small-cons x s h k (suc at) b = k at b
+
+small-lowBits : (n x : ℕ) (s : List ℕ) → Small s → Small (lowBits n x ++ s)
+unfolding lowBits
+small-lowBits zero x s k = k
+small-lowBits (suc n) x s k = small-cons (x % 2) (lowBits n (x / 2) ++ s) (omega arith) (small-lowBits n (x / 2) s k)
+
+pub number-small : (font : List ℕ) → Small (bits font)
+unfolding bits
+number-small [] = small-nil
+number-small (x ∷ font) = small-lowBits 8 x (bits font) (number-small font)
+
+pub read-small : (font : List ℕ) (at b n : ℕ) → readAt font at b ≡ got n → n < 2 ^ b
+read-small font at b n e = rw (read-inside font at b n e .1) (number-small font at b)
+
+-- An unsigned field of up to 8 bits.
+pub unsigned-range : (font : List ℕ) (at b n : ℕ) → b ≤ 8 → readAt font at b ≡ got n → n ≤ 255
+unsigned-range font at b n h e = omega (arith, read-small font at b n e, pow-mono h)
+
+pub power-pred : (b : ℕ) → 1 ≤ b → 2 ^ b ≡ 2 * 2 ^ (b - 1)
+power-pred zero h = absurd (omega arith)
+power-pred (suc b) h = let e : suc b - 1 ≡ b = omega arith in rw e (omega arith)
+
+pub record SignedByte (z : ℤ) : Type 0 where
+  pub low : negsuc 127 ≤ℤ z
+  pub high : z ≤ℤ pos 127
+
+pub biased-range : (b n : ℕ) → (1 ≤ b) × (b ≤ 8) → n < 2 ^ b → SignedByte (biased b n)
+biased-range b n h k =
+    let p = power-pred b (h .0) in
+    let q : 2 ^ (b - 1) ≤ 128 = pow-mono {j = 7} (omega arith) in
+    record {
+      low = omega (zarith, minus (pos n) (pos (2 ^ (b - 1))));
+      high = omega (zarith, minus (pos n) (pos (2 ^ (b - 1))));
+    }
+
+-- A signed field of 1 to 8 bits.
+pub signed-range : (font : List ℕ) (at b n : ℕ) → (1 ≤ b) × (b ≤ 8) → readAt font at b ≡ got n → SignedByte (biased b n)
+signed-range font at b n h e = biased-range b n h (read-small font at b n e)
+
+-- ---- reads in a row
+
+number-append : (xs ys : List ℕ) → number (xs ++ ys) ≡ number xs + 2 ^ length xs * number ys
+unfolding number
+number-append [] ys = omega arith
+number-append (x ∷ xs) ys = omega (arith, double (length xs) (number ys), number-append xs ys)
+
+-- A read of a bits and then of b more is one read of a + b bits.
+pub read-row : (font : List ℕ) (at a b n m : ℕ) → readAt font at a ≡ got n → readAt font (at + a) b ≡ got m → readAt font at (a + b) ≡ got (n + 2 ^ a * m)
+read-row font at a b n m e f =
+    let r = read-inside font at a n e in
+    let q = read-inside font (at + a) b m f in
+    let l : length (take a (drop at (bits font))) ≡ a = length-take-le a (drop at (bits font)) (omega (arith, r .0, left font at)) in
+    read-got font at (a + b) (omega (arith, q .0))
+    ∙ rw (take-add a b (drop at (bits font)), number-append (take a (drop at (bits font))) (take b (drop a (drop at (bits font)))), l, drop-drop a at (bits font), r .1, q .1)

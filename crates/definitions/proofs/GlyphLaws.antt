@@ -1,0 +1,69 @@
+-- The fields of a glyph: a longer font gives the same, and the range of each. Assumes nothing.
+use mathlib.Core.Path.{_≡_, refl, sym, ap, subst, _∙_}
+use mathlib.Core.List.{List, _++_}
+use Prim.Native.Nat.{ℕ, _+_, _-_, _*_, _^_, _≤_, _<_}
+use native.Mathlib.Omega.{arith}
+use lib.ListN.{length}
+use Rattle.types.specs.declared.font_reader.FontReader.{FontReader}
+use Rattle.types.specs.declared.glyph_reader.GlyphReader.{GlyphReader}
+use Rattle.definitions.specs.Refusals.{Outcome, success, refused}
+use Rattle.definitions.specs.Header.{Opened}
+use Rattle.definitions.specs.Bits.{Read, got, ends, readAt}
+use Rattle.definitions.specs.Glyph.{unlessEnds, field, fields}
+use Rattle.definitions.proofs.BitsLaws.{SignedByte, read-inside, read-longer, unsigned-range, signed-range}
+
+-- a field that was read: its number, and what came of that
+taken : (c : ℕ) (r : Read) (rest : ℕ → Outcome GlyphReader) (g : GlyphReader) → unlessEnds c r rest ≡ success g
+    → (n : ℕ) × ((r ≡ got n) × (rest n ≡ success g))
+taken c (got n) rest g e = (n, (refl, e))
+taken c ends rest g e = let z : _≡_ {A = ℕ} 0 1 = cc in absurd (omega arith)
+
+-- Where one font's field leads to a glyph, a longer font's does.
+field-longer : (font more : List ℕ) (c b at : ℕ) (rest rest′ : ℕ → Outcome GlyphReader) (g : GlyphReader)
+    → ((n : ℕ) → rest n ≡ success g → rest′ n ≡ success g)
+    → unlessEnds c (readAt font at b) rest ≡ success g
+    → unlessEnds c (readAt (font ++ more) at b) rest′ ≡ success g
+field-longer font more c b at rest rest′ g next e =
+    let t = taken c (readAt font at b) rest g e in
+    rw (read-longer font more at b (t .0) (t .1 .0)) (next (t .0) (t .1 .1))
+
+-- What callers may count on in sums.
+pub record InRange (font : List ℕ) (g : GlyphReader) : Type 0 where
+  pub width : g .«glyph_width» ≤ 255
+  pub height : g .«glyph_height» ≤ 255
+  pub x : SignedByte (g .«offset_x»)
+  pub y : SignedByte (g .«offset_y»)
+  pub advance : SignedByte (g .advance)
+  pub runs : g .«bit_pos» < 8 * length font
+
+same-range : {font : List ℕ} {h g : GlyphReader} → _≡_ {A = Outcome GlyphReader} (success h) (success g) → InRange font h → InRange font g
+same-range {font} {h} {g} e r = let same : h ≡ g = cc in subst (λ (k : GlyphReader). InRange font k) same r
+
+module _ (font : List ℕ) (head : FontReader) (c at : ℕ) (g : GlyphReader) where
+  pub fields-longer : (more : List ℕ) → fields font head c at ≡ success g → fields (font ++ more) head c at ≡ success g
+  unfolding fields
+  fields-longer more =
+      field-longer font more c _ _ _ _ g (λ w.
+      field-longer font more c _ _ _ _ g (λ h.
+      field-longer font more c _ _ _ _ g (λ x.
+      field-longer font more c _ _ _ _ g (λ y.
+      field-longer font more c _ _ _ _ g (λ d e. e)))))
+
+  -- The widths are within their limits, as those of an opened font are.
+  pub fields-range : Opened font head → fields font head c at ≡ success g → InRange font g
+  unfolding fields
+  fields-range o e =
+      let w = taken c _ _ g e in
+      let h = taken c _ _ g (w .1 .1) in
+      let x = taken c _ _ g (h .1 .1) in
+      let y = taken c _ _ g (x .1 .1) in
+      let d = taken c _ _ g (y .1 .1) in
+      same-range (d .1 .1)
+      record {
+        width = unsigned-range font _ _ (w .0) (o .w) (w .1 .0);
+        height = unsigned-range font _ _ (h .0) (o .h) (h .1 .0);
+        x = signed-range font _ _ (x .0) (o .x) (x .1 .0);
+        y = signed-range font _ _ (y .0) (o .y) (y .1 .0);
+        advance = signed-range font _ _ (d .0) (o .d) (d .1 .0);
+        runs = read-inside font _ _ (d .0) (d .1 .0) .0;
+      }
