@@ -1,1 +1,2 @@
 pub mod OpenedLaws
+pub mod LookupLaws
