@@ -4,3 +4,4 @@ pub mod Utf8Laws
 pub mod JoinLaws
 pub mod BitsLaws
 pub mod GlyphLaws
+pub mod LookupLaws
