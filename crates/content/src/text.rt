@@ -72,7 +72,10 @@ fn three_bytes(from: u8, to: u8, lead: u8, second: u8, third: u8) -> NextChar
     if !is_between(third, 0x80, 0xBF) {
         return NextChar::Malformed;
     }
-    NextChar::Char((lead as u32) % 16 * 4096 + (second as u32) % 64 * 64 + (third as u32) % 64, 3)
+    NextChar::Char(
+        (lead as u32) % 16 * 4096 + (second as u32) % 64 * 64 + (third as u32) % 64,
+        3,
+    )
 }
 
 fn four_bytes(from: u8, to: u8, lead: u8, second: u8, third: u8, fourth: u8) -> NextChar

@@ -6,11 +6,11 @@ pub mod Geometry
 pub mod Bits
 pub mod Lookup
 pub mod Glyph
+pub mod Utf8
 pub mod Text
 pub mod Runs
 pub mod Picture
 pub mod Framebuffer
-pub mod Utf8
 pub mod Calls
 pub mod FontT
 pub mod Cases

@@ -6,7 +6,6 @@ ghost use Rattle.definitions.specs.Bits.{readAt};
 ghost use Rattle.definitions.specs.Glyph.{fields, glyphOutcome};
 ghost use Rattle.definitions.specs.Header.{Opened};
 ghost use Rattle.font_reader.specs.BitReads.{unsignedRead, signedRead};
-
 use types::error::Error;
 use types::font_reader::FontReader;
 use types::glyph_reader::GlyphReader;
