@@ -3,12 +3,19 @@
 use mathlib.Core.Path.{_≡_, refl}
 use mathlib.Core.Bool.{false}
 use mathlib.Core.List.{List, [], _∷_, map}
-use Prim.Native.Nat.{ℕ}
+use Prim.Native.Nat.{ℕ, _+_, _*_}
 use lib.IntN.{ℤ, pos, negsuc}
-use lib.ListN.{take, set}
+use lib.ListN.{take, set, replicate}
 use Rattle.types.specs.declared.font_reader.FontReader.{FontReader}
+use Rattle.types.specs.declared.geometry.BoundingBox.{BoundingBox}
+use Rattle.types.specs.declared.geometry.BoundingBox.the-variants.{None, Some}
+use Rattle.types.specs.declared.geometry.Point.{Point}
 use Rattle.types.specs.declared.geometry.Rectangle.{Rectangle}
+use Rattle.types.specs.declared.geometry.RenderedDimensions.{RenderedDimensions}
 use Rattle.types.specs.declared.glyph_reader.GlyphReader.{GlyphReader}
+use Rattle.types.specs.declared.style.FontColor.the-variants.{Transparent}
+use Rattle.types.specs.declared.style.FontStyle.{FontStyle}
+use Rattle.types.specs.declared.style.HorizontalAlignment.the-variants.{Center as Alignment·Center, Right as Alignment·Right}
 use Rattle.types.specs.declared.style.VerticalPosition.the-variants.{Baseline, Top, Center, Bottom}
 use Rattle.integers.specs.Integers.{signed8}
 use Rattle.definitions.specs.Refusals.{Outcome, success, refused}
@@ -17,7 +24,12 @@ use Rattle.definitions.specs.Bits.{lowBits, bits, number, readAt}
 use Rattle.definitions.specs.Lookup.{chain, unicodeChain, jumpTable, search}
 use Rattle.definitions.specs.Glyph.{fields, glyph}
 use Rattle.definitions.specs.VerticalOffset.{verticalOffset}
-use Rattle.definitions.specs.Calls.{openFont, fontBoundingBox}
+use Rattle.definitions.specs.Utf8.{rowOf, first, decodeFrom, newlines}
+use Rattle.definitions.specs.Text.{point, joinAll, layout, aligned}
+use Rattle.definitions.specs.Runs.{afterPair, runs, glyphPixels}
+use Rattle.definitions.specs.Picture.{textPicture}
+use Rattle.definitions.specs.Framebuffer.{mapAt}
+use Rattle.definitions.specs.Calls.{openFont, fontBoundingBox, measure, measureAligned, draw, drawBuffer}
 use Rattle.definitions.specs.FontT.{T}
 
 -- what a case is about
@@ -26,6 +38,9 @@ pub data Result : Type 0 where
   opened : Outcome FontReader → Result
   box : Outcome Rectangle → Result
   answered : Outcome GlyphReader → Result
+  measured : Outcome RenderedDimensions → Result
+  boxed : Outcome BoundingBox → Result
+  drawn : Outcome RenderedDimensions → List ℕ → Result
 
 pub record Case : Type 0 where
   pub given : Result
@@ -36,6 +51,26 @@ rectangle x y w h = record { «top_left» = record { x = x; y = y }; size = reco
 
 abbrev metrics : ℕ → ℕ → ℤ → ℤ → ℤ → ℕ → GlyphReader
 metrics w h x y d at = record { «glyph_width» = w; «glyph_height» = h; «offset_x» = x; «offset_y» = y; advance = d; «bit_pos» = at }
+
+-- a text measured at (10, 20) on the baseline, with T's line height
+abbrev measuredAt : List ℕ → List ℕ → Result
+measuredAt font text = measured (measure font text (point (pos 10) (pos 20)) Baseline 4 false)
+
+-- .. and drawn with colour 1 on 12 × 22 pixels of 0
+abbrev drawnAt : List ℕ → List ℕ → Result
+drawnAt font text =
+    let style : FontStyle = record { color = Transparent 1; «vertical_pos» = Baseline } in
+    drawn
+    (draw font text (point (pos 10) (pos 20)) style 4 false 12 22 (replicate 264 0))
+    (drawBuffer font text (point (pos 10) (pos 20)) style 4 false 12 22 (replicate 264 0))
+
+abbrev dims : ℤ → ℤ → BoundingBox → Outcome RenderedDimensions
+dims x y b = success record { advance = point x y; «bounding_box» = b }
+
+-- the 12 × 22 pixels with those set whose column and row are listed
+abbrev inked : List (ℕ × ℕ) → List ℕ
+inked [] = replicate 264 0
+inked (p ∷ ps) = set (inked ps) (p .1 * 12 + p .0) 1
 
 -- header values of T, and its line height 4
 abbrev headerOfT : FontReader
@@ -84,8 +119,28 @@ cases =
     -- * T cut to 33 bytes: "4" is there, "A" gives 8
     ∷ record { given = answered (glyph (take 33 T) 52); expected = answered (success (metrics 2 2 (pos 0) (pos 0) (pos 3) 254)) }
     ∷ record { given = answered (glyph (take 33 T) 65); expected = answered (refused 8 65) }
+    -- * "-" and "4" at (10, 20)
+    ∷ record { given = measuredAt T (45 ∷ []); expected = measured (dims (pos 3) (pos 0) (Some (rectangle (pos 10) (pos 17) 2 1))) }
+    ∷ record { given = drawnAt T (45 ∷ []); expected = drawn (dims (pos 3) (pos 0) (Some (rectangle (pos 10) (pos 17) 2 1))) (inked ((10, 17) ∷ (11, 17) ∷ [])) }
+    ∷ record { given = drawnAt T (52 ∷ []); expected = drawn (dims (pos 3) (pos 0) (Some (rectangle (pos 10) (pos 18) 2 2))) (inked ((10, 18) ∷ (10, 19) ∷ (11, 19) ∷ [])) }
+    -- * "-4", plain, centred and from the right
+    ∷ record { given = measuredAt T (45 ∷ 52 ∷ []); expected = measured (dims (pos 6) (pos 0) (Some (rectangle (pos 10) (pos 17) 5 3))) }
+    ∷ record { given = boxed (measureAligned T (45 ∷ 52 ∷ []) (point (pos 10) (pos 20)) Baseline Alignment·Center 4 false); expected = boxed (success (Some (rectangle (pos 8) (pos 17) 5 3))) }
+    ∷ record { given = boxed (measureAligned T (45 ∷ 52 ∷ []) (point (pos 10) (pos 20)) Baseline Alignment·Right 4 false); expected = boxed (success (Some (rectangle (pos 5) (pos 17) 5 3))) }
+    -- * "-", newline, "4"
+    ∷ record { given = measuredAt T (45 ∷ 10 ∷ 52 ∷ []); expected = measured (dims (pos 3) (pos 4) (Some (rectangle (pos 10) (pos 17) 2 7))) }
+    -- * "A", U+0100 and U+10000: 7; U+0000: 8
+    ∷ record { given = measuredAt T (65 ∷ []); expected = measured (refused 7 65) }
+    ∷ record { given = measuredAt T (196 ∷ 128 ∷ []); expected = measured (refused 7 256) }
+    ∷ record { given = measuredAt T (240 ∷ 144 ∷ 128 ∷ 128 ∷ []); expected = measured (refused 7 65536) }
+    ∷ record { given = measuredAt T (0 ∷ []); expected = measured (refused 8 0) }
+    -- * T cut to 33 bytes: "4" draws, "A" gives 8
+    ∷ record { given = drawnAt (take 33 T) (52 ∷ []); expected = drawn (dims (pos 3) (pos 0) (Some (rectangle (pos 10) (pos 18) 2 2))) (inked ((10, 18) ∷ (10, 19) ∷ (11, 19) ∷ [])) }
+    ∷ record { given = drawnAt (take 33 T) (65 ∷ []); expected = drawn (refused 8 65) (inked []) }
+    -- * the empty text
+    ∷ record { given = measuredAt T []; expected = measured (dims (pos 0) (pos 0) None) }
     ∷ []
 
 pub cases-hold : map (λ (c : Case). c .given) cases ≡ map (λ (c : Case). c .expected) cases
-unfolding cases openFont fontBoundingBox header headerOff signed8 T glyph fields search chain unicodeChain jumpTable readAt bits lowBits number
+unfolding cases openFont fontBoundingBox header headerOff signed8 T glyph fields search chain unicodeChain jumpTable readAt bits lowBits number rowOf first decodeFrom newlines joinAll layout aligned afterPair runs glyphPixels textPicture mapAt measure measureAligned draw drawBuffer
 cases-hold = refl

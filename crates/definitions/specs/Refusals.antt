@@ -1,6 +1,6 @@
 -- Document 01, "Refused calls": what a call comes to, the number and the code point of each refusal, and the order in
 -- which causes are tested.
-use mathlib.Core.Bool.{Bool}
+use mathlib.Core.Bool.{Bool, false, _||_}
 use mathlib.Core.List.{List, [], _∷_}
 use Prim.Native.Nat.{ℕ}
 use Rattle.integers.specs.Integers.{pick}
@@ -46,3 +46,7 @@ pub record Cause : Type 0 where
 abbrev pub unlessRefused : {A : Type 0} → List Cause → Outcome A → Outcome A
 unlessRefused [] rest = rest
 unlessRefused (c ∷ cs) rest = pick (c .applies) (refused (c .number) 0) (unlessRefused cs rest)
+
+abbrev pub anyApplies : List Cause → Bool
+anyApplies [] = false
+anyApplies (c ∷ cs) = c .applies || anyApplies cs

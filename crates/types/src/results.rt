@@ -1,7 +1,9 @@
 // What the calls answer: a value, or the refusal.
 use crate::error::Error;
 use crate::font_reader::FontReader;
+use crate::geometry::BoundingBox;
 use crate::geometry::Rectangle;
+use crate::geometry::RenderedDimensions;
 use crate::glyph_reader::GlyphReader;
 
 pub enum FontReaderResult {
@@ -17,5 +19,15 @@ pub enum RectangleResult {
 // A lookup answers with the glyph or with the reason there is none.
 pub enum GlyphResult {
     Ok(GlyphReader),
+    Err(Error),
+}
+
+pub enum DimensionsResult {
+    Ok(RenderedDimensions),
+    Err(Error),
+}
+
+pub enum BoundingBoxResult {
+    Ok(BoundingBox),
     Err(Error),
 }

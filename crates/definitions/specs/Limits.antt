@@ -1,0 +1,36 @@
+-- Document 01, the limits of texts, places, line heights and colours: causes 4, 5 and 6 of the table of refusals.
+-- (Causes 1 and 2 stand in Header.antt, cause 3 in Framebuffer.antt.)
+use mathlib.Core.Bool.{Bool, false, _||_, not}
+use mathlib.Core.List.{List}
+use Prim.Native.Nat.{ℕ}
+use lib.Dec.{ltb, eqb}
+use lib.IntN.{ℤ, pos, negsuc}
+use lib.ListN.{length}
+use lib.Signed.{ltZ}
+use Rattle.types.specs.declared.geometry.Point.{Point}
+use Rattle.types.specs.declared.style.FontColor.{FontColor}
+use Rattle.types.specs.declared.style.FontColor.the-variants.{Transparent, WithBackground}
+use Rattle.definitions.specs.Refusals.{Cause}
+use Rattle.definitions.specs.Header.{byte}
+use Rattle.definitions.specs.Utf8.{decode, isUtf8}
+
+-- Cause 4: a text has 0 to 4,096 bytes of UTF-8.
+abbrev pub textCause : List ℕ → Cause
+textCause text = record { number = 4; applies = ltb 4096 (length text) || not (isUtf8 (decode text)) }
+
+-- x and y each lie from −1,048,576 to 1,048,576
+abbrev pub coordinateOff : ℤ → Bool
+coordinateOff z = ltZ z (negsuc 1048575) || ltZ (pos 1048576) z
+
+-- Cause 5: the place as it is given, and a line height of 0 to 65,535.
+abbrev pub placeCause : Point → ℕ → Cause
+placeCause position lineHeight =
+    record { number = 5; applies = coordinateOff (position .x) || coordinateOff (position .y) || ltb 65535 lineHeight }
+
+-- Cause 6: a background colour is wanted, and header byte 1 is 0.
+abbrev pub backgroundOff : FontColor → List ℕ → Bool
+backgroundOff (Transparent c) font = false
+backgroundOff (WithBackground fg bg) font = eqb (byte font 1) 0
+
+abbrev pub backgroundCause : FontColor → List ℕ → Cause
+backgroundCause color font = record { number = 6; applies = backgroundOff color font }
