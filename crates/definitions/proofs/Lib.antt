@@ -1,2 +1,3 @@
 pub mod OpenedLaws
 pub mod JoinLaws
+pub mod VerticalOffsetLaws
