@@ -1,0 +1,136 @@
+-- `content::vertical_offset::compute_vertical_offset` meets its contract: every value on the way fits, by OffsetLaws and by the
+-- range of the definition's result, so each one is read back as it was stored. Assumes nothing.
+use mathlib.Core.Path.{_≡_}
+use Prim.Native.Nat.{ℕ, _*_, _≤_}
+use native.Mathlib.Nat.{mul-le-mul}
+use native.Mathlib.Omega.{arith}
+use lib.IntN.{ℤ, pos}
+use mir.Syntax.{w8, w32}
+use mir.Val.{SFits, toZ, ofZ}
+use mir.Facts.{toZ-ofZ, toZ-pos}
+use borrow.Author.Needs.{needs}
+use Rattle.types.specs.declared.style.VerticalPosition.{VerticalPosition}
+use Rattle.types.specs.declared.style.VerticalPosition.the-variants.{Top, Bottom}
+use Rattle.integers.proofs.Laws.{zarith}
+use Rattle.definitions.specs.VerticalOffset.{verticalOffset}
+use Rattle.definitions.proofs.VerticalOffsetLaws.{offset-fits}
+use Rattle.content.proofs.OffsetLaws.{wide, widened, CenterFits, center-fits}
+use Rattle.content.proofs.vertical_offset.compute_vertical_offset.Statement.{statement}
+use Rattle.content.proofs.vertical_offset.compute_vertical_offset.Tie as tie
+
+module _ (s : tie.Start) where
+  abbrev t : ℕ
+  t = s .args .newline-count * s .args .line-height
+
+  -- the ascent and the descent, cast to i32
+  abbrev a : ℤ
+  a = toZ w32 (ofZ w32 (toZ w8 (ofZ w8 (s .args .ascent))))
+
+  abbrev d : ℤ
+  d = toZ w32 (ofZ w32 (toZ w8 (ofZ w8 (s .args .descent))))
+
+  t-limit : t ≤ 268431360
+  t-limit = mul-le-mul (s .pre .0) (s .pre .1)
+
+  t-read : toZ w32 t ≡ pos t
+  t-read = toZ-pos w32 (omega (arith, t-limit))
+
+  a-read : a ≡ s .args .ascent
+  a-read = widened (s .fits .ascent)
+
+  d-read : d ≡ s .args .descent
+  d-read = widened (s .fits .descent)
+
+  fits : (v : VerticalPosition) → SFits w32 (verticalOffset v (pos t) (s .args .ascent) (s .args .descent))
+  fits v = offset-fits t (s .fits .ascent) (s .fits .descent) v t-limit
+
+  center : CenterFits (pos t) (s .args .ascent) (s .args .descent)
+  center = center-fits t-limit (s .fits .ascent) (s .fits .descent)
+
+  center-read : CenterFits (toZ w32 t) a d
+  center-read = simp (t-read, a-read, d-read) center
+
+cast-ascent : tie.Need-cast-ascent
+cast-ascent c = let f = c .fits .ascent in simp toZ-ofZ (wide f)
+
+cast-descent : tie.Need-cast-descent
+cast-descent c = let f = c .fits .descent in simp toZ-ofZ (wide f)
+
+mul-total-newline-advance : tie.Need-mul-total-newline-advance
+mul-total-newline-advance c = omega (arith, t-limit c)
+
+cast-total-newline-advance : tie.Need-cast-total-newline-advance
+cast-total-newline-advance c = omega (zarith, t-limit c)
+
+enum-told : tie.Need-enum-told
+enum-told c = search needs
+
+enum-told-2 : tie.Need-enum-told-2
+enum-told-2 c = search needs
+
+add-result : tie.Need-add-result
+add-result c = let s = c .before .before in simp (a-read s) (fits s Top)
+
+enum-told-3 : tie.Need-enum-told-3
+enum-told-3 c = search needs
+
+add-result-2 : tie.Need-add-result-2
+add-result-2 c = center-read (c .before .before) .sum
+
+sub-result : tie.Need-sub-result
+sub-result c = center-read (c .before .before) .difference
+
+add-result-3 : tie.Need-add-result-3
+add-result-3 c = center-read (c .before .before) .next
+
+div-result : tie.Need-div-result
+div-result c = (omega arith, center-read (c .before .before) .halved)
+
+add-result-4 : tie.Need-add-result-4
+add-result-4 c = center-read (c .before .before) .lowered
+
+sub-result-2 : tie.Need-sub-result-2
+sub-result-2 c = center-read (c .before .before) .offset
+
+enum-told-4 : tie.Need-enum-told-4
+enum-told-4 c = search needs
+
+sub-result-3 : tie.Need-sub-result-3
+sub-result-3 c = let s = c .before .before in simp (d-read s, t-read s) (fits s Bottom)
+
+returns : tie.Need-returns
+returns c = simp (c .enum-told .given .1)
+
+returns-2 : tie.Need-returns-2
+returns-2 c = let s = c .before .before in simp (c .enum-told2 .given .1, a-read s, toZ-ofZ (fits s Top))
+
+returns-3 : tie.Need-returns-3
+returns-3 c = let s = c .before .before in simp (c .enum-told3 .given .1, t-read s, a-read s, d-read s) (center s .result)
+
+returns-4 : tie.Need-returns-4
+returns-4 c = let s = c .before .before in simp (c .enum-told4 .given .1, d-read s, t-read s, toZ-ofZ (fits s Bottom))
+
+pub compute-vertical-offset-spec : {M : Type 1} → statement M
+compute-vertical-offset-spec =
+    tie.close
+    (tie.spec
+    cast-ascent
+    cast-descent
+    mul-total-newline-advance
+    cast-total-newline-advance
+    enum-told
+    enum-told-2
+    add-result
+    enum-told-3
+    add-result-2
+    sub-result
+    add-result-3
+    div-result
+    add-result-4
+    sub-result-2
+    enum-told-4
+    sub-result-3
+    returns
+    returns-2
+    returns-3
+    returns-4)
