@@ -12,8 +12,8 @@ use borrow.Author.Tests.{ltb-false, eqb-false}
 use Rattle.types.specs.declared.font_reader.FontReader.{FontReader}
 use Rattle.integers.specs.Integers.{pick}
 use Rattle.integers.proofs.Laws.{zarith}
-use Rattle.definitions.specs.Refusals.{Outcome, success, refused}
-use Rattle.definitions.specs.Header.{byte, signedByte, header, lengthOff, headerOff, widthOff, signedWidthOff, negative, Opened}
+use Rattle.definitions.specs.Refusals.{Outcome, success, refused, unlessRefused}
+use Rattle.definitions.specs.Header.{byte, signedByte, header, lengthOff, headerOff, widthOff, signedWidthOff, negative, fontCauses, Opened}
 use Rattle.definitions.specs.Calls.{openFont}
 
 -- both parts of a disjunction that is false
@@ -57,8 +57,13 @@ module _ (font : List ℕ) where
         height = omega zarith;
       }
 
+  module _ {A : Type 0} (rest : Outcome A) where
+    -- what the causes of the font leave, by whether each applies
+    abbrev after : Bool → Bool → Outcome A
+    after l h = pick l (refused 1 0) (pick h (refused 2 0) rest)
+
   opened-by : (l h : Bool) → lengthOff font ≡ l → headerOff font ≡ h → (head : FontReader)
-      → pick l (refused 1 0) (pick h (refused 2 0) (success (header font))) ≡ success head
+      → after (success (header font)) l h ≡ success head
       → Opened font head
   opened-by true h p q head e = let z : _≡_ {A = ℕ} 0 1 = cc in absurd (omega arith)
   opened-by false true p q head e = let z : _≡_ {A = ℕ} 0 1 = cc in absurd (omega arith)
@@ -67,3 +72,23 @@ module _ (font : List ℕ) where
   pub opened : (head : FontReader) → openFont font ≡ success head → Opened font head
   unfolding openFont
   opened head e = opened-by (lengthOff font) (headerOff font) refl refl head e
+
+  -- A call on a font that does not open is refused as opening is; on one that opens it goes on.
+  module _ {A : Type 0} (rest : Outcome A) where
+    refused-by : (l h : Bool) (n c : ℕ) → after (success (header font)) l h ≡ refused n c → after rest l h ≡ refused n c
+    refused-by true h n c e = cc
+    refused-by false true n c e = cc
+    refused-by false false n c e = let z : _≡_ {A = ℕ} 0 1 = cc in absurd (omega arith)
+
+    pub open-refused : (n c : ℕ) → openFont font ≡ refused n c → unlessRefused (fontCauses font) rest ≡ refused n c
+    unfolding openFont
+    open-refused n c e = refused-by (lengthOff font) (headerOff font) n c e
+
+    goes-on-by : (l h : Bool) (head : FontReader) → after (success (header font)) l h ≡ success head → after rest l h ≡ rest
+    goes-on-by true h head e = let z : _≡_ {A = ℕ} 0 1 = cc in absurd (omega arith)
+    goes-on-by false true head e = let z : _≡_ {A = ℕ} 0 1 = cc in absurd (omega arith)
+    goes-on-by false false head e = refl
+
+    pub open-goes-on : (head : FontReader) → openFont font ≡ success head → unlessRefused (fontCauses font) rest ≡ rest
+    unfolding openFont
+    open-goes-on head e = goes-on-by (lengthOff font) (headerOff font) head e

@@ -16,9 +16,9 @@ use lib.IntN.{ℤ, pos, negsuc, negℤ, natAbs, subℕ, _+ℤ_, _-ℤ_}
 use lib.Dec.{T, ltb, le→leb, lt→ltb}
 use lib.Signed.{mag, nonNeg, quotZ, ltZ, leZ, _≤ℤ_, _<ℤ_}
 use borrow.Author.Tests.{ltb-true, ltb-false, leb-true, leb-false, lt-ltb, le-ltb}
-use mir.Syntax.{Width, w8}
+use mir.Syntax.{Width, w8, w32}
 use mir.Val.{Fits, SFits, bits, hbits, toZ, ofZ}
-use mir.Facts.{toZ-ofZ, fits-natAbs}
+use mir.Facts.{toZ-ofZ, fits-natAbs, sfits-widen}
 use Rattle.integers.specs.Integers.{pick, minZ, maxZ, half, signed8}
 
 -- ---- an integer as a difference
@@ -179,6 +179,13 @@ back {w} {z} f = eq-up (toZ w (ofZ w z)) z (toZ-ofZ f)
 -- a signed result of a call, stored and read back
 pub stored : (w : Width) {r z : ℤ} → mag r < 2 ^ hbits w → r ≡ z → toZ w (ofZ w r) ≡ z
 stored w f e = toZ-ofZ (record { sfits = f }) ∙ e
+
+-- a byte cast to 32 bits
+pub widens : {z : ℤ} → SFits w8 z → SFits w32 z
+widens f = sfits-widen tt f
+
+pub widened : {z : ℤ} → SFits w8 z → toZ w32 (ofZ w32 (toZ w8 (ofZ w8 z))) ≡ z
+widened f = let g = widens f in simp toZ-ofZ
 
 -- ---- integers that are not negative
 

@@ -1,0 +1,2 @@
+// The public calls. Each takes the font's bytes and checks all of its input: none has a `requires`.
+pub mod font_bounding_box;
