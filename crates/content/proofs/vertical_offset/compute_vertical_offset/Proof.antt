@@ -4,6 +4,7 @@ use mathlib.Core.Path.{_≡_}
 use Prim.Native.Nat.{ℕ, _*_, _≤_}
 use native.Mathlib.Nat.{mul-le-mul}
 use native.Mathlib.Omega.{arith}
+use lib.Dec.{T, leb}
 use lib.IntN.{ℤ, pos}
 use mir.Syntax.{w8, w32}
 use mir.Val.{SFits, toZ, ofZ}
@@ -14,7 +15,7 @@ use Rattle.types.specs.declared.style.VerticalPosition.the-variants.{Top, Botto
 use Rattle.integers.proofs.Laws.{zarith}
 use Rattle.definitions.specs.VerticalOffset.{verticalOffset}
 use Rattle.definitions.proofs.VerticalOffsetLaws.{offset-fits}
-use Rattle.content.proofs.OffsetLaws.{wide, widened, CenterFits, center-fits}
+use Rattle.content.proofs.OffsetLaws.{wide, widened, near-byte, near-total, difference-fits, next-fits, CenterFits, center-fits}
 use Rattle.content.proofs.vertical_offset.compute_vertical_offset.Statement.{statement}
 use Rattle.content.proofs.vertical_offset.compute_vertical_offset.Tie as tie
 
@@ -44,11 +45,11 @@ module _ (s : tie.Start) where
   fits : (v : VerticalPosition) → SFits w32 (verticalOffset v (pos t) (s .args .ascent) (s .args .descent))
   fits v = offset-fits t (s .fits .ascent) (s .fits .descent) v t-limit
 
-  center : CenterFits (pos t) (s .args .ascent) (s .args .descent)
-  center = center-fits t-limit (s .fits .ascent) (s .fits .descent)
+  center : {k : ℕ} → T (leb k 1) → CenterFits (pos t) (s .args .ascent) (s .args .descent) k
+  center l = center-fits t-limit (s .fits .ascent) (s .fits .descent) l
 
-  center-read : CenterFits (toZ w32 t) a d
-  center-read = simp (t-read, a-read, d-read) center
+  center-read : {k : ℕ} → T (leb k 1) → CenterFits (toZ w32 t) a d k
+  center-read l = simp (t-read, a-read, d-read) (center l)
 
 cast-ascent : tie.Need-cast-ascent
 cast-ascent c = let f = c .fits .ascent in simp toZ-ofZ (wide f)
@@ -69,34 +70,38 @@ enum-told-2 : tie.Need-enum-told-2
 enum-told-2 c = search needs
 
 add-result : tie.Need-add-result
-add-result c = let s = c .before .before in simp (a-read s) (fits s Top)
+add-result c = let s = c .before .before in simp (a-read s) (next-fits (s .fits .ascent) (omega arith))
 
 enum-told-3 : tie.Need-enum-told-3
 enum-told-3 c = search needs
 
 add-result-2 : tie.Need-add-result-2
-add-result-2 c = center-read (c .before .before) .sum
+add-result-2 c = center-read (c .before .before) {k = 1} tt .sum
 
 sub-result : tie.Need-sub-result
-sub-result c = center-read (c .before .before) .difference
+sub-result c = center-read (c .before .before) {k = 1} tt .difference
 
 add-result-3 : tie.Need-add-result-3
-add-result-3 c = center-read (c .before .before) .next
+add-result-3 c = center-read (c .before .before) tt .next
 
 div-result : tie.Need-div-result
-div-result c = (omega arith, center-read (c .before .before) .halved)
+div-result c = (omega arith, center-read (c .before .before) tt .halved)
 
 add-result-4 : tie.Need-add-result-4
-add-result-4 c = center-read (c .before .before) .lowered
+add-result-4 c = center-read (c .before .before) tt .lowered
 
 sub-result-2 : tie.Need-sub-result-2
-sub-result-2 c = center-read (c .before .before) .offset
+sub-result-2 c = center-read (c .before .before) tt .offset
 
 enum-told-4 : tie.Need-enum-told-4
 enum-told-4 c = search needs
 
 sub-result-3 : tie.Need-sub-result-3
-sub-result-3 c = let s = c .before .before in simp (d-read s, t-read s) (fits s Bottom)
+sub-result-3 c =
+    let s = c .before .before in
+    let h = near-total (t-limit s) in
+    let k = near-byte (s .fits .descent) in
+    simp (d-read s, t-read s) (search difference-fits)
 
 returns : tie.Need-returns
 returns c = simp (c .enum-told .given .1)
@@ -105,7 +110,7 @@ returns-2 : tie.Need-returns-2
 returns-2 c = let s = c .before .before in simp (c .enum-told2 .given .1, a-read s, toZ-ofZ (fits s Top))
 
 returns-3 : tie.Need-returns-3
-returns-3 c = let s = c .before .before in simp (c .enum-told3 .given .1, t-read s, a-read s, d-read s) (center s .result)
+returns-3 c = let s = c .before .before in simp (c .enum-told3 .given .1, t-read s, a-read s, d-read s) (center s tt .result)
 
 returns-4 : tie.Need-returns-4
 returns-4 c = let s = c .before .before in simp (c .enum-told4 .given .1, d-read s, t-read s, toZ-ofZ (fits s Bottom))
