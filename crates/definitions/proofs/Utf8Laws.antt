@@ -7,13 +7,20 @@ use mathlib.Core.Logic.{_⊎_, inl, inr}
 use native.Mathlib.Omega.{arith}
 use native.Mathlib.Decide.{decLt}
 use lib.Dec.{leb}
-use lib.ListN.{length, getD, take, drop, List·getD-eq-default}
-use lib.Seq.{drop-cons, getD-drop}
+use lib.ListN.{length, getD, take, drop, length-drop, drop-of-length-le, List·getD-eq-default}
+use lib.Seq.{drop-cons, drop-drop, drop-append-seam, getD-drop}
 use borrow.Author.Tests.{le-leb, lt-leb, leb-true}
 use Rattle.integers.specs.Integers.{pick}
-use Rattle.definitions.specs.Utf8.{isIn, continues, Row, one, two, three, four, none, rowOf, Character, character, malformed, sequence, first, Scalar, encode}
+use Rattle.definitions.specs.Utf8.{isIn, continues, Row, one, two, three, four, none, rowOf, Character, character, malformed, sequence, first, Scalar, encode, Decoded, characters, notUtf8, prepend, after, byteCount, decodeFrom, decode, newlines, isUtf8, codePoints}
 
 -- ---- ranges of bytes
+
+if-less : {P : Type 0} (m n : ℕ) → (m < n → P) → (n ≤ m → P) → P
+if-less {P} m n p q = by (decLt m n)
+  where
+    by : Dec (m < n) → P
+    by (yes h) = p h
+    by (no h) = q (omega arith)
 
 and-false : (t : Bool) → (t && false) ≡ false
 and-false true = refl
@@ -270,11 +277,7 @@ module _ (a b c d : ℕ) where
 
 -- a byte that is not 0 lies within the bytes
 inside : (s : List ℕ) (i : ℕ) → 0 < getD s i 0 → i < length s
-inside s i h = by (decLt i (length s))
-  where
-    by : Dec (i < length s) → i < length s
-    by (yes p) = p
-    by (no p) = let z = List·getD-eq-default s 0 {n = i} (omega arith) in absurd (omega arith)
+inside s i h = if-less i (length s) (λ p. p) (λ p. let z = List·getD-eq-default s 0 {n = i} p in absurd (omega arith))
 
 counted : (k : ℕ) (s : List ℕ) → k ≤ 4 → (2 ≤ k → 0 < getD s 0 0) → (3 ≤ k → 0 < getD s 1 0) → (4 ≤ k → 0 < getD s 2 0) → k ≤ suc (length s)
 counted zero s m p q r = omega arith
@@ -314,6 +317,69 @@ head (a ∷ s) {c} {k} e =
     let l = counted k s (b .most) (b .second) (b .third) (b .fourth) in
     record { scalar = b .scalar; some = b .some; most = b .most; within = l; bytes = take-four a k s (b .most) l ∙ b .bytes }
 
+-- ---- nothing well formed is refused: every scalar value's encoding is its character
+
+-- the six bits of a byte after the first
+six : (n : ℕ) → (0x80 + n % 64) % 64 ≡ n % 64
+six n = omega arith
+
+code4-whole : (c : ℕ) → c / 262144 * 262144 + c / 4096 % 64 * 4096 + c / 64 % 64 * 64 + c % 64 ≡ c
+code4-whole c = omega arith
+
+module _ (c : ℕ) (rest : List ℕ) where
+  abbrev Taken : Type 0
+  Taken = first (encode c ++ rest) ≡ character c (length (encode c))
+
+  taken-one : c ≤ 0x7F → Taken
+  unfolding first
+  taken-one h = rw (encode-one c h) (simp (row-one c (omega arith) h))
+
+  taken-two : 0x80 ≤ c → c ≤ 0x7FF → Taken
+  unfolding first
+  taken-two h k =
+      let row = row-two (0xC0 + c / 64) (omega arith) (omega arith) in
+      let second = within 0x80 0xBF (0x80 + c % 64) (omega arith) (omega arith) in
+      let code : (0xC0 + c / 64) % 32 * 64 + (0x80 + c % 64) % 64 ≡ c = omega arith in
+      rw (encode-two c h k) (simp (row, second, code))
+
+  taken-three : {from to : ℕ} → 0x800 ≤ c → c ≤ 0xFFFF → rowOf (0xE0 + c / 4096) ≡ three from to
+      → from ≤ 0x80 + c / 64 % 64 → 0x80 + c / 64 % 64 ≤ to → Taken
+  unfolding first
+  taken-three {from} {to} h k row low high =
+      let second = within from to (0x80 + c / 64 % 64) low high in
+      let third = within 0x80 0xBF (0x80 + c % 64) (omega arith) (omega arith) in
+      let code : (0xE0 + c / 4096) % 16 * 4096 + (0x80 + c / 64 % 64) % 64 * 64 + (0x80 + c % 64) % 64 ≡ c = omega arith in
+      rw (encode-three c h k) (simp (row, second, third, code))
+
+  taken-four : {from to : ℕ} → 0x10000 ≤ c → c ≤ 0x10FFFF → rowOf (0xF0 + c / 262144) ≡ four from to
+      → from ≤ 0x80 + c / 4096 % 64 → 0x80 + c / 4096 % 64 ≤ to → Taken
+  unfolding first
+  taken-four {from} {to} h k row low high =
+      let second = within from to (0x80 + c / 4096 % 64) low high in
+      let third = within 0x80 0xBF (0x80 + c / 64 % 64) (omega arith) (omega arith) in
+      let fourth = within 0x80 0xBF (0x80 + c % 64) (omega arith) (omega arith) in
+      let three-bits : (0xF0 + c / 262144) % 8 ≡ c / 262144 = omega arith in
+      rw (encode-four c h) (simp (row, second, third, fourth, three-bits, six) (ap (λ (n : ℕ). character n 4) (code4-whole c)))
+
+  low : c ≤ 0xD7FF → Taken
+  low k =
+      if-less c 0x80 (λ h. taken-one (omega arith)) (λ one.
+      if-less c 0x800 (λ h. taken-two one (omega arith)) (λ two.
+      if-less c 0x1000 (λ h. taken-three two (omega arith) (row-three-E0 _ (omega arith) (omega arith)) (omega arith) (omega arith)) (λ e0.
+      if-less c 0xD000 (λ h. taken-three two (omega arith) (row-three-E1 _ (omega arith) (omega arith)) (omega arith) (omega arith)) (λ e1.
+      taken-three two (omega arith) (row-three-ED _ (omega arith) (omega arith)) (omega arith) (omega arith)))))
+
+  high : 0xE000 ≤ c → c ≤ 0x10FFFF → Taken
+  high h k =
+      if-less c 0x10000 (λ m. taken-three (omega arith) (omega arith) (row-three-EE _ (omega arith) (omega arith)) (omega arith) (omega arith)) (λ three.
+      if-less c 0x40000 (λ m. taken-four three k (row-four-F0 _ (omega arith) (omega arith)) (omega arith) (omega arith)) (λ f0.
+      if-less c 0x100000 (λ m. taken-four three k (row-four-F1 _ (omega arith) (omega arith)) (omega arith) (omega arith)) (λ f1.
+      taken-four three k (row-four-F4 _ (omega arith) (omega arith)) (omega arith) (omega arith))))
+
+  pub first-encode : Scalar c → Taken
+  first-encode (inl h) = low h
+  first-encode (inr h) = high (h .0) (h .1)
+
 -- ---- the character at a position
 
 module _ (text : List ℕ) (at : ℕ) (h : at < length text) where
@@ -333,3 +399,90 @@ module _ (text : List ℕ) (at : ℕ) (h : at < length text) where
   first-by {r} {b} {c} {d} {x} row second third fourth e =
       let whole : sequence r (getD text at 0) b c d ≡ sequence (rowOf (getD text at 0)) (getD text at 0) (getD text (at + 1) 0) (getD text (at + 2) 0) (getD text (at + 3) 0) = cc in
       e ∙ whole ∙ sym first-at
+
+-- ---- the code points of bytes
+
+pub skipped : (n : ℕ) (s : List ℕ) → decodeFrom n s ≡ decode (drop n s)
+unfolding decodeFrom
+skipped zero s = refl
+skipped (suc n) [] = refl
+skipped (suc n) (b ∷ s) = skipped n s
+
+-- A character at the head: its code point, and then those of the bytes after it.
+pub decode-first : (s : List ℕ) {c k : ℕ} → first s ≡ character c k → decode s ≡ prepend c (decode (drop k s))
+unfolding decodeFrom
+decode-first [] {c} {k} e = let h = head [] e in absurd (omega arith)
+decode-first (b ∷ s) {c} {k} e = rw e (ap (prepend c) (skipped (k - 1) s ∙ ap decode (sym (after-first k (head (b ∷ s) e .some)))))
+  where
+    after-first : (k : ℕ) → 1 ≤ k → drop k (b ∷ s) ≡ drop (k - 1) s
+    after-first zero h = absurd (omega arith)
+    after-first (suc k) h = let e : suc k - 1 ≡ k = omega arith in rw e
+
+prepended : (c : ℕ) (d : Decoded) (cs : List ℕ) → prepend c d ≡ characters cs → (rest : List ℕ) × ((cs ≡ c ∷ rest) × (d ≡ characters rest))
+prepended c (characters rest) cs e = (rest, (cc, refl))
+prepended c notUtf8 cs e = let z : _≡_ {A = ℕ} 0 1 = cc in absurd (omega arith)
+
+-- The encoding of a scalar value decodes to it, and what follows does not matter.
+pub decode-encode : (c : ℕ) (rest : List ℕ) → Scalar c → decode (encode c ++ rest) ≡ prepend c (decode rest)
+decode-encode c rest h =
+    decode-first (encode c ++ rest) (first-encode c rest h)
+    ∙ ap (λ (l : List ℕ). prepend c (decode l)) (drop-append-seam (encode c) rest)
+
+-- The caller's loop, at a position of a text.
+module _ (text : List ℕ) (at : ℕ) where
+  -- a character of k bytes there, of code point c
+  pub record Position (c k : ℕ) : Type 0 where
+    pub some : 1 ≤ k
+    pub most : k ≤ 4
+    pub within : at + k ≤ length text
+    pub code : c ≤ 0x10FFFF
+    pub decoded : decode (drop at text) ≡ prepend c (decode (drop (at + k) text))
+
+  scalar-most : {c : ℕ} → Scalar c → c ≤ 0x10FFFF
+  scalar-most (inl h) = omega arith
+  scalar-most (inr h) = h .1
+
+  pub position : {c k : ℕ} → first (drop at text) ≡ character c k → Position c k
+  position {c} {k} e =
+      let h = head (drop at text) e in
+      record {
+        some = h .some;
+        most = h .most;
+        within = omega (arith, h .within, h .some, length-drop at text);
+        code = scalar-most (h .scalar);
+        decoded = decode-first (drop at text) e ∙ ap (λ (l : List ℕ). prepend c (decode l)) (drop-drop k at text);
+      }
+
+  pub not-utf8 : at < length text → first (drop at text) ≡ malformed → decode (drop at text) ≡ notUtf8
+  unfolding decodeFrom
+  not-utf8 h e = let e′ = rw (drop-cons text at 0) at e in rw (drop-cons text at 0, e′)
+
+  pub at-end : length text ≤ at → decode (drop at text) ≡ characters []
+  unfolding decodeFrom
+  at-end h = rw (drop-of-length-le text h)
+
+  -- Of a text that decodes, the code points from here on are this one and those from the next position on.
+  pub next : {c k : ℕ} {cs : List ℕ} → first (drop at text) ≡ character c k → decode (drop at text) ≡ characters cs
+      → (rest : List ℕ) × ((cs ≡ c ∷ rest) × (decode (drop (at + k) text) ≡ characters rest))
+  next {c} {k} {cs} e d = prepended c (decode (drop (at + k) text)) cs (sym (position e .decoded) ∙ d)
+
+  pub none-malformed : {cs : List ℕ} → at < length text → decode (drop at text) ≡ characters cs → first (drop at text) ≡ malformed → ⊥
+  none-malformed h d e = let f = not-utf8 h e in let z : _≡_ {A = ℕ} 0 1 = cc in omega arith
+
+-- There are no more characters than bytes.
+one-more : (x : Character) (s cs : List ℕ)
+    → ((n : ℕ) (ds : List ℕ) → decodeFrom n s ≡ characters ds → length ds ≤ length s)
+    → after x (decodeFrom (byteCount x - 1) s) ≡ characters cs → length cs ≤ suc (length s)
+one-more (character c k) s cs rest e =
+    let r = prepended c (decodeFrom (k - 1) s) cs e in
+    omega (arith, ap length (r .1 .0), rest (k - 1) (r .0) (r .1 .1))
+one-more malformed s cs rest e = let z : _≡_ {A = ℕ} 0 1 = cc in absurd (omega arith)
+
+counted-from : (n : ℕ) (s cs : List ℕ) → decodeFrom n s ≡ characters cs → length cs ≤ length s
+unfolding decodeFrom
+counted-from n [] cs e = let z : cs ≡ [] = cc in omega (arith, ap length z)
+counted-from (suc n) (b ∷ s) cs e = omega (arith, counted-from n s cs e)
+counted-from zero (b ∷ s) cs e = one-more (first (b ∷ s)) s cs (λ n ds. counted-from n s ds) e
+
+pub character-count : (s : List ℕ) {cs : List ℕ} → decode s ≡ characters cs → length cs ≤ length s
+character-count s {cs} e = counted-from 0 s cs e
