@@ -6,10 +6,11 @@ use Prim.Native.Nat.{ℕ, zero, suc, _+_, _-_, _*_, _/_, _%_, _≤_, _<_}
 use mathlib.Core.Logic.{_⊎_, inl, inr}
 use native.Mathlib.Omega.{arith}
 use native.Mathlib.Decide.{decLt}
-use lib.Dec.{leb}
-use lib.ListN.{length, getD, take, drop, length-drop, drop-of-length-le, List·getD-eq-default}
+use native.Mathlib.Numerals.{add-one}
+use lib.Dec.{leb, eqb}
+use lib.ListN.{length, getD, take, drop, length-drop, take-append-drop, drop-of-length-le, List·getD-eq-default}
 use lib.Seq.{drop-cons, drop-drop, drop-append-seam, getD-drop}
-use borrow.Author.Tests.{le-leb, lt-leb, leb-true}
+use borrow.Author.Tests.{le-leb, lt-leb, leb-true, ne-eqb}
 use Rattle.integers.specs.Integers.{pick}
 use Rattle.definitions.specs.Utf8.{isIn, continues, Row, one, two, three, four, none, rowOf, Character, character, malformed, sequence, first, Scalar, encode, Decoded, characters, notUtf8, prepend, after, byteCount, decodeFrom, decode, newlines, isUtf8, codePoints}
 
@@ -422,6 +423,10 @@ prepended : (c : ℕ) (d : Decoded) (cs : List ℕ) → prepend c d ≡ characte
 prepended c (characters rest) cs e = (rest, (cc, refl))
 prepended c notUtf8 cs e = let z : _≡_ {A = ℕ} 0 1 = cc in absurd (omega arith)
 
+pub utf8-characters : (d : Decoded) → isUtf8 d ≡ true → d ≡ characters (codePoints d)
+utf8-characters (characters cs) e = refl
+utf8-characters notUtf8 e = let z : _≡_ {A = ℕ} 0 1 = cc in absurd (omega arith)
+
 -- The encoding of a scalar value decodes to it, and what follows does not matter.
 pub decode-encode : (c : ℕ) (rest : List ℕ) → Scalar c → decode (encode c ++ rest) ≡ prepend c (decode rest)
 decode-encode c rest h =
@@ -461,6 +466,13 @@ module _ (text : List ℕ) (at : ℕ) where
   unfolding decodeFrom
   at-end h = rw (drop-of-length-le text h)
 
+  pub utf8-next : {c k : ℕ} → Position c k → isUtf8 (decode (drop at text)) ≡ isUtf8 (decode (drop (at + k) text))
+  utf8-next {c} {k} p = ap isUtf8 (p .decoded) ∙ same (decode (drop (at + k) text))
+    where
+      same : (d : Decoded) → isUtf8 (prepend c d) ≡ isUtf8 d
+      same (characters cs) = refl
+      same notUtf8 = refl
+
   -- Of a text that decodes, the code points from here on are this one and those from the next position on.
   pub next : {c k : ℕ} {cs : List ℕ} → first (drop at text) ≡ character c k → decode (drop at text) ≡ characters cs
       → (rest : List ℕ) × ((cs ≡ c ∷ rest) × (decode (drop (at + k) text) ≡ characters rest))
@@ -486,3 +498,59 @@ counted-from zero (b ∷ s) cs e = one-more (first (b ∷ s)) s cs (λ n ds. cou
 
 pub character-count : (s : List ℕ) {cs : List ℕ} → decode s ≡ characters cs → length cs ≤ length s
 character-count s {cs} e = counted-from 0 s cs e
+
+-- ---- newlines: the byte 10 is no part of a longer sequence, so bytes and code points have as many
+
+newlines-append : (s t : List ℕ) → newlines (s ++ t) ≡ newlines s + newlines t
+unfolding newlines
+newlines-append [] t = omega arith
+newlines-append (b ∷ s) t = omega (arith, newlines-append s t)
+
+pub newlines-next : (s : List ℕ) (i : ℕ) → i < length s → newlines (drop i s) ≡ pick (eqb (getD s i 0) 10) 1 0 + newlines (drop (i + 1) s)
+unfolding newlines
+newlines-next s i h = rw (add-one, drop-cons s i 0)
+
+pub newlines-end : (s : List ℕ) (i : ℕ) → length s ≤ i → newlines (drop i s) ≡ 0
+unfolding newlines
+newlines-end s i h = rw (drop-of-length-le s h)
+
+newlines-encode : (c : ℕ) → newlines (encode c) ≡ newlines (c ∷ [])
+unfolding newlines
+newlines-encode c =
+    if-less c 0x80 (λ h. rw (encode-one c (omega arith))) (λ one.
+    if-less c 0x800 (λ h. rw (encode-two c one (omega arith)) (simp (ne (0xC0 + c / 64) (omega arith), ne (0x80 + c % 64) (omega arith), ne c one))) (λ two.
+    if-less c 0x10000 (λ h. rw (encode-three c two (omega arith)) (simp (ne (0xE0 + c / 4096) (omega arith), ne (0x80 + c / 64 % 64) (omega arith), ne (0x80 + c % 64) (omega arith), ne c one))) (λ three.
+    rw (encode-four c three) (simp (ne (0xF0 + c / 262144) (omega arith), ne (0x80 + c / 4096 % 64) (omega arith), ne (0x80 + c / 64 % 64) (omega arith), ne (0x80 + c % 64) (omega arith), ne c one)))))
+  where
+    ne : (b : ℕ) → 0x80 ≤ b → eqb b 10 ≡ false
+    ne b h = ne-eqb b 10 (λ e. omega arith)
+
+abbrev Agree : ℕ → Type 0
+Agree n = (s cs : List ℕ) → length s ≤ n → decode s ≡ characters cs → newlines s ≡ newlines cs
+
+agree-none : (cs : List ℕ) → decode [] ≡ characters cs → newlines [] ≡ newlines cs
+unfolding decodeFrom
+agree-none cs e = let z : cs ≡ [] = cc in rw z
+
+agree-next : (n : ℕ) → Agree n → Agree (suc n)
+unfolding newlines
+agree-next n again [] cs h e = agree-none cs e
+agree-next n again (b ∷ s) cs h e = by (first (b ∷ s)) refl
+  where
+    by : (x : Character) → first (b ∷ s) ≡ x → newlines (b ∷ s) ≡ newlines cs
+    by (character c k) f =
+        let p = head (b ∷ s) f in
+        let r = prepended c (decode (drop k (b ∷ s))) cs (sym (decode-first (b ∷ s) f) ∙ e) in
+        let bytes : encode c ++ drop k (b ∷ s) ≡ b ∷ s = ap (λ (l : List ℕ). l ++ drop k (b ∷ s)) (sym (p .bytes)) ∙ take-append-drop k (b ∷ s) in
+        let rest = again (drop k (b ∷ s)) (r .0) (omega (arith, length-drop k (b ∷ s), p .some)) (r .1 .1) in
+        ap newlines (sym bytes) ∙ newlines-append (encode c) (drop k (b ∷ s)) ∙ omega (arith, newlines-encode c, ap newlines (r .1 .0), rest)
+    by malformed f =
+        let g = none-malformed (b ∷ s) 0 (omega arith) e f in absurd g
+
+agree : (n : ℕ) → Agree n
+agree zero [] cs h e = agree-none cs e
+agree zero (b ∷ s) cs h e = absurd (omega arith)
+agree (suc n) s cs h e = agree-next n (agree n) s cs h e
+
+pub newlines-decoded : (text : List ℕ) {cs : List ℕ} → decode text ≡ characters cs → newlines text ≡ newlines cs
+newlines-decoded text {cs} e = agree (length text) text cs (omega arith) e
