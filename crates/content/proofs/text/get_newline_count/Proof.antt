@@ -1,41 +1,57 @@
+use mathlib.Core.Path.{_≡_, refl, sym, _∙_}
+use mathlib.Core.Logic.{⊎-elim}
+use Prim.Native.Nat.{_+_, _-_, _≤_}
+use native.Mathlib.Omega.{arith}
+use lib.ListN.{length, drop}
+use borrow.Author.Needs.{needs}
+use borrow.Author.Tests.{eq-eqb, ne-eqb}
+use Rattle.definitions.specs.Utf8.{decode, newlines}
+use Rattle.definitions.proofs.Utf8Laws.{newlines-next, newlines-end, newlines-decoded, utf8-characters}
 use Rattle.content.proofs.text.get_newline_count.Statement.{statement}
 use Rattle.content.proofs.text.get_newline_count.Tie as tie
 use Rattle.content.proofs.text.get_newline_count.Reads as reads
 use Rattle.content.proofs.text.get_newline_count.Lts as lts
 
 abbrev Inv-loop : tie.InvT-loop
-Inv-loop text count₀ i₀ count i = ?
+Inv-loop text count₀ i₀ count i = (i ≤ length text) × ((count ≤ i) × (count + newlines (drop i text) ≡ newlines text))
 
 abbrev μ-loop : tie.MeasureT-loop
-μ-loop text count₀ i₀ count i = ?
+μ-loop text count₀ i₀ count i = length text - i
 
 -- src/text.rt:136:5
 loop-holds : tie.Need-loop-holds Inv-loop μ-loop
-loop-holds c = ?
+loop-holds c = omega arith
 
 -- src/text.rt:137:12
 shared-slice-read-if1 : tie.Need-shared-slice-read-if1 Inv-loop μ-loop
-shared-slice-read-if1 c = ?
+shared-slice-read-if1 c = search needs
 
 -- src/text.rt:138:13
 add-count : tie.Need-add-count Inv-loop μ-loop
-add-count c = ?
+add-count c = search needs
 
 -- src/text.rt:140:9
 add-i : tie.Need-add-i Inv-loop μ-loop
-add-i c = ?
+add-i c = search needs
 
 -- src/text.rt:136:5
 loop-less : tie.Need-loop-less Inv-loop μ-loop
-loop-less c = ?
+loop-less c = search needs
 
 -- src/text.rt:136:5
 loop-again : tie.Need-loop-again Inv-loop μ-loop
-loop-again c = ?
+loop-again c =
+    let l = c .before .before .before .loop in
+    let n = newlines-next (c .before .before .before .before .args .text .now) (l .i) (c .before .before .loop-test .taken) in
+    ⊎-elim (λ w. let m = simp (eq-eqb _ _ (w .0 .taken)) at n in omega arith) (λ w. let m = simp (ne-eqb _ _ (w .0 .left)) at n in omega arith) (c .if1 .came)
 
 -- src/text.rt:130:1
 returns : tie.Need-returns Inv-loop μ-loop
-returns c = ?
+returns c =
+    let s = c .before .before in
+    let l = c .before .loop in
+    let whole : l .count ≡ newlines (s .args .text .now) = omega (arith, newlines-end (s .args .text .now) (l .i) (c .loop-test .left)) in
+    whole ∙ newlines-decoded (s .args .text .now) (utf8-characters (decode (s .args .text .now)) (s .pre .1))
 
 pub get-newline-count-spec : {M : Type 1} → statement M
 get-newline-count-spec =
