@@ -67,3 +67,34 @@ impl BitReader {
         SignedRead::Value(((value as i32) - (half as i32)) as i8, next)
     }
 }
+
+// The glyph of ch, whose fields begin at the byte `start` of the font: GlyphReader::new of the Rust.
+pub fn new(font: &[u8], head: FontReader, ch: u32, start: usize) -> GlyphResult
+    requires { ⌜ Opened (now font) head × (start ≤ length (now font)) ⌝ }
+    ensures { λ r. ⌜ glyphOutcome r ≡ fields (now (font .entry)) head ch (start * 8) ⌝ }
+{
+    let reader = BitReader { bit_pos: start * 8 };
+    let UnsignedRead::Value(glyph_width, reader) = reader.read_unsigned(font, head.bitcnt_w) else {
+        return GlyphResult::Err(Error::FontEnds(ch));
+    };
+    let UnsignedRead::Value(glyph_height, reader) = reader.read_unsigned(font, head.bitcnt_h) else {
+        return GlyphResult::Err(Error::FontEnds(ch));
+    };
+    let SignedRead::Value(offset_x, reader) = reader.read_signed(font, head.bitcnt_x) else {
+        return GlyphResult::Err(Error::FontEnds(ch));
+    };
+    let SignedRead::Value(offset_y, reader) = reader.read_signed(font, head.bitcnt_y) else {
+        return GlyphResult::Err(Error::FontEnds(ch));
+    };
+    let SignedRead::Value(advance, reader) = reader.read_signed(font, head.bitcnt_d) else {
+        return GlyphResult::Err(Error::FontEnds(ch));
+    };
+    GlyphResult::Ok(GlyphReader {
+        glyph_width,
+        glyph_height,
+        offset_x,
+        offset_y,
+        advance,
+        bit_pos: reader.bit_pos,
+    })
+}
