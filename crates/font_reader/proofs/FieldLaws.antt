@@ -1,8 +1,7 @@
 -- A glyph's fields one by one: what is left of the definition after each read, and where the next one begins. Assumes nothing.
-use mathlib.Core.Path.{_≡_, refl, ap, _∙_}
+use mathlib.Core.Path.{_≡_}
 use mathlib.Core.List.{List}
 use Prim.Native.Nat.{ℕ, _+_, _*_, _<_}
-use native.Mathlib.Omega.{arith}
 use lib.IntN.{ℤ}
 use lib.ListN.{length}
 use Rattle.types.specs.declared.font_reader.FontReader.{FontReader}

@@ -6,7 +6,6 @@ ghost use Rattle.definitions.specs.Bits.{readAt};
 ghost use Rattle.definitions.specs.Glyph.{fields, glyphOutcome};
 ghost use Rattle.definitions.specs.Header.{Opened};
 ghost use Rattle.font_reader.specs.BitReads.{unsignedRead, signedRead};
-
 use types::error::Error;
 use types::font_reader::FontReader;
 use types::glyph_reader::GlyphReader;
@@ -39,14 +38,15 @@ fn byte_or_zero(font: &[u8], i: usize) -> u32
 }
 
 impl BitReader {
-    // Up to 8 bits, which lie in at most two bytes. As the Rust fetches ahead, a bit must be left after them.
+    // A number of up to 8 bits, which lie in at most two bytes.
     pub fn read_unsigned(self, font: &[u8], bits: u8) -> UnsignedRead
         requires { ⌜ (bits ≤ 8) × ((length (now font) ≤ 1048576) × (self .«bit_pos» ≤ 16777216)) ⌝ }
         ensures { λ r. ⌜ r ≡ unsignedRead (readAt (now (font .entry)) (self .«bit_pos») bits) (self .«bit_pos» + bits) ⌝ }
     {
         let start = self.bit_pos;
         let end = start + (bits as usize);
-        if font.len() * 8 <= end {
+        // the Rust fetches ahead, so one bit must be left
+        if font.len() * 8 < end + 1 {
             return UnsignedRead::Ends;
         }
         let first = start / 8;
