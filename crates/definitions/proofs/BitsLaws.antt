@@ -9,14 +9,14 @@ use native.Mathlib.Numerals.{add-one, one-add}
 use native.Mathlib.Omega.{arith}
 use lib.Dec.{ltb}
 use lib.IntN.{ℤ, pos, negsuc}
-use lib.ListN.{length, take, drop, getD, length-append, length-take, length-drop}
+use lib.ListN.{length, take, drop, getD, length-append, length-drop}
 use lib.Pow.{pow-pos, pow-mono, shr-shr, mod-pow-add}
-use lib.Seq.{take-append-le, drop-append-le, drop-append-add, take-nil, drop-nil, getD-drop, drop-drop, drop-cons, take-add, length-take-le}
+use lib.Seq.{take-append-le, drop-append-le, drop-append-add, take-nil, drop-nil, getD-drop, drop-drop, take-add, length-take-le}
 use lib.Signed.{_≤ℤ_}
-use borrow.Author.Tests.{ltb-true, ltb-false, lt-ltb, le-ltb}
+use borrow.Author.Tests.{ltb-true, lt-ltb, le-ltb}
 use Rattle.integers.specs.Integers.{pick}
 use Rattle.integers.proofs.Laws.{zarith, minus}
-use Rattle.definitions.specs.Bits.{lowBits, bits, number, Read, got, ends, readAt, biased}
+use Rattle.definitions.specs.Bits.{lowBits, bits, number, got, ends, readAt, biased}
 
 -- ---- how many
 

@@ -1,15 +1,15 @@
 -- The fields of a glyph: a longer font gives the same, and the range of each. Assumes nothing.
-use mathlib.Core.Path.{_≡_, refl, sym, ap, subst, _∙_}
+use mathlib.Core.Path.{_≡_, refl, subst}
 use mathlib.Core.List.{List, _++_}
-use Prim.Native.Nat.{ℕ, _+_, _-_, _*_, _^_, _≤_, _<_}
+use Prim.Native.Nat.{ℕ, _+_, _*_, _≤_, _<_}
 use native.Mathlib.Omega.{arith}
 use lib.ListN.{length}
 use Rattle.types.specs.declared.font_reader.FontReader.{FontReader}
 use Rattle.types.specs.declared.glyph_reader.GlyphReader.{GlyphReader}
-use Rattle.definitions.specs.Refusals.{Outcome, success, refused}
+use Rattle.definitions.specs.Refusals.{Outcome, success}
 use Rattle.definitions.specs.Header.{Opened}
 use Rattle.definitions.specs.Bits.{Read, got, ends, readAt}
-use Rattle.definitions.specs.Glyph.{unlessEnds, field, fields}
+use Rattle.definitions.specs.Glyph.{unlessEnds, fields}
 use Rattle.definitions.proofs.BitsLaws.{SignedByte, read-inside, read-longer, unsigned-range, signed-range}
 
 -- a field that was read: its number, and what came of that

@@ -38,14 +38,15 @@ fn byte_or_zero(font: &[u8], i: usize) -> u32
 }
 
 impl BitReader {
-    // Up to 8 bits, which lie in at most two bytes. As the Rust fetches ahead, a bit must be left after them.
+    // A number of up to 8 bits, which lie in at most two bytes.
     pub fn read_unsigned(self, font: &[u8], bits: u8) -> UnsignedRead
         requires { ⌜ (bits ≤ 8) × ((length (now font) ≤ 1048576) × (self .«bit_pos» ≤ 16777216)) ⌝ }
         ensures { λ r. ⌜ r ≡ unsignedRead (readAt (now (font .entry)) (self .«bit_pos») bits) (self .«bit_pos» + bits) ⌝ }
     {
         let start = self.bit_pos;
         let end = start + (bits as usize);
-        if font.len() * 8 <= end {
+        // the Rust fetches ahead, so one bit must be left
+        if font.len() * 8 < end + 1 {
             return UnsignedRead::Ends;
         }
         let first = start / 8;
@@ -65,4 +66,35 @@ impl BitReader {
         let half = 1u32 << (bits - 1);
         SignedRead::Value(((value as i32) - (half as i32)) as i8, next)
     }
+}
+
+// The glyph of ch, whose fields begin at the byte `start` of the font: GlyphReader::new of the Rust.
+pub fn new(font: &[u8], head: FontReader, ch: u32, start: usize) -> GlyphResult
+    requires { ⌜ Opened (now font) head × (start ≤ length (now font)) ⌝ }
+    ensures { λ r. ⌜ glyphOutcome r ≡ fields (now (font .entry)) head ch (start * 8) ⌝ }
+{
+    let reader = BitReader { bit_pos: start * 8 };
+    let UnsignedRead::Value(glyph_width, reader) = reader.read_unsigned(font, head.bitcnt_w) else {
+        return GlyphResult::Err(Error::FontEnds(ch));
+    };
+    let UnsignedRead::Value(glyph_height, reader) = reader.read_unsigned(font, head.bitcnt_h) else {
+        return GlyphResult::Err(Error::FontEnds(ch));
+    };
+    let SignedRead::Value(offset_x, reader) = reader.read_signed(font, head.bitcnt_x) else {
+        return GlyphResult::Err(Error::FontEnds(ch));
+    };
+    let SignedRead::Value(offset_y, reader) = reader.read_signed(font, head.bitcnt_y) else {
+        return GlyphResult::Err(Error::FontEnds(ch));
+    };
+    let SignedRead::Value(advance, reader) = reader.read_signed(font, head.bitcnt_d) else {
+        return GlyphResult::Err(Error::FontEnds(ch));
+    };
+    GlyphResult::Ok(GlyphReader {
+        glyph_width,
+        glyph_height,
+        offset_x,
+        offset_y,
+        advance,
+        bit_pos: reader.bit_pos,
+    })
 }

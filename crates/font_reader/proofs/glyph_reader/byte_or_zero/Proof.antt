@@ -1,25 +1,20 @@
+-- Inside the font the byte is read; past its end stands 0, as `getD` has it. Assumes nothing.
 use mathlib.Core.Path.{refl, sym}
 use native.Mathlib.Omega.{arith}
 use lib.ListN.{List·getD-eq-default}
 use borrow.Author.Needs.{needs}
 use Rattle.font_reader.proofs.glyph_reader.byte_or_zero.Statement.{statement}
 use Rattle.font_reader.proofs.glyph_reader.byte_or_zero.Tie as tie
-use Rattle.font_reader.proofs.glyph_reader.byte_or_zero.Reads as reads
-use Rattle.font_reader.proofs.glyph_reader.byte_or_zero.Lts as lts
 
--- src/glyph_reader.rt:36:16
 shared-slice-read-result : tie.Need-shared-slice-read-result
 shared-slice-read-result c = search needs
 
--- src/glyph_reader.rt:36:16
 cast-result : tie.Need-cast-result
 cast-result c = omega (arith, c .shared-slice-known .given (c .before .before .args .i))
 
--- src/glyph_reader.rt:36:9
 returns : tie.Need-returns
 returns c = (refl, omega (arith, c .shared-slice-known .given (c .before .before .args .i)))
 
--- src/glyph_reader.rt:32:1
 returns-2 : tie.Need-returns-2
 returns-2 c = (sym (List·getD-eq-default (c .before .args .font .now) 0 (c .if1 .left)), omega arith)
 

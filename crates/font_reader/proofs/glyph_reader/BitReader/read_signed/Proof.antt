@@ -1,15 +1,14 @@
+-- What `read_unsigned` answers, and that the difference taken in 32 bits fits a signed byte (ReadLaws). Assumes nothing.
 use mathlib.Core.Path.{_≡_, sym}
-use Prim.Native.Nat.{ℕ, _+_, _^_, _<_}
-use Rattle.definitions.proofs.BitsLaws.{read-small}
+use Prim.Native.Nat.{ℕ, _+_, _^_, _≤_, _<_}
+use native.Mathlib.Omega.{arith}
+use Rattle.definitions.proofs.BitsLaws.{read-small, unsigned-range}
 use Rattle.definitions.specs.Bits.{got, readAt}
 use Rattle.font_reader.specs.BitReads.{signedRead}
-use Rattle.font_reader.proofs.ReadLaws.{unsigned-value, unsigned-ends, half-fits, difference-fits, byte-fits, byte-is}
+use Rattle.font_reader.proofs.ReadLaws.{unsigned-value, unsigned-ends, power-fits, difference-fits, biased-fits, biased-is}
 use borrow.Author.Needs.{needs}
 use Rattle.font_reader.proofs.glyph_reader.BitReader.read_signed.Statement.{statement}
 use Rattle.font_reader.proofs.glyph_reader.BitReader.read_signed.Tie as tie
-use Rattle.font_reader.proofs.glyph_reader.BitReader.read_signed.Reads as reads
-use Rattle.font_reader.proofs.glyph_reader.BitReader.read_signed.Lts as lts
-use Rattle.font_reader.proofs.glyph_reader.BitReader.read_unsigned.Reads as read-unsigned-reads
 
 abbrev S : tie.After-known-told → tie.Start
 S c = c .before .before .before .before .before
@@ -23,57 +22,48 @@ read c = unsigned-value _ _ (c .before .before .before .read-unsigned .ensures) 
 small : (c : tie.After-known-told) → value c < 2 ^ (S c .args .bits)
 small c = read-small (S c .args .font .now) _ _ _ (read c .0)
 
--- src/glyph_reader.rt:63:48
+byte : (c : tie.After-known-told) → value c ≤ 255
+byte c = unsigned-range (S c .args .font .now) _ _ _ (S c .pre .0 .1) (read c .0)
+
 read-unsigned-requires : tie.Need-read-unsigned-requires
 read-unsigned-requires c κs = search needs
 
--- src/glyph_reader.rt:63:33
 enum-known-value : tie.Need-enum-known-value
 enum-known-value c = search needs
 
--- src/glyph_reader.rt:64:13
 enum-told : tie.Need-enum-told
 enum-told c = search needs
 
--- src/glyph_reader.rt:64:13
 returns : tie.Need-returns
 unfolding signedRead
 returns c =
     let s = c .before .before .before .before in
     simp (unsigned-ends (readAt (s .args .font .now) (s .args .self .«bit_pos») (s .args .bits)) _ (c .before .before .read-unsigned .ensures) (c .enum-told .given .1))
 
--- src/glyph_reader.rt:66:29
 sub-half : tie.Need-sub-half
 sub-half c = search needs
 
--- src/glyph_reader.rt:66:29
 cast-half : tie.Need-cast-half
 cast-half c = search needs
 
--- src/glyph_reader.rt:66:20
 shl-half : tie.Need-shl-half
 shl-half c = search needs
 
--- src/glyph_reader.rt:67:29
 cast-t10 : tie.Need-cast-t10
 cast-t10 c = search needs
 
--- src/glyph_reader.rt:67:46
 cast-t11 : tie.Need-cast-t11
-cast-t11 c = half-fits _ _ (S c .pre .0) (small c)
+cast-t11 c = power-fits _ (omega arith)
 
--- src/glyph_reader.rt:67:28
 sub-t12 : tie.Need-sub-t12
-sub-t12 c = difference-fits _ _ (S c .pre .0) (small c)
+sub-t12 c = difference-fits (byte c) (cast-t11 c)
 
--- src/glyph_reader.rt:67:27
 cast-t13 : tie.Need-cast-t13
-cast-t13 c = byte-fits _ _ (S c .pre .0) (small c)
+cast-t13 c = biased-fits _ _ (S c .pre .0) (small c)
 
--- src/glyph_reader.rt:59:5
 returns-2 : tie.Need-returns-2
 unfolding signedRead
-returns-2 c = simp (byte-is (S c .args .bits) (value c) (S c .pre .0) (small c), read c .0, sym (read c .1))
+returns-2 c = simp (biased-is (S c .args .bits) (value c) (S c .pre .0) (small c), read c .0, sym (read c .1))
 
 pub read-signed-spec : {M : Type 1} → statement M
 read-signed-spec =
