@@ -1,5 +1,5 @@
 -- One step of each walk, in the terms of the code: what a test or the next record shows of the definition. Assumes nothing.
-use mathlib.Core.Path.{_≡_, refl, sym, subst, _∙_}
+use mathlib.Core.Path.{_≡_, refl, _∙_}
 use mathlib.Core.Bool.{Bool, true, false}
 use mathlib.Core.List.{List}
 use native.Mathlib.Decide.{decLt}
@@ -10,10 +10,9 @@ use lib.Dec.{eqb}
 use lib.ListN.{length, drop, length-drop}
 use Rattle.integers.specs.Integers.{pick}
 use Rattle.definitions.specs.Header.{byte, bigEndian16}
-use Rattle.definitions.specs.Lookup.{Search, found, missing, short, chain, unicodeChain, sum, none, jumpTable}
+use Rattle.definitions.specs.Lookup.{found, missing, short, chain, unicodeChain, sum, none, jumpTable}
 use Rattle.definitions.proofs.LookupLaws.{chain-at, unicode-at, unicode-cut, table-at, table-ends}
 use Rattle.font_reader.specs.Answers.{nextRecord}
-use Rattle.font_reader.specs.declared.glyph_searcher.NextRecord.{NextRecord}
 use Rattle.font_reader.specs.declared.glyph_searcher.NextRecord.the-variants.{At, None}
 
 none-if : (t : Bool) (n : ℕ) → pick t None (At n) ≡ None → t ≡ true
@@ -47,7 +46,8 @@ module _ (c : ℕ) (font : List ℕ) (at : ℕ) (h : at + 1 < length font) where
 
   module _ (other : byte font at ≡ c → ⊥) where
     pub chain-missing : nextRecord font at 1 ≡ None → chain c 0 at font ≡ missing
-    chain-missing e = chain-at c font at h ∙ simp (ne-eqb (byte font at) c other, eq-eqb (byte font (at + 1)) 0 (last font at 1 e))
+    chain-missing e =
+        chain-at c font at h ∙ simp (ne-eqb (byte font at) c other, eq-eqb (byte font (at + 1)) 0 (last font at 1 e))
 
     pub chain-next : (n : ℕ) → nextRecord font at 1 ≡ At n → chain c 0 at font ≡ chain c 0 n font
     chain-next n e =
@@ -55,7 +55,7 @@ module _ (c : ℕ) (font : List ℕ) (at : ℕ) (h : at + 1 < length font) where
         chain-at c font at h ∙ simp (ne-eqb (byte font at) c other, ne-eqb (byte font (at + 1)) 0 (j .some), j .to)
 
 module _ (c : ℕ) (font : List ℕ) (at : ℕ) where
-  pub unicode-zero : at + 1 < length font → bigEndian16 font at ≡ 0 → unicodeChain c 0 at font ≡ missing
+  pub unicode-zero : at + 2 ≤ length font → bigEndian16 font at ≡ 0 → unicodeChain c 0 at font ≡ missing
   unicode-zero h e = by (decLt (at + 2) (length font))
     where
       by : Dec (at + 2 < length font) → unicodeChain c 0 at font ≡ missing
@@ -63,7 +63,7 @@ module _ (c : ℕ) (font : List ℕ) (at : ℕ) where
       by (no p) = unicode-cut c font at (omega arith) ∙ simp (eq-eqb (bigEndian16 font at) 0 e)
 
   module _ (some : bigEndian16 font at ≡ 0 → ⊥) where
-    pub unicode-short : at + 1 < length font → length font ≤ at + 2 → unicodeChain c 0 at font ≡ short
+    pub unicode-short : at + 2 ≤ length font → length font ≤ at + 2 → unicodeChain c 0 at font ≡ short
     unicode-short h p = unicode-cut c font at (omega arith) ∙ simp (ne-eqb (bigEndian16 font at) 0 some)
 
     module _ (h : at + 2 < length font) where
@@ -72,7 +72,8 @@ module _ (c : ℕ) (font : List ℕ) (at : ℕ) where
           unicode-at c font at h ∙ simp (ne-eqb (bigEndian16 font at) 0 some, eq-eqb (bigEndian16 font at) c e)
 
       module _ (other : bigEndian16 font at ≡ c → ⊥) where
-        step : unicodeChain c 0 at font ≡ pick (eqb (byte font (at + 2)) 0) missing (unicodeChain c 0 (at + byte font (at + 2)) font)
+        step : unicodeChain c 0 at font
+            ≡ pick (eqb (byte font (at + 2)) 0) missing (unicodeChain c 0 (at + byte font (at + 2)) font)
         step = unicode-at c font at h ∙ simp (ne-eqb (bigEndian16 font at) 0 some, ne-eqb (bigEndian16 font at) c other)
 
         pub unicode-missing : nextRecord font at 2 ≡ None → unicodeChain c 0 at font ≡ missing

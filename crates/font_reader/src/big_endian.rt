@@ -8,5 +8,7 @@ pub fn u16_at(s: &[u8], i: usize) -> u16
     requires { ⌜ i + 2 ≤ length (now s) ⌝ }
     ensures { λ r. ⌜ r ≡ bigEndian16 (now (s .entry)) i ⌝ }
 {
-    (s[i] as u16) * 256 + (s[i + 1] as u16)
+    let high = s[i] as u16;
+    let low = s[i + 1] as u16;
+    high * 256 + low
 }

@@ -33,7 +33,8 @@ fn jump_to_next(font: &[u8], at: usize, char_width: usize) -> NextRecord
     requires { ⌜ at + «char_width» < length (now font) ⌝ }
     ensures { λ r. ⌜ r ≡ nextRecord (now (font .entry)) at «char_width» ⌝ }
 {
-    let offset = font[at + char_width];
+    let jump = at + char_width;
+    let offset = font[jump];
     if offset == 0 {
         return NextRecord::None;
     }
@@ -65,7 +66,7 @@ fn search_unicode_chain(font: &[u8], start: usize, encoding: u16) -> SearchResul
     ensures { λ r. ⌜ searched r ≡ unicodeChain encoding 0 start (now (font .entry)) ⌝ }
 {
     let mut at = start;
-    while at + 1 < font.len() {
+    while at + 2 <= font.len() {
         let ch = u16_at(font, at);
         if ch == 0 {
             return SearchResult::GlyphNotFound;

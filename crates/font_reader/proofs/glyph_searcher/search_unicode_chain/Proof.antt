@@ -100,7 +100,7 @@ returns-5 : tie.Need-returns-5 Inv-loop μ-loop
 returns-5 c =
     let l = c .before in
     let a = l .before .before .args in
-    sym (l .loop .inv .1 ∙ unicode-ends (a .encoding) 0 (l .loop .at) (a .font .now) (c .loop-test .left))
+    sym (l .loop .inv .1 ∙ unicode-ends (a .encoding) 0 (l .loop .at) (a .font .now) (omega arith))
 
 pub search-unicode-chain-spec : {M : Type 1} → statement M
 search-unicode-chain-spec =
