@@ -1,19 +1,19 @@
 -- Laws of the lookup. The chains and the jump table are walked over the font's bytes by definition, so each walk ends with
 -- the bytes: there is no number of steps, and no law that one suffices is needed. Assumes nothing.
-use mathlib.Core.Path.{_≡_, refl, sym, ap, subst, _∙_}
+use mathlib.Core.Path.{_≡_, refl, sym, ap, _∙_}
 use mathlib.Core.Bool.{Bool, true, false}
 use mathlib.Core.List.{List, [], _∷_, _++_}
 use Prim.Native.Nat.{ℕ, zero, suc, _+_, _-_, _*_, _≤_, _<_}
 use native.Mathlib.Nat.{zero-add, suc-add, add-zero}
 use native.Mathlib.Numerals.{add-one}
 use native.Mathlib.Omega.{arith}
-use borrow.Author.Tests.{leb-true, le-leb, lt-ltb, le-ltb, eq-eqb, ne-eqb, eqb-false}
+use borrow.Author.Tests.{leb-true, le-leb, lt-leb, eqb-false}
 use lib.Dec.{T, ltb, leb, eqb, lit<}
-use lib.ListN.{length, getD, drop, length-append, length-drop, List·getD-append, drop-of-length-le}
+use lib.ListN.{length, drop, length-append, List·getD-append, drop-of-length-le}
 use lib.Seq.{drop-cons, drop-append-le}
 use Rattle.types.specs.declared.font_reader.FontReader.{FontReader}
-use Rattle.integers.specs.Integers.{pick, signed8}
-use Rattle.definitions.specs.Header.{byte, bigEndian16, header}
+use Rattle.integers.specs.Integers.{pick}
+use Rattle.definitions.specs.Header.{byte, bigEndian16, header, Opened}
 use Rattle.definitions.specs.Lookup.{Search, found, missing, short, chain, unicodeChain, Distance, sum, none, jumpTable, records, chainStart, tableStart, fromTable, search}
 
 -- What the answer of a choice shows of its test.
@@ -249,7 +249,48 @@ table-longer c total (a ∷ b ∷ f ∷ []) more d e = not-none e
 table-longer c total (a ∷ b ∷ f ∷ g ∷ s) more d e =
     of-pick (ltb (f * 256 + g) c) (λ t q. rw t (table-longer c (total + (a * 256 + b)) s more d q)) (λ t q. rw t q) e
 
--- The whole lookup. A glyph that is found begins within the font, or at its end.
+-- The offset of U+0100 leads to the jump table.
+pub table-is : (font : List ℕ) (head : FontReader) → Opened font head → records + head .«array_offset_0x0100» ≡ tableStart font
+unfolding header
+table-is font head opened = simp (opened .read)
+
+-- The whole lookup, by the range of the code point. The offsets are those of the header that was read.
+module _ (font : List ℕ) (c : ℕ) where
+  pub search-above : 65535 < c → search font c ≡ missing
+  unfolding search
+  search-above h = let k : 255 < c = omega arith in simp (lt-leb c 255 k, lt-leb c 65535 h)
+
+  module _ (head : FontReader) (opened : Opened font head) where
+    pub search-lower : 97 ≤ c → c ≤ 255 → search font c ≡ chain c 0 (records + head .«array_offset_lower_a») font
+    unfolding search header
+    search-lower h k = simp (le-leb c 255 k, le-leb 97 c h, opened .read)
+
+    pub search-upper : 65 ≤ c → c < 97 → search font c ≡ chain c 0 (records + head .«array_offset_upper_a») font
+    unfolding search header
+    search-upper h k = let l : c ≤ 255 = omega arith in simp (le-leb c 255 l, lt-leb 97 c k, le-leb 65 c h, opened .read)
+
+  pub search-below : c < 65 → search font c ≡ chain c 0 records font
+  unfolding search
+  search-below h =
+      let k : c ≤ 255 = omega arith in
+      let l : c < 97 = omega arith in
+      simp (le-leb c 255 k, lt-leb 97 c l, lt-leb 65 c h)
+
+  module _ (table : ℕ) (is : table ≡ tableStart font) (h : 256 ≤ c) (k : c ≤ 65535) where
+    pub search-past : length font < table → search font c ≡ short
+    unfolding search
+    search-past l = simp (lt-leb c 255 h, le-leb c 65535 k, lt-leb (tableStart font) (length font) (omega arith))
+
+    module _ (l : table ≤ length font) where
+      pub search-none : jumpTable c 0 (drop table font) ≡ none → search font c ≡ missing
+      unfolding search
+      search-none e = simp (lt-leb c 255 h, le-leb c 65535 k, le-leb (tableStart font) (length font) (omega arith), rw is at e)
+
+      pub search-table : (d : ℕ) → jumpTable c 0 (drop table font) ≡ sum d → search font c ≡ unicodeChain c 0 (table + d) font
+      unfolding search
+      search-table d e = simp (lt-leb c 255 h, le-leb c 65535 k, le-leb (tableStart font) (length font) (omega arith), rw is at e, is)
+
+-- A glyph that is found begins within the font, or at its end.
 
 from-table-within : (font : List ℕ) (c : ℕ) (d : Distance) (p : ℕ) → fromTable font c d ≡ found p → p ≤ length font
 from-table-within font c none p e = not-missing e

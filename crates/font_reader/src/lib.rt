@@ -1,6 +1,8 @@
 // Reading a font's bytes: the header, and from a code point to its glyph.
-mod big_endian;
+pub mod big_endian;
 pub mod glyph_reader;
+pub mod glyph_searcher;
+pub mod unicode_jumptable_reader;
 
 ghost use mathlib.Core.Path.{_≡_};
 ghost use Prim.Native.Nat.{_≤_, _<_};
