@@ -10,12 +10,15 @@ ghost use lib.ListN.{length, getD};
 ghost use lib.IntN.{pos};
 ghost use lib.Signed.{_≤ℤ_};
 ghost use Rattle.integers.specs.Integers.{signed8};
-ghost use Rattle.definitions.specs.Header.{header, headerOff, defaultLineHeight, negative, signedByte};
+ghost use Rattle.definitions.specs.Header.{header, headerOff, defaultLineHeight, negative, signedByte, Opened};
+ghost use Rattle.definitions.specs.Glyph.{glyph, glyphOutcome};
 ghost use Rattle.definitions.specs.Calls.{openFont, fontReaderOutcome};
 use big_endian::u16_at;
+use glyph_searcher::SearchResult;
 use types::error::Error;
 use types::font_reader::FontReader;
 use types::results::FontReaderResult;
+use types::results::GlyphResult;
 
 const HEADER_SIZE: usize = 23;
 
@@ -108,4 +111,16 @@ pub fn new_from_raw_data(font: &[u8]) -> FontReaderResult
         return FontReaderResult::Err(Error::FontHeader);
     }
     FontReaderResult::Ok(read_header(font))
+}
+
+// What the font answers to a code point: its glyph, or 01's number 7 or 8.
+pub fn retrieve_glyph_data(font: &[u8], head: FontReader, ch: u32) -> GlyphResult
+    requires { ⌜ Opened (now font) head ⌝ }
+    ensures { λ r. ⌜ glyphOutcome r ≡ glyph (now (font .entry)) ch ⌝ }
+{
+    match glyph_searcher::search(font, head, ch) {
+        SearchResult::Found(start) => glyph_reader::new(font, head, ch, start),
+        SearchResult::GlyphNotFound => GlyphResult::Err(Error::GlyphNotFound(ch)),
+        SearchResult::FontEnds => GlyphResult::Err(Error::FontEnds(ch)),
+    }
 }

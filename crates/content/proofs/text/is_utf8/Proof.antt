@@ -23,7 +23,6 @@ here : (c : tie.After-known-told Inv-loop μ-loop)
     → Position (c .before .before .before .before .before .before .before .args .text .now) (c .before .before .before .before .before .loop .at) (c .before .next .given .0 .0) (c .before .next .given .0 .1 .0)
 here c = position _ _ (sym (c .before .before .before .next-char .ensures) ∙ ap asCharacter (c .before .next .given .1))
 
-
 -- src/text.rt:119:5
 loop-holds : tie.Need-loop-holds Inv-loop μ-loop
 loop-holds c = (omega arith, refl)

@@ -1,0 +1,69 @@
+-- The search's answer decides; a glyph that is found begins within the font.
+use mathlib.Core.Path.{_≡_, sym, ap, _∙_}
+use mathlib.Core.List.{List}
+use Prim.Native.Nat.{ℕ, _*_}
+use borrow.Author.Needs.{needs}
+use Rattle.types.specs.declared.font_reader.FontReader.{FontReader}
+use Rattle.definitions.specs.Lookup.{Search, found, search as lookup}
+use Rattle.definitions.specs.Glyph.{fields, fromSearch, glyph}
+use Rattle.definitions.proofs.LookupLaws.{search-within}
+use Rattle.font_reader.specs.Answers.{searched}
+use Rattle.font_reader.proofs.retrieve_glyph_data.Statement.{statement}
+use Rattle.font_reader.proofs.retrieve_glyph_data.Tie as tie
+
+-- the glyph begins at `start`
+module _ (c : tie.After-known-told) where
+  abbrev start : ℕ
+  start = c .before .start .given .0 .0
+
+  found-there : lookup (c .before .before .before .before .before .args .font .now) (c .before .before .before .before .before .args .ch) ≡ found start
+  found-there = sym (c .before .before .before .search .ensures) ∙ ap searched (c .before .start .given .1)
+
+search-requires : tie.Need-search-requires
+search-requires c κs = search needs
+
+enum-known-start : tie.Need-enum-known-start
+enum-known-start c = search needs
+
+new-requires : tie.Need-new-requires
+new-requires c κs = (c .before .before .before .before .before .pre, search-within _ _ _ (found-there c))
+
+enum-told : tie.Need-enum-told
+enum-told c = search needs
+
+enum-told-2 : tie.Need-enum-told-2
+enum-told-2 c = search needs
+
+returns : tie.Need-returns
+unfolding glyph
+returns c =
+    let k = c .before in
+    let s = k .before .before .before .before .before in
+    c .new .ensures
+    ∙ ap (λ (h : FontReader). fields (s .args .font .now) h (s .args .ch) (start k * 8)) (s .pre .read)
+    ∙ sym (ap (fromSearch (s .args .font .now) (s .args .ch)) (found-there k))
+
+returns-2 : tie.Need-returns-2
+unfolding glyph
+returns-2 c =
+    let s = c .before .before .before .before in
+    sym (ap (fromSearch (s .args .font .now) (s .args .ch)) (sym (c .before .before .search .ensures) ∙ ap searched (c .enum-told .given .1)))
+
+returns-3 : tie.Need-returns-3
+unfolding glyph
+returns-3 c =
+    let s = c .before .before .before .before in
+    sym (ap (fromSearch (s .args .font .now) (s .args .ch)) (sym (c .before .before .search .ensures) ∙ ap searched (c .enum-told2 .given .1)))
+
+pub retrieve-glyph-data-spec : {M : Type 1} → statement M
+retrieve-glyph-data-spec =
+    tie.close
+    (tie.spec
+    search-requires
+    enum-known-start
+    new-requires
+    enum-told
+    enum-told-2
+    returns
+    returns-2
+    returns-3)
