@@ -16,9 +16,9 @@ const U8G2_FONT_DATA_STRUCT_SIZE: usize = 23;
 pub enum SearchResult {
     // the glyph begins at this byte
     Found(usize),
-    // 01's number 7
+    // the font has no such glyph: 01's number 7
     GlyphNotFound,
-    // 01's number 8
+    // a byte is missing, or a move goes past the end: 01's number 8
     FontEnds,
 }
 
@@ -85,7 +85,8 @@ fn search_unicode_chain(font: &[u8], start: usize, encoding: u16) -> SearchResul
     SearchResult::FontEnds
 }
 
-// Code points from 256 to 65535: the jump table begins at `table`, and leads to the chain.
+// Code points from 256 to 65535: the jump table begins at `table`, and leads to the chain. Moving exactly
+// to the end is allowed, both to the table and from it.
 fn search_unicode(font: &[u8], table: usize, encoding: u16) -> SearchResult
     requires { ⌜ (length (now font) ≤ 1048576) × ((table ≡ tableStart (now font)) × (256 ≤ encoding)) ⌝ }
     ensures { λ r. ⌜ searched r ≡ lookup (now (font .entry)) encoding ⌝ }
@@ -102,6 +103,7 @@ fn search_unicode(font: &[u8], table: usize, encoding: u16) -> SearchResult
     search_unicode_chain(font, table + jump_offset, encoding)
 }
 
+// Where the glyph of a code point begins. Above 65535 no byte is looked at.
 pub fn search(font: &[u8], head: FontReader, ch: u32) -> SearchResult
     requires { ⌜ Opened (now font) head ⌝ }
     ensures { λ r. ⌜ searched r ≡ lookup (now (font .entry)) ch ⌝ }

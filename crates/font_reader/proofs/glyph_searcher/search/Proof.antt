@@ -1,13 +1,14 @@
 -- Each way out is a law of the definition by the range of the code point (LookupLaws); the offsets are the header's since
 -- the header was read from the font. Assumes nothing.
 use mathlib.Core.Path.{sym, _∙_}
+use native.Mathlib.Omega.{arith}
 use Rattle.definitions.proofs.LookupLaws.{search-above, search-lower, search-upper, search-below, table-is}
 use borrow.Author.Needs.{needs}
 use Rattle.font_reader.proofs.glyph_searcher.search.Statement.{statement}
 use Rattle.font_reader.proofs.glyph_searcher.search.Tie as tie
 
 returns : tie.Need-returns
-returns c = let s = c .before .before in sym (search-above (s .args .font .now) (s .args .ch) (c .if1 .taken))
+returns c = let a = c .before .before .args in sym (search-above (a .font .now) (a .ch) (omega arith))
 
 cast-search-unicode : tie.Need-cast-search-unicode
 cast-search-unicode c = search needs
@@ -21,7 +22,7 @@ cast-search-unicode-2 c = search needs
 search-unicode-requires : tie.Need-search-unicode-requires
 search-unicode-requires c κs =
     let s = c .before .before .before .before in
-    (s .pre .most, (table-is (s .args .font .now) (s .args .head) (s .pre), c .before .if2 .taken))
+    (s .pre .most, (table-is (s .args .font .now) (s .args .head) (s .pre), omega arith))
 
 returns-2 : tie.Need-returns-2
 returns-2 c = search needs
@@ -41,9 +42,8 @@ search-chain-requires c κs = search needs
 returns-3 : tie.Need-returns-3
 returns-3 c =
     let s = c .before .before .before .before .before .before in
-    c .search-chain .ensures
-    ∙ sym (search-lower (s .args .font .now) (s .args .ch) (s .args .head) (s .pre)
-    (c .before .before .if3 .taken) (c .before .before .before .if2 .left))
+    let a = s .args in
+    c .search-chain .ensures ∙ sym (search-lower (a .font .now) (a .ch) (a .head) (s .pre) (omega arith) (omega arith))
 
 cast-search-chain-3 : tie.Need-cast-search-chain-3
 cast-search-chain-3 c = search needs
@@ -60,9 +60,8 @@ search-chain-requires-2 c κs = search needs
 returns-4 : tie.Need-returns-4
 returns-4 c =
     let s = c .before .before .before .before .before .before .before in
-    c .search-chain2 .ensures
-    ∙ sym (search-upper (s .args .font .now) (s .args .ch) (s .args .head) (s .pre)
-    (c .before .before .if4 .taken) (c .before .before .before .if3 .left))
+    let a = s .args in
+    c .search-chain2 .ensures ∙ sym (search-upper (a .font .now) (a .ch) (a .head) (s .pre) (omega arith) (omega arith))
 
 cast-search-chain-5 : tie.Need-cast-search-chain-5
 cast-search-chain-5 c = search needs
@@ -72,8 +71,8 @@ search-chain-requires-3 c κs = search needs
 
 returns-5 : tie.Need-returns-5
 returns-5 c =
-    let s = c .before .before .before .before .before .before in
-    c .search-chain3 .ensures ∙ sym (search-below (s .args .font .now) (s .args .ch) (c .before .if4 .left))
+    let a = c .before .before .before .before .before .before .args in
+    c .search-chain3 .ensures ∙ sym (search-below (a .font .now) (a .ch) (omega arith))
 
 pub search-spec : {M : Type 1} → statement M
 search-spec =

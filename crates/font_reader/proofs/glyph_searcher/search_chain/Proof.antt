@@ -34,7 +34,7 @@ returns c =
     let l = c .before .before .before in
     let a = l .before .before .args in
     sym (l .loop .inv .1
-    ∙ chain-found (a .ch) (a .font .now) (l .loop .at) (c .before .before .loop-test .taken) (c .if1 .taken))
+    ∙ chain-found (a .ch) (a .font .now) (l .loop .at) (omega arith) (c .if1 .taken))
 
 jump-to-next-requires : tie.Need-jump-to-next-requires Inv-loop μ-loop
 jump-to-next-requires c κs = search needs
@@ -51,8 +51,7 @@ returns-2 c =
     let l = k .before .before .before in
     let a = l .before .before .args in
     let e = sym (c .before .before .jump-to-next .ensures) ∙ c .enum-told .given .1 in
-    let two = k .before .before .loop-test .taken in
-    sym (l .loop .inv .1 ∙ chain-missing (a .ch) (a .font .now) (l .loop .at) two (k .if1 .left) e)
+    sym (l .loop .inv .1 ∙ chain-missing (a .ch) (a .font .now) (l .loop .at) (omega arith) (k .if1 .left) e)
 
 loop-less : tie.Need-loop-less Inv-loop μ-loop
 loop-less c =
@@ -69,14 +68,14 @@ loop-again c =
     let j = jumped (a .font .now) (l .loop .at) 1 (c .before .next .given .0 .0) e in
     let two = k .before .before .loop-test .taken in (
       omega (arith, j .to, l .before .shared-slice-known .given (l .loop .at + 1)),
-      l .loop .inv .1 ∙ chain-next (a .ch) (a .font .now) (l .loop .at) two (k .if1 .left) _ e,
+      l .loop .inv .1 ∙ chain-next (a .ch) (a .font .now) (l .loop .at) (omega arith) (k .if1 .left) _ e,
     )
 
 returns-3 : tie.Need-returns-3 Inv-loop μ-loop
 returns-3 c =
     let l = c .before in
     let a = l .before .before .args in
-    sym (l .loop .inv .1 ∙ chain-ends (a .ch) 0 (l .loop .at) (a .font .now) (c .loop-test .left))
+    sym (l .loop .inv .1 ∙ chain-ends (a .ch) 0 (l .loop .at) (a .font .now) (omega arith))
 
 pub search-chain-spec : {M : Type 1} → statement M
 search-chain-spec =

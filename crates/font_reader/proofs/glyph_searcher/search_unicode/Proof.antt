@@ -14,7 +14,7 @@ returns : tie.Need-returns
 returns c =
     let s = c .before .before in
     let a = s .args in
-    sym (search-past (a .font .now) (a .encoding) (a .table) (s .pre .1 .0) (s .pre .1 .1) (omega arith) (c .if1 .taken))
+    sym (search-past (a .font .now) (a .encoding) (a .table) (s .pre .1 .0) (s .pre .1 .1) (omega arith) (omega arith))
 
 calculate-jump-offset-requires : tie.Need-calculate-jump-offset-requires
 calculate-jump-offset-requires c κs = search needs
@@ -30,8 +30,7 @@ returns-2 c =
     let s = c .before .before .before .before .before in
     let a = s .args in
     let e = sym (c .before .before .calculate-jump-offset .ensures) ∙ ap distance (c .enum-told .given .1) in
-    let l = c .before .before .before .if1 .left in
-    sym (search-none (a .font .now) (a .encoding) (a .table) (s .pre .1 .0) (s .pre .1 .1) (omega arith) l e)
+    sym (search-none (a .font .now) (a .encoding) (a .table) (s .pre .1 .0) (s .pre .1 .1) (omega arith) (omega arith) e)
 
 -- the lookup, where the table answers with a distance
 abbrev start : tie.After-known-told → tie.Start
@@ -47,8 +46,7 @@ by-table k =
     let s = start k in
     let a = s .args in
     let e = sym (k .before .before .before .calculate-jump-offset .ensures) ∙ ap distance (k .before .jump-offset .given .1) in
-    let l = k .before .before .before .before .if1 .left in
-    search-table (a .font .now) (a .encoding) (a .table) (s .pre .1 .0) (s .pre .1 .1) (omega arith) l (far k) e
+    search-table (a .font .now) (a .encoding) (a .table) (s .pre .1 .0) (s .pre .1 .1) (omega arith) (omega arith) (far k) e
 
 sub-if2 : tie.Need-sub-if2
 sub-if2 c = search needs

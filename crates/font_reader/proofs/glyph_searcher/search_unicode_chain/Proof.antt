@@ -31,7 +31,7 @@ returns c =
     let l = c .before .before .before in
     let a = l .before .before .args in
     let zero = sym (c .before .u16-at .ensures) ∙ c .if1 .taken in
-    sym (l .loop .inv .1 ∙ unicode-zero (a .encoding) (a .font .now) (l .loop .at) (c .before .before .loop-test .taken) zero)
+    sym (l .loop .inv .1 ∙ unicode-zero (a .encoding) (a .font .now) (l .loop .at) (omega arith) zero)
 
 add-if2 : tie.Need-add-if2 Inv-loop μ-loop
 add-if2 c = search needs
@@ -41,8 +41,7 @@ returns-2 c =
     let l = c .before .before .before .before in
     let a = l .before .before .args in
     let some = rw (c .before .before .u16-at .ensures) at (c .before .if1 .left) in
-    let two = c .before .before .before .loop-test .taken in
-    sym (l .loop .inv .1 ∙ unicode-short (a .encoding) (a .font .now) (l .loop .at) some two (c .if2 .taken))
+    sym (l .loop .inv .1 ∙ unicode-short (a .encoding) (a .font .now) (l .loop .at) some (omega arith) (omega arith))
 
 add-t10 : tie.Need-add-t10 Inv-loop μ-loop
 add-t10 c = search needs
@@ -53,8 +52,7 @@ returns-3 c =
     let a = l .before .before .args in
     let code = c .before .before .before .u16-at .ensures in
     let some = rw code at (c .before .before .if1 .left) in
-    let three = c .before .if2 .left in
-    sym (l .loop .inv .1 ∙ unicode-found (a .encoding) (a .font .now) (l .loop .at) some three (sym code ∙ c .if3 .taken))
+    sym (l .loop .inv .1 ∙ unicode-found (a .encoding) (a .font .now) (l .loop .at) some (omega arith) (sym code ∙ c .if3 .taken))
 
 jump-to-next-requires : tie.Need-jump-to-next-requires Inv-loop μ-loop
 jump-to-next-requires c κs = search needs
@@ -74,7 +72,7 @@ returns-4 c =
     let some = rw code at (k .before .before .if1 .left) in
     let other = rw code at (k .if3 .left) in
     let e = sym (c .before .before .jump-to-next .ensures) ∙ c .enum-told .given .1 in
-    sym (l .loop .inv .1 ∙ unicode-missing (a .encoding) (a .font .now) (l .loop .at) some (k .before .if2 .left) other e)
+    sym (l .loop .inv .1 ∙ unicode-missing (a .encoding) (a .font .now) (l .loop .at) some (omega arith) other e)
 
 loop-less : tie.Need-loop-less Inv-loop μ-loop
 loop-less c =
@@ -93,7 +91,7 @@ loop-again c =
     let e = sym (c .before .before .before .jump-to-next .ensures) ∙ c .before .next .given .1 in
     let j = jumped (a .font .now) (l .loop .at) 2 (c .before .next .given .0 .0) e in (
       omega (arith, j .to, l .before .shared-slice-known .given (l .loop .at + 2)),
-      l .loop .inv .1 ∙ unicode-next (a .encoding) (a .font .now) (l .loop .at) some (k .before .if2 .left) other _ e,
+      l .loop .inv .1 ∙ unicode-next (a .encoding) (a .font .now) (l .loop .at) some (omega arith) other _ e,
     )
 
 returns-5 : tie.Need-returns-5 Inv-loop μ-loop

@@ -1,9 +1,11 @@
 -- The loop's invariant: the rest of the table, with the sum so far, answers as the whole table does. The sum grows by less
 -- than 65536 an entry, so it stays far below 2 to the power 64. Assumes nothing.
 use mathlib.Core.Path.{_≡_, sym, _∙_}
-use Prim.Native.Nat.{_-_, _*_, _≤_}
+use Prim.Native.Nat.{_+_, _-_, _*_, _≤_, _<_}
+use native.Mathlib.Omega.{arith}
 use lib.ListN.{length, drop}
 use borrow.Author.Needs.{needs}
+use Rattle.definitions.specs.Header.{bigEndian16}
 use Rattle.definitions.specs.Lookup.{jumpTable}
 use Rattle.font_reader.proofs.Steps.{table-end, table-found, table-next}
 use Rattle.font_reader.proofs.unicode_jumptable_reader.calculate_jump_offset.Statement.{
@@ -45,10 +47,9 @@ returns : tie.Need-returns Inv-loop μ-loop
 returns c =
     let l = c .before .before .before .before in
     let a = l .before .before .args in
-    let whole = c .before .before .before .loop-test .taken in
-    let limit = rw (c .before .u16-at2 .ensures) at (c .if1 .taken) in
+    let limit : a .encoding ≤ bigEndian16 (a .font .now) (l .loop .at + 2) = omega arith in
     rw (c .before .before .u16-at .ensures)
-    (sym (l .loop .inv .1 .1 ∙ table-found (a .encoding) (l .loop .jump-offset) (a .font .now) (l .loop .at) whole limit))
+    (sym (l .loop .inv .1 .1 ∙ table-found (a .encoding) (l .loop .jump-offset) (a .font .now) (l .loop .at) (omega arith) limit))
 
 add-at : tie.Need-add-at Inv-loop μ-loop
 add-at c = search needs
@@ -66,7 +67,7 @@ loop-again c =
       (
         search needs,
         rw (c .before .before .u16-at .ensures)
-            (l .loop .inv .1 .1 ∙ table-next (a .encoding) (l .loop .jump-offset) (a .font .now) (l .loop .at) whole limit),
+            (l .loop .inv .1 .1 ∙ table-next (a .encoding) (l .loop .jump-offset) (a .font .now) (l .loop .at) (omega arith) limit),
       ),
     )
 
@@ -75,7 +76,7 @@ returns-2 c =
     let l = c .before in
     let a = l .before .before .args in
     sym (l .loop .inv .1 .1
-    ∙ table-end (a .encoding) (l .loop .jump-offset) (a .font .now) (l .loop .at) (c .loop-test .left))
+    ∙ table-end (a .encoding) (l .loop .jump-offset) (a .font .now) (l .loop .at) (omega arith))
 
 pub calculate-jump-offset-spec : {M : Type 1} → statement M
 calculate-jump-offset-spec =
