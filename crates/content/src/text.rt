@@ -1,9 +1,9 @@
 // A text's bytes as UTF-8. Unicode's table 3-7 says which sequences of bytes are well formed.
 ghost use mathlib.Core.Path.{_≡_};
-ghost use Prim.Native.Nat.{ℕ, _+_, _≤_, _<_};
-ghost use lib.ListN.{length, getD, drop};
 ghost use mathlib.Core.Bool.{true};
-ghost use Rattle.definitions.specs.Utf8.{isIn, rowOf, two, three, four, sequence, first, decode, isUtf8, codePoints, newlines};
+ghost use Prim.Native.Nat.{_≤_, _<_};
+ghost use lib.ListN.{length, getD, drop};
+ghost use Rattle.definitions.specs.Utf8.{isIn, rowOf, two, three, four, sequence, firstCharacter, decode, isUtf8, codePoints, newlines};
 ghost use Rattle.content.specs.Text.{asRow, asCharacter};
 
 // A row of table 3-7: how many bytes, and the range of the second.
@@ -21,6 +21,7 @@ pub enum NextChar {
     Malformed,
 }
 
+// The row of a first byte.
 fn row_of(lead: u8) -> Row
     ensures { λ r. ⌜ asRow r ≡ rowOf lead ⌝ }
 {
@@ -54,6 +55,8 @@ fn byte_at(text: &[u8], i: usize) -> u8
     text[i]
 }
 
+// Table 3-6 says how the bits of two, three and four bytes make a code point: five, four or three
+// of the first byte, then six of each other.
 fn two_bytes(from: u8, to: u8, lead: u8, second: u8) -> NextChar
     ensures { λ r. ⌜ asCharacter r ≡ sequence (two from to) lead second 0 0 ⌝ }
 {
@@ -97,7 +100,7 @@ fn four_bytes(from: u8, to: u8, lead: u8, second: u8, third: u8, fourth: u8) -> 
 // The character that begins at `at`.
 pub fn next_char(text: &[u8], at: usize) -> NextChar
     requires { ⌜ (at < length (now text)) × (length (now text) ≤ 4096) ⌝ }
-    ensures { λ r. ⌜ asCharacter r ≡ first (drop at (now (text .entry))) ⌝ }
+    ensures { λ r. ⌜ asCharacter r ≡ firstCharacter (drop at (now (text .entry))) ⌝ }
 {
     let lead = text[at];
     let second = byte_at(text, at + 1);

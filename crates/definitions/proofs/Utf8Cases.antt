@@ -3,7 +3,7 @@
 use mathlib.Core.Path.{_≡_, refl}
 use mathlib.Core.List.{List, [], _∷_, map}
 use Prim.Native.Nat.{ℕ}
-use Rattle.definitions.specs.Utf8.{rowOf, first, Decoded, characters, notUtf8, decodeFrom, decode}
+use Rattle.definitions.specs.Utf8.{table, rowOf, firstCharacter, Decoded, characters, notUtf8, decodeFrom, decode}
 
 pub record Case : Type 0 where
   pub bytes : List ℕ
@@ -42,5 +42,5 @@ cases =
     ∷ []
 
 pub cases-hold : map (λ (c : Case). decode (c .bytes)) cases ≡ map (λ (c : Case). c .expected) cases
-unfolding cases rowOf first decodeFrom
+unfolding cases table rowOf firstCharacter decodeFrom
 cases-hold = refl

@@ -11,7 +11,7 @@ use Rattle.integers.specs.Integers.{pick}
 abbrev pub isIn : ℕ → ℕ → ℕ → Bool
 isIn from to b = leb from b && leb b to
 
--- A row of table 3-7: how many bytes there are, and the range of the second one. `none`: no sequence begins so.
+-- How many bytes a sequence has, and the range of the second one. `none`: no sequence begins so.
 pub data Row : Type 0 where
   one : Row
   two : ℕ → ℕ → Row
@@ -19,21 +19,34 @@ pub data Row : Type 0 where
   four : ℕ → ℕ → Row
   none : Row
 
--- Table 3-7, row by row: the range of the first byte, and the range of the second.
-unfoldable pub rowOf : ℕ → Row
-rowOf a =
-    pick (isIn 0x00 0x7F a) one
-    (pick (isIn 0xC2 0xDF a) (two 0x80 0xBF)
-    (pick (isIn 0xE0 0xE0 a) (three 0xA0 0xBF)
-    (pick (isIn 0xE1 0xEC a) (three 0x80 0xBF)
-    (pick (isIn 0xED 0xED a) (three 0x80 0x9F)
-    (pick (isIn 0xEE 0xEF a) (three 0x80 0xBF)
-    (pick (isIn 0xF0 0xF0 a) (four 0x90 0xBF)
-    (pick (isIn 0xF1 0xF3 a) (four 0x80 0xBF)
-    (pick (isIn 0xF4 0xF4 a) (four 0x80 0x8F)
-    none))))))))
+-- A row of table 3-7, for the first bytes of a range.
+pub record TableRow : Type 0 where
+  pub from : ℕ
+  pub to : ℕ
+  pub row : Row
 
--- .. and the range of the third and the fourth byte, the same in each row
+unfoldable pub table : List TableRow
+table =
+    record { from = 0x00; to = 0x7F; row = one }
+    ∷ record { from = 0xC2; to = 0xDF; row = two 0x80 0xBF }
+    ∷ record { from = 0xE0; to = 0xE0; row = three 0xA0 0xBF }
+    ∷ record { from = 0xE1; to = 0xEC; row = three 0x80 0xBF }
+    ∷ record { from = 0xED; to = 0xED; row = three 0x80 0x9F }
+    ∷ record { from = 0xEE; to = 0xEF; row = three 0x80 0xBF }
+    ∷ record { from = 0xF0; to = 0xF0; row = four 0x90 0xBF }
+    ∷ record { from = 0xF1; to = 0xF3; row = four 0x80 0xBF }
+    ∷ record { from = 0xF4; to = 0xF4; row = four 0x80 0x8F }
+    ∷ []
+
+abbrev pub findRow : ℕ → List TableRow → Row
+findRow a [] = none
+findRow a (r ∷ rs) = pick (isIn (r .from) (r .to) a) (r .row) (findRow a rs)
+
+-- The row of a first byte.
+unfoldable pub rowOf : ℕ → Row
+rowOf a = findRow a table
+
+-- The range of the third and the fourth byte is the same in each row.
 abbrev pub continues : ℕ → Bool
 continues b = isIn 0x80 0xBF b
 
@@ -56,9 +69,9 @@ sequence (four from to) a b c d =
 sequence none a b c d = malformed
 
 -- The character at the head of bytes. Past their end stands 0, which no row has after its first byte.
-unfoldable pub first : List ℕ → Character
-first [] = malformed
-first (a ∷ s) = sequence (rowOf a) a (getD s 0 0) (getD s 1 0) (getD s 2 0)
+unfoldable pub firstCharacter : List ℕ → Character
+firstCharacter [] = malformed
+firstCharacter (a ∷ s) = sequence (rowOf a) a (getD s 0 0) (getD s 1 0) (getD s 2 0)
 
 -- A text's code points, in order.
 pub data Decoded : Type 0 where
@@ -78,11 +91,12 @@ abbrev pub byteCount : Character → ℕ
 byteCount (character c k) = k
 byteCount malformed = 0
 
--- The code points of bytes, `skip` bytes of which are still to be passed over.
+-- The code points of bytes, `skip` bytes of which are still to be passed over: those of a character after its first. A
+-- character is whole, so none is left to be passed over at the end.
 unfoldable pub decodeFrom : ℕ → List ℕ → Decoded
 decodeFrom skip [] = characters []
 decodeFrom (suc skip) (b ∷ s) = decodeFrom skip s
-decodeFrom zero (b ∷ s) = after (first (b ∷ s)) (decodeFrom (byteCount (first (b ∷ s)) - 1) s)
+decodeFrom zero (b ∷ s) = after (firstCharacter (b ∷ s)) (decodeFrom (byteCount (firstCharacter (b ∷ s)) - 1) s)
 
 abbrev pub decode : List ℕ → Decoded
 decode text = decodeFrom 0 text

@@ -1,3 +1,5 @@
+-- `text::get_newline_count` meets its contract. The loop keeps that the newlines counted and those among the bytes from `i`
+-- on are all; bytes and code points have as many (`newlines-decoded`). Assumes nothing.
 use mathlib.Core.Path.{_≡_, refl, sym, _∙_}
 use mathlib.Core.Logic.{⊎-elim}
 use Prim.Native.Nat.{_+_, _-_, _≤_}
@@ -9,8 +11,6 @@ use Rattle.definitions.specs.Utf8.{decode, newlines}
 use Rattle.definitions.proofs.Utf8Laws.{newlines-next, newlines-end, newlines-decoded, utf8-characters}
 use Rattle.content.proofs.text.get_newline_count.Statement.{statement}
 use Rattle.content.proofs.text.get_newline_count.Tie as tie
-use Rattle.content.proofs.text.get_newline_count.Reads as reads
-use Rattle.content.proofs.text.get_newline_count.Lts as lts
 
 abbrev Inv-loop : tie.InvT-loop
 Inv-loop text count₀ i₀ count i = (i ≤ length text) × ((count ≤ i) × (count + newlines (drop i text) ≡ newlines text))
@@ -18,34 +18,27 @@ Inv-loop text count₀ i₀ count i = (i ≤ length text) × ((count ≤ i) × (
 abbrev μ-loop : tie.MeasureT-loop
 μ-loop text count₀ i₀ count i = length text - i
 
--- src/text.rt:136:5
 loop-holds : tie.Need-loop-holds Inv-loop μ-loop
 loop-holds c = omega arith
 
--- src/text.rt:137:12
 shared-slice-read-if1 : tie.Need-shared-slice-read-if1 Inv-loop μ-loop
 shared-slice-read-if1 c = search needs
 
--- src/text.rt:138:13
 add-count : tie.Need-add-count Inv-loop μ-loop
 add-count c = search needs
 
--- src/text.rt:140:9
 add-i : tie.Need-add-i Inv-loop μ-loop
 add-i c = search needs
 
--- src/text.rt:136:5
 loop-less : tie.Need-loop-less Inv-loop μ-loop
 loop-less c = search needs
 
--- src/text.rt:136:5
 loop-again : tie.Need-loop-again Inv-loop μ-loop
 loop-again c =
     let l = c .before .before .before .loop in
     let n = newlines-next (c .before .before .before .before .args .text .now) (l .i) (c .before .before .loop-test .taken) in
     ⊎-elim (λ w. let m = simp (eq-eqb _ _ (w .0 .taken)) at n in omega arith) (λ w. let m = simp (ne-eqb _ _ (w .0 .left)) at n in omega arith) (c .if1 .came)
 
--- src/text.rt:130:1
 returns : tie.Need-returns Inv-loop μ-loop
 returns c =
     let s = c .before .before in

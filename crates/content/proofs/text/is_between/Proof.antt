@@ -1,14 +1,11 @@
+-- `text::is_between` meets its contract: each comparison is a test of `isIn`. Assumes nothing.
 use borrow.Author.Tests.{le-leb, lt-leb}
 use Rattle.content.proofs.text.is_between.Statement.{statement}
 use Rattle.content.proofs.text.is_between.Tie as tie
-use Rattle.content.proofs.text.is_between.Reads as reads
-use Rattle.content.proofs.text.is_between.Lts as lts
 
--- src/text.rt:41:1
 returns : tie.Need-returns
 returns c = simp (le-leb _ _ (c .if1 .taken))
 
--- src/text.rt:41:1
 returns-2 : tie.Need-returns-2
 returns-2 c = simp (lt-leb _ _ (c .if1 .left))
 

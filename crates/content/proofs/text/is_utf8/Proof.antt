@@ -1,3 +1,5 @@
+-- `text::is_utf8` meets its contract. The loop keeps that the whole text decodes exactly if the bytes from `at` on do; each
+-- character that is read moves `at` over its bytes (`position`). Assumes nothing.
 use mathlib.Core.Path.{_≡_, refl, sym, ap, _∙_}
 use Prim.Native.Nat.{_+_, _-_, _≤_}
 use native.Mathlib.Omega.{arith}
@@ -8,9 +10,6 @@ use Rattle.definitions.proofs.Utf8Laws.{Position, position, not-utf8, at-end, u
 use Rattle.content.specs.Text.{asCharacter}
 use Rattle.content.proofs.text.is_utf8.Statement.{statement}
 use Rattle.content.proofs.text.is_utf8.Tie as tie
-use Rattle.content.proofs.text.is_utf8.Reads as reads
-use Rattle.content.proofs.text.is_utf8.Lts as lts
-use Rattle.content.proofs.text.next_char.Reads as next-char-reads
 
 abbrev Inv-loop : tie.InvT-loop
 Inv-loop text at₀ at = (at ≤ length text) × (isUtf8 (decode text) ≡ isUtf8 (decode (drop at text)))
@@ -23,41 +22,32 @@ here : (c : tie.After-known-told Inv-loop μ-loop)
     → Position (c .before .before .before .before .before .before .before .args .text .now) (c .before .before .before .before .before .loop .at) (c .before .next .given .0 .0) (c .before .next .given .0 .1 .0)
 here c = position _ _ (sym (c .before .before .before .next-char .ensures) ∙ ap asCharacter (c .before .next .given .1))
 
--- src/text.rt:119:5
 loop-holds : tie.Need-loop-holds Inv-loop μ-loop
 loop-holds c = (omega arith, refl)
 
--- src/text.rt:120:13
 next-char-requires : tie.Need-next-char-requires Inv-loop μ-loop
 next-char-requires c κs = search needs
 
--- src/text.rt:121:31
 enum-known-next : tie.Need-enum-known-next Inv-loop μ-loop
 enum-known-next c = search needs
 
--- src/text.rt:122:13
 enum-told : tie.Need-enum-told Inv-loop μ-loop
 enum-told c = search needs
 
--- src/text.rt:122:13
 returns : tie.Need-returns Inv-loop μ-loop
 returns c =
     let l = c .before .before .before .before .loop in
     sym (l .inv .1 ∙ ap isUtf8 (not-utf8 _ (l .at) (c .before .before .before .loop-test .taken) (sym (c .before .before .next-char .ensures) ∙ ap asCharacter (c .enum-told .given .1))))
 
--- src/text.rt:124:9
 add-at : tie.Need-add-at Inv-loop μ-loop
 add-at c = let p = here c in omega arith
 
--- src/text.rt:119:5
 loop-less : tie.Need-loop-less Inv-loop μ-loop
 loop-less c = let p = here c in omega arith
 
--- src/text.rt:119:5
 loop-again : tie.Need-loop-again Inv-loop μ-loop
 loop-again c = let p = here c in (p .within, c .before .before .before .before .before .loop .inv .1 ∙ utf8-next _ _ p)
 
--- src/text.rt:114:1
 returns-2 : tie.Need-returns-2 Inv-loop μ-loop
 returns-2 c =
     let l = c .before .loop in

@@ -1,45 +1,34 @@
+-- `text::three_bytes` meets its contract: the tests are those of the definition, in its order. Assumes nothing.
 use borrow.Author.Tests.{not-true, not-false}
 use mathlib.Core.Path.{sym, _∙_}
 use borrow.Author.Needs.{needs}
 use Rattle.content.proofs.text.three_bytes.Statement.{statement}
 use Rattle.content.proofs.text.three_bytes.Tie as tie
-use Rattle.content.proofs.text.three_bytes.Reads as reads
-use Rattle.content.proofs.text.three_bytes.Lts as lts
-use Rattle.content.proofs.text.is_between.Reads as is-between-reads
 
--- src/text.rt:69:9
 is-between-requires : tie.Need-is-between-requires
 is-between-requires c κs = search needs
 
--- src/text.rt:70:9
 returns : tie.Need-returns
 returns c = simp (sym (c .before .is-between .ensures) ∙ not-true _ (c .if1 .taken))
 
--- src/text.rt:72:9
 is-between-requires-2 : tie.Need-is-between-requires-2
 is-between-requires-2 c κs = search needs
 
--- src/text.rt:73:9
 returns-2 : tie.Need-returns-2
 returns-2 c = simp (sym (c .before .before .before .is-between .ensures) ∙ not-false _ (c .before .before .if1 .left), sym (c .before .is-between2 .ensures) ∙ not-true _ (c .if2 .taken))
 
--- src/text.rt:75:20
 mul-t10 : tie.Need-mul-t10
 mul-t10 c = search needs
 
--- src/text.rt:75:48
 mul-t13 : tie.Need-mul-t13
 mul-t13 c = search needs
 
--- src/text.rt:75:20
 add-t14 : tie.Need-add-t14
 add-t14 c = search needs
 
--- src/text.rt:75:20
 add-t17 : tie.Need-add-t17
 add-t17 c = search needs
 
--- src/text.rt:66:1
 returns-3 : tie.Need-returns-3
 returns-3 c = simp (sym (c .before .before .before .is-between .ensures) ∙ not-false _ (c .before .before .if1 .left), sym (c .before .is-between2 .ensures) ∙ not-false _ (c .if2 .left))
 
