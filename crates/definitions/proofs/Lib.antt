@@ -6,3 +6,4 @@ pub mod BitsLaws
 pub mod GlyphLaws
 pub mod LookupLaws
 pub mod FramebufferLaws
+pub mod TextLaws
