@@ -7,3 +7,4 @@ pub mod GlyphLaws
 pub mod LookupLaws
 pub mod FramebufferLaws
 pub mod TextLaws
+pub mod PictureLaws
