@@ -8,3 +8,6 @@ pub mod BitsLaws
 pub mod GlyphLaws
 pub mod LookupLaws
 pub mod VerticalOffsetLaws
+pub mod FramebufferLaws
+pub mod TextLaws
+pub mod PictureLaws

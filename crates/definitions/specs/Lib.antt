@@ -11,7 +11,9 @@ pub mod Text
 pub mod Runs
 pub mod Picture
 pub mod Framebuffer
+pub mod TextSteps
 pub mod Limits
 pub mod Calls
+pub mod Agreement
 pub mod FontT
 pub mod Cases
