@@ -10,15 +10,9 @@ use mir.Facts.{toZ-ofZ}
 use Rattle.integers.specs.Integers.{half}
 use Rattle.integers.proofs.Laws.{zarith, plus, minus, half-is, half-fits, range}
 
+-- a value as it is stored and read back
 abbrev stored : ℤ → ℤ
 stored z = toZ w32 (ofZ w32 z)
-
-pub wide : {z : ℤ} → SFits w8 z → SFits w32 z
-wide f = omega (zarith, range f)
-
--- an i8 cast to an i32
-pub widened : {z : ℤ} → SFits w8 z → stored (toZ w8 (ofZ w8 z)) ≡ z
-widened f = let g = wide f in simp toZ-ofZ
 
 -- a value from which another can be subtracted
 pub record Near (z : ℤ) : Type 0 where

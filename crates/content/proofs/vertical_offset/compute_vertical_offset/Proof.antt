@@ -12,10 +12,10 @@ use mir.Facts.{toZ-ofZ, toZ-pos}
 use borrow.Author.Needs.{needs}
 use Rattle.types.specs.declared.style.VerticalPosition.{VerticalPosition}
 use Rattle.types.specs.declared.style.VerticalPosition.the-variants.{Top, Bottom}
-use Rattle.integers.proofs.Laws.{zarith}
+use Rattle.integers.proofs.Laws.{zarith, widens, widened}
 use Rattle.definitions.specs.VerticalOffset.{verticalOffset}
 use Rattle.definitions.proofs.VerticalOffsetLaws.{offset-fits}
-use Rattle.content.proofs.OffsetLaws.{wide, widened, near-byte, near-total, difference-fits, next-fits, CenterFits, center-fits}
+use Rattle.content.proofs.OffsetLaws.{near-byte, near-total, difference-fits, next-fits, CenterFits, center-fits}
 use Rattle.content.proofs.vertical_offset.compute_vertical_offset.Statement.{statement}
 use Rattle.content.proofs.vertical_offset.compute_vertical_offset.Tie as tie
 
@@ -52,10 +52,10 @@ module _ (s : tie.Start) where
   center-read l = simp (t-read, a-read, d-read) (center l)
 
 cast-ascent : tie.Need-cast-ascent
-cast-ascent c = let f = c .fits .ascent in simp toZ-ofZ (wide f)
+cast-ascent c = let f = c .fits .ascent in simp toZ-ofZ (widens f)
 
 cast-descent : tie.Need-cast-descent
-cast-descent c = let f = c .fits .descent in simp toZ-ofZ (wide f)
+cast-descent c = let f = c .fits .descent in simp toZ-ofZ (widens f)
 
 mul-total-newline-advance : tie.Need-mul-total-newline-advance
 mul-total-newline-advance c = omega (arith, t-limit c)
