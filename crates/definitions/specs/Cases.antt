@@ -24,7 +24,7 @@ use Rattle.definitions.specs.Bits.{lowBits, bits, number, readAt}
 use Rattle.definitions.specs.Lookup.{chain, unicodeChain, jumpTable, search}
 use Rattle.definitions.specs.Glyph.{fields, glyph}
 use Rattle.definitions.specs.VerticalOffset.{verticalOffset}
-use Rattle.definitions.specs.Utf8.{rowOf, first, decodeFrom, newlines}
+use Rattle.definitions.specs.Utf8.{table, rowOf, firstCharacter, decodeFrom, newlines}
 use Rattle.definitions.specs.Text.{point, joinAll, layout, aligned}
 use Rattle.definitions.specs.Runs.{afterPair, runs, glyphPixels}
 use Rattle.definitions.specs.Picture.{textPicture}
@@ -142,5 +142,5 @@ cases =
     ∷ []
 
 pub cases-hold : map (λ (c : Case). c .given) cases ≡ map (λ (c : Case). c .expected) cases
-unfolding cases openFont fontBoundingBox header headerOff signed8 T glyph fields search chain unicodeChain jumpTable readAt bits lowBits number rowOf first decodeFrom newlines joinAll layout aligned afterPair runs glyphPixels textPicture mapAt measure measureAligned draw drawBuffer
+unfolding cases openFont fontBoundingBox header headerOff signed8 T glyph fields search chain unicodeChain jumpTable readAt bits lowBits number table rowOf firstCharacter decodeFrom newlines joinAll layout aligned afterPair runs glyphPixels textPicture mapAt measure measureAligned draw drawBuffer
 cases-hold = refl
