@@ -1,0 +1,284 @@
+"""The cases of the program crates/replay: writes its data/cases.bin and its stdout, the latter worked out by model.py.
+
+Run it in the repository: python3 tools/cases.py. A case that document 01 or a decision answers in words has that answer
+beside it, and the script stops where model.py says otherwise.
+"""
+import struct
+import sys
+from pathlib import Path
+
+sys.path.insert(0, str(Path(__file__).parent))
+import model as m
+
+OPEN, FONT_BOX, MEASURE, ALIGNED, DRAW = range(5)
+
+# ---- fonts
+
+T = bytes([2, 0, 2, 2, 3, 3, 2, 3, 3, 2, 3, 0, 0, 3, 0, 3, 0, 0, 10, 0, 10, 0, 12,
+           45, 5, 138, 62, 2, 52, 5, 146, 60, 73, 0, 0])
+TAIL = bytes([2, 3, 0, 0, 3, 0, 3, 0, 0, 0, 0, 0, 0, 0])
+K = bytes([1, 0, 2, 2, 3, 3, 2, 3, 3]) + TAIL
+
+
+def but(font, *changes):
+    f = bytearray(font)
+    for i, v in changes:
+        f[i] = v
+    return bytes(f)
+
+
+F1 = K + bytes([255, 255, 0, 0])
+F2 = K + bytes([255, 255, 1, 0])
+F3 = K + bytes([255, 255, 0, 0]) * 65541 + bytes([0, 29, 255, 255, 1, 0, 6, 138, 62, 2, 0, 0])
+F4 = bytes([1, 0, 1, 1, 3, 3, 2, 3, 3]) + TAIL + bytes([45, 9, 162, 188, 7])
+F5 = bytes([1, 1, 2, 2, 3, 3, 2, 3, 3]) + TAIL + bytes([45, 9, 138, 60, 0, 8, 0])
+F6 = bytes([1, 1, 0, 0, 3, 3, 2, 3, 3]) + TAIL + bytes([45, 9, 138, 60]) + bytes(10)
+F7 = bytes([1, 0, 1, 7, 3, 3, 2, 3, 3]) + TAIL + bytes([45, 9, 137, 124])
+F8 = bytes([1, 0, 1, 1, 0, 0, 1, 1, 6]) + TAIL + bytes([45, 9, 0])
+F9 = bytes([1, 0, 2, 2, 5, 3, 8, 3, 3]) + TAIL + bytes([45, 9, 34, 130, 62, 2, 0])
+F9W = bytes([1, 0, 2, 2, 8, 3, 2, 3, 3]) + TAIL + bytes([45, 9, 2, 209, 71, 0])
+F10 = K + bytes([10, 5, 138, 62, 2, 13, 5, 138, 62, 2, 0, 0])
+F11 = K + bytes([33, 5, 24, 40, 0, 45, 5, 138, 62, 2, 0, 0])
+F12 = bytes([1, 0, 2, 2, 3, 3, 3, 3, 3]) + TAIL + bytes([45, 6, 74, 57, 4, 0, 52, 6, 75, 121, 6, 0, 0, 0])
+F15 = T + bytes([0, 4, 255, 255, 1, 0, 6, 138, 62, 2])
+
+CASES = []
+
+
+def say(answer):
+    """An answer as the program prints it."""
+    if answer[0] == 'no':
+        return 'no %d %d' % answer[1:]
+    words = ['ok']
+    for part in answer[1:]:
+        if part is None:
+            words.append('none')
+        elif isinstance(part, tuple):
+            words += map(str, part)
+        else:
+            words.append(str(part))
+    return ' '.join(words)
+
+
+def show_panel(panel, before, width, height):
+    """Small panels in full, larger ones by the number of changed bytes and a checksum."""
+    if len(panel) <= 400 and len(panel) == width * height:
+        rows = [' '.join('%d' % v for v in panel[r * width:(r + 1) * width]) for r in range(height)]
+        return ['  ' + row for row in rows]
+    total = 0
+    for i, v in enumerate(panel):
+        total = (total + (i + 1) * v) % 2 ** 32
+    return ['  changed %d sum %d' % (sum(a != b for a, b in zip(panel, before)), total)]
+
+
+def case(label, kind, font, text=b'', x=0, y=0, anchor=0, align=0, line=4, skip=False, ink=(1,), size=(8, 8), fill=0,
+         length=None, want=None):
+    text = text.encode('utf-8') if isinstance(text, str) else text
+    width, height = size
+    length = width * height if length is None else length
+    lines = []
+    if kind == OPEN:
+        answer = m.open_font(font)
+    elif kind == FONT_BOX:
+        answer = m.font_box(font, anchor)
+    elif kind == MEASURE:
+        answer = m.measure(font, text, x, y, anchor, line, skip)
+    elif kind == ALIGNED:
+        answer = m.measure_aligned(font, text, x, y, anchor, align, line, skip)
+    else:
+        before = bytes((fill + i % 3 * (fill > 0)) % 256 for i in range(length))
+        panel = bytearray(before)
+        answer = m.draw(font, text, x, y, anchor, ink, line, skip, width, height, panel)
+        lines = show_panel(panel, before, width, height)
+    if want is not None and say(answer) != want:
+        sys.exit('%s: model says %s, wanted %s' % (label, say(answer), want))
+    out = [label + ': ' + say(answer)] + lines
+    CASES.append((label, kind, font, text, x, y, anchor, align, line, skip, ink, size, fill, length, out))
+
+
+def segments(data):
+    """Long stretches of repeated bytes are stored once: pairs of a count and a piece."""
+    out = []
+    i = 0
+    while i < len(data):
+        best = (1, 1)
+        for unit in (1, 2, 3, 4):
+            piece = data[i:i + unit]
+            n = 1
+            while data[i + n * unit:i + (n + 1) * unit] == piece and len(piece) == unit:
+                n += 1
+            if n * unit > 24 and n * unit > best[0] * best[1]:
+                best = (n, unit)
+        n, unit = best
+        if n > 1:
+            out.append((n, data[i:i + unit]))
+        elif out and out[-1][0] == 1 and len(out[-1][1]) < 200:
+            out[-1] = (1, out[-1][1] + data[i:i + 1])
+        else:
+            out.append((1, data[i:i + 1]))
+        i += n * unit
+    return out
+
+
+def packed(data):
+    parts = segments(data)
+    out = struct.pack('<I', len(parts))
+    for n, piece in parts:
+        out += struct.pack('<II', n, len(piece)) + piece
+    return out
+
+
+def record(c):
+    label, kind, font, text, x, y, anchor, align, line, skip, ink, size, fill, length, _ = c
+    numbers = (kind, x, y, anchor, align, line, int(skip), len(ink) - 1, ink[0], ink[-1], size[0], size[1], fill, length)
+    return packed(label.encode()) + packed(font) + packed(text) + struct.pack('<IiiIIIIIIIIIII', *numbers)
+
+
+# ---- opening and the font box
+
+def header(label, font, want=None):
+    case('open ' + label, OPEN, font, want=want)
+    for anchor, name in enumerate(('Baseline', 'Top', 'Center', 'Bottom')):
+        case('font box ' + label + ', ' + name, FONT_BOX, font, anchor=anchor)
+
+
+header('T', T, 'ok 4')
+header('no bytes', b'', 'no 1 0')
+header('T cut to 22 bytes', T[:22], 'no 1 0')
+header('T cut to 23 bytes', T[:23], 'ok 4')
+header('1048576 bytes', but(bytes(1048576), (6, 1), (7, 1), (8, 1)), 'ok 1')
+header('1048577 bytes', but(bytes(1048577), (6, 1), (7, 1), (8, 1)), 'no 1 0')
+for i, name in enumerate(('zero runs', 'one runs', 'w', 'h', 'x', 'y', 'advance'), 2):
+    header(name + ' of 0 bits', but(T, (i, 0)), 'ok 4' if i < 6 else 'no 2 0')
+    header(name + ' of 8 bits', but(T, (i, 8)), 'ok 4')
+    header(name + ' of 9 bits', but(T, (i, 9)), 'no 2 0')
+    header(name + ' of 255 bits', but(T, (i, 255)), 'no 2 0')
+for i, name in ((9, 'width'), (10, 'height')):
+    header('box %s -128' % name, but(T, (i, 128)), 'no 2 0')
+    header('box %s -1' % name, but(T, (i, 255)), 'no 2 0')
+header('box 0 x 0', but(T, (9, 0), (10, 0)), 'ok 1')
+header('box height 127', but(T, (10, 127)), 'ok 128')
+header('box at -1, -2', but(T, (11, 255), (12, 254)))
+header('ascent -4', but(T, (13, 252)))
+header('ascent -128, descent 127', but(T, (13, 128), (14, 127)))
+header('descent -5', but(T, (14, 251)))
+
+# ---- from a code point to its glyph
+
+
+def look(label, font, text, want, **more):
+    case(label, MEASURE, font, text, want=want, **more)
+
+
+look('a found record without its jump', K + bytes([45]), '-', 'no 8 45')
+look('a found record without data', K + bytes([45, 2]), '-', 'no 8 45')
+look('a two-byte code without its jump', K + bytes([0, 4, 255, 255, 1, 0]), 'Ā', 'no 8 256')
+look('T cut to 33, A', T[:33], 'A', 'no 8 65')
+look('T, U+0100', T, 'Ā', 'no 7 256')
+look('T cut to 34, U+0100', T[:34], 'Ā', 'no 8 256')
+look('no records, U+0100', K, 'Ā', 'no 7 256')
+look('no records, A', K, 'A', 'no 8 65')
+look('F1, U+0100', F1, 'Ā', 'no 7 256')
+for n in (1, 2, 3):
+    look('F1 and %d bytes, U+0100' % n, F1 + bytes(n), 'Ā', 'no 7 256')
+look('F2, U+0100', F2, 'Ā', 'no 8 256')
+look('F3, U+0100', F3, 'Ā', 'no 8 256')
+look('T cut to 23, U+10000', T[:23], '\U00010000', 'no 7 65536')
+look('T cut to 23, a', T[:23], 'a', 'no 8 97')
+look('T cut to 23, U+0100', T[:23], 'Ā', 'no 8 256')
+look('offset a at the end, U+0060', but(T, (20, 12)), '`', 'no 7 96')
+look('offset a at the end, a', but(T, (20, 12)), 'a', 'no 8 97')
+look('offset A past the end, A', but(T, (18, 13)), 'A', 'no 8 65')
+look('offset A past the end, @', but(T, (18, 13)), '@', 'no 7 64')
+look('jump 1 into a record', but(T, (24, 1)), '4', 'no 8 52')
+look('jump 10 to the end record', but(T, (24, 10)), '4', 'no 7 52')
+look('table on the records', but(T, (22, 0)), 'Ā', 'no 8 256')
+look('code 0 without its jump', K + bytes([0, 4, 255, 255, 0, 0]), 'Ā', 'no 7 256')
+look('glyph count 0', but(T, (0, 0)), '4', 'ok 3 0 0 -2 2 2')
+look('glyph count 1', but(T, (0, 1)), '4', 'ok 3 0 0 -2 2 2')
+look('T and nine zeros, U+0000', T + bytes(9), '\0', 'ok -4 0 none')
+look('T, U+0000', T, '\0', 'no 8 0')
+look('300 records with jump 1, then the end', K + bytes([1]) * 300, '-', 'no 8 45')
+look('300 records with jump 1, then jump 0', K + bytes([1]) * 300 + bytes([0]), '-', 'no 7 45')
+look('300 records with jump 2, then found', K + bytes([1, 2]) * 300 + bytes([45, 9, 138, 62, 2, 0]), '-', 'ok 3 0 0 -3 2 1')
+look('a jump table of two entries', K + bytes([0, 8, 1, 5, 0, 6, 255, 255, 1, 0, 6, 138, 62, 2, 1, 6, 6, 138, 62, 2, 0, 0]),
+     'ĀĆ', 'ok 6 0 0 -3 5 1')
+look('limit equal to the code point', K + bytes([0, 4, 1, 0, 1, 0, 6, 138, 62, 2, 0, 0]), 'Ā', 'ok 3 0 0 -3 2 1')
+look('limit one below', K + bytes([0, 4, 1, 0, 1, 1, 6, 138, 62, 2, 0, 0]), 'ā', None)
+look('T with U+0100 added', F15, 'Ā', 'ok 3 0 0 -3 2 1')
+look('F8, all bits read', F8, '-', 'no 8 45')
+look('F8 and one byte', F8 + bytes(1), '-', 'ok -32 0 none')
+look('F8 with an advance of 5 bits', but(F8, (8, 5)), '-', 'ok -16 0 none')
+look('jump shorter than the glyph', but(T, (29, 3)), '4', 'ok 3 0 0 -2 2 2')
+look('F9, x of 8 bits on a byte edge', F9, '-', None)
+look('F9w, w of 8 bits on a byte edge', F9W, '-', 'ok 3 0 0 -3 2 1')
+
+# ---- texts and measuring
+
+look('the newline is never looked up', F10, '\n', 'ok 0 4 none')
+look('the carriage return is a letter', F10, '\r', 'ok 3 0 0 -3 2 1')
+look('T, carriage return', T, '\r', 'no 7 13')
+look('empty text', T, '', 'ok 0 0 none')
+look('-4', T, '-4', 'ok 6 0 0 -3 5 3')
+look('the empty glyph has no box', F11, '!-', 'ok 4 0 11 7 2 1', x=10, y=10)
+look('negative advance', F12, '-4', 'ok 2 0 0 3 3 1', y=4)
+for anchor, name in enumerate(('Baseline', 'Top', 'Center', 'Bottom')):
+    for text in ('-', '-\n', '\n-', '-\n\n4', '\n\n\n'):
+        look('%s, %r' % (name, text), T, text, None, anchor=anchor)
+        look('%s, line height 65535, %r' % (name, text), T, text, None, anchor=anchor, line=65535)
+look('newline at the end, Bottom', T, '-\n', 'ok 0 4 0 -7 2 1', anchor=3)
+look('newline at the end, Center', T, '-\n', 'ok 0 4 0 -3 2 1', anchor=2)
+look('ascent -4, Center', but(T, (13, 252)), '-', 'ok 3 0 0 -4 2 1', anchor=2)
+look('the anchor may pass the limit', T, '-', None, y=1048576, anchor=1)
+look('4096 letters', T, '-' * 4096, 'ok 12288 0 0 -3 12287 1')
+look('4097 letters', T, '-' * 4097, 'no 4 0')
+look('4096 newlines of 65535', T, '\n' * 4096, 'ok 0 268431360 none', line=65535)
+look('4095 newlines, Bottom', T, '\n' * 4095 + '-', None, line=65535, anchor=3)
+look('2048 letters of two bytes', T, 'é' * 2048, 'no 7 233')
+for name, bytes_ in (('C0 AF', [0xC0, 0xAF]), ('C1 BF', [0xC1, 0xBF]), ('E0 80 80', [0xE0, 0x80, 0x80]),
+                     ('E0 9F BF', [0xE0, 0x9F, 0xBF]), ('ED A0 80', [0xED, 0xA0, 0x80]), ('ED BF BF', [0xED, 0xBF, 0xBF]),
+                     ('F0 80 80 80', [0xF0, 0x80, 0x80, 0x80]), ('F0 8F BF BF', [0xF0, 0x8F, 0xBF, 0xBF]),
+                     ('F4 90 80 80', [0xF4, 0x90, 0x80, 0x80]), ('F5 80 80 80', [0xF5, 0x80, 0x80, 0x80]),
+                     ('FF', [0xFF]), ('80', [0x80]), ('C2', [0xC2]), ('C2 C2', [0xC2, 0xC2]), ('E2 82', [0xE2, 0x82]),
+                     ('E2 82 2D', [0xE2, 0x82, 0x2D]), ('F0 9F 98', [0xF0, 0x9F, 0x98]), ('C2 2D', [0xC2, 0x2D])):
+    look('not UTF-8: 2D ' + name, T, bytes([0x2D] + bytes_), 'no 4 0')
+for c in (0x7F, 0x80, 0x7FF, 0x800, 0xD7FF, 0xE000, 0xFFFF, 0x10000, 0x10FFFF):
+    look('U+%04X' % c, T, chr(c), None)
+look('skipped letters', T, '-A4Ā\U00010000', 'ok 6 0 0 -3 5 3', skip=True)
+look('skipping does not hide 8', T, '-\0', 'no 8 0', skip=True)
+look('the first refusal counts', T, 'BA', 'no 7 66')
+look('T, U+0100 skipped', T, 'Ā', 'ok 0 0 none', skip=True)
+for v, want in ((1048576, None), (-1048576, None), (1048577, 'no 5 0'), (-1048577, 'no 5 0'),
+                (2147483647, 'no 5 0'), (-2147483648, 'no 5 0')):
+    look('x %d' % v, T, '-', want, x=v)
+    look('y %d' % v, T, '-', want, y=v)
+look('line height 65536', T, '-', 'no 5 0', line=65536)
+look('line height 4294967295', T, '-', 'no 5 0', line=4294967295)
+look('line height 0', T, '-\n4', 'ok 3 0 0 -3 2 3', line=0)
+look('1 before 2 and 4', but(T, (4, 9))[:22], bytes([255]), 'no 1 0')
+look('2 before 4', but(T, (4, 9)), bytes([255]), 'no 2 0', x=1048577)
+look('4 before 5', T, bytes([255]), 'no 4 0', x=1048577, line=65536)
+look('5 before letters', T, 'A', 'no 5 0', x=1048577)
+
+# ---- aligned measuring
+
+for align, name in enumerate(('Left', 'Center', 'Right')):
+    for text in ('', '-', '-4', '-\n-4', '-4\n', '\n-4', 'A', '-\nA', '\n\n'):
+        case('%s, %r' % (name, text), ALIGNED, T, text, x=10, y=20, align=align)
+        case('%s, skipping, %r' % (name, text), ALIGNED, T, text, x=10, y=20, align=align, skip=True)
+    case('%s, a line without a box' % name, ALIGNED, F11, '!\n-!', x=10, y=20, align=align)
+    case('%s, negative advance' % name, ALIGNED, F12, '-4', y=4, align=align)
+    case('%s, several lines from the bottom' % name, ALIGNED, T, '-\n-44\n\n4', x=100, y=100, align=align, anchor=3)
+    case('%s, not UTF-8' % name, ALIGNED, T, bytes([255]), align=align, want='no 4 0')
+    case('%s, x off limits' % name, ALIGNED, T, '-', x=-1048577, align=align, want='no 5 0')
+    case('%s, 4096 letters' % name, ALIGNED, T, '4' * 4096, align=align)
+case('-4 centred', ALIGNED, T, '-4', x=10, y=20, align=1, want='ok 8 17 5 3')
+case('-4 from the right', ALIGNED, T, '-4', x=10, y=20, align=2, want='ok 5 17 5 3')
+case('F12 centred', ALIGNED, F12, '-4', y=4, align=1, want='ok -1 3 3 1')
+
+if __name__ == '__main__':
+    crate = Path(__file__).parent.parent / 'crates' / 'replay'
+    (crate / 'data').mkdir(parents=True, exist_ok=True)
+    (crate / 'data' / 'cases.bin').write_bytes(struct.pack('<I', len(CASES)) + b''.join(map(record, CASES)))
+    (crate / 'stdout').write_text(''.join(line + '\n' for c in CASES for line in c[-1]))
+    print(len(CASES), 'cases')

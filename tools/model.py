@@ -1,0 +1,254 @@
+"""Document 01's rules, written a second time in Python, to work out what the case programs must print.
+
+It is written from 01 alone and shares nothing with the crates. expected.py beside it prints the stored outputs.
+A refusal is ('no', number, code point).
+"""
+
+BASELINE, TOP, CENTER, BOTTOM = range(4)
+LEFT, MIDDLE, RIGHT = range(3)
+
+
+def signed(b):
+    return b - 256 if b > 127 else b
+
+
+def u16(f, i):
+    return f[i] * 256 + f[i + 1]
+
+
+def font_fault(f):
+    if not 23 <= len(f) <= 1048576:
+        return ('no', 1, 0)
+    if max(f[2:6]) > 8 or any(b == 0 or b > 8 for b in f[6:9]) or f[9] > 127 or f[10] > 127:
+        return ('no', 2, 0)
+    return None
+
+
+def offset(anchor, t, f):
+    a, d = signed(f[13]), signed(f[14])
+    if anchor == BASELINE:
+        return 0
+    if anchor == TOP:
+        return a + 1
+    if anchor == BOTTOM:
+        return d - t
+    n = t + a - d + 1
+    return (abs(n) // 2) * (1 if n >= 0 else -1) + d - t
+
+
+def open_font(f):
+    return font_fault(f) or ('ok', f[10] + 1)
+
+
+def font_box(f, anchor):
+    return font_fault(f) or ('ok', (signed(f[11]), offset(anchor, 0, f) - (f[10] + signed(f[12])), f[9], f[10]))
+
+
+class Refused(Exception):
+    pass
+
+
+def byte(f, i, c):
+    if i >= len(f):
+        raise Refused(8, c)
+    return f[i]
+
+
+def search(f, c):
+    """The byte at which the glyph of c begins."""
+    def move(at):
+        if at > len(f):
+            raise Refused(8, c)
+        return at
+    if c <= 255:
+        at = move(23 + (u16(f, 19) if c >= 97 else u16(f, 17) if c >= 65 else 0))
+        while byte(f, at, c) != c:
+            jump = byte(f, at + 1, c)
+            if jump == 0:
+                raise Refused(7, c)
+            at = move(at + jump)
+        return move(at + 2)
+    if c > 65535:
+        raise Refused(7, c)
+    table = move(23 + u16(f, 21))
+    total, i = 0, table
+    while True:
+        if i + 4 > len(f):
+            raise Refused(7, c)
+        total += u16(f, i)
+        if u16(f, i + 2) >= c:
+            break
+        i += 4
+    at = move(table + total)
+    while True:
+        code = byte(f, at, c) * 256 + byte(f, at + 1, c)
+        if code == 0:
+            raise Refused(7, c)
+        if code == c:
+            return move(at + 3)
+        jump = byte(f, at + 2, c)
+        if jump == 0:
+            raise Refused(7, c)
+        at = move(at + jump)
+
+
+class Bits:
+    def __init__(self, f, start, c):
+        self.f, self.start, self.p, self.c = f, start, 0, c
+
+    def read(self, b):
+        if self.p + b >= 8 * (len(self.f) - self.start):
+            raise Refused(8, self.c)
+        n = 0
+        for k in range(b):
+            at = self.p + k
+            n |= (self.f[self.start + at // 8] >> at % 8 & 1) << k
+        self.p += b
+        return n
+
+    def read_signed(self, b):
+        return self.read(b) - 2 ** (b - 1)
+
+
+def glyph(f, c):
+    bits = Bits(f, search(f, c), c)
+    w, h = bits.read(f[4]), bits.read(f[5])
+    x, y, d = bits.read_signed(f[6]), bits.read_signed(f[7]), bits.read_signed(f[8])
+    return w, h, x, y, d, bits
+
+
+def pixels(f, g):
+    w, h, _, _, _, bits = g
+    out = []
+    zeros, ones = bits.read(f[2]), bits.read(f[3])
+    while True:
+        out += [0] * zeros + [1] * ones
+        if len(out) >= w * h:
+            return out[:w * h]
+        if not bits.read(1):
+            zeros, ones = bits.read(f[2]), bits.read(f[3])
+
+
+def join(a, b):
+    if a is None or b is None:
+        return a or b
+    l, t = min(a[0], b[0]), min(a[1], b[1])
+    return (l, t, max(a[0] + a[2], b[0] + b[2]) - l, max(a[1] + a[3], b[1] + b[3]) - t)
+
+
+def box_at(x, y, g):
+    w, h = g[0], g[1]
+    return None if w == 0 or h == 0 else (x + g[2], y - (h + g[3]), w, h)
+
+
+def text_fault(text):
+    if len(text) > 4096:
+        return ('no', 4, 0)
+    try:
+        text.decode('utf-8')
+    except UnicodeDecodeError:
+        return ('no', 4, 0)
+    return None
+
+
+def place_fault(x, y, line):
+    ok = all(-1048576 <= v <= 1048576 for v in (x, y)) and 0 <= line <= 65535
+    return None if ok else ('no', 5, 0)
+
+
+def letter(f, c, skip, runs=False):
+    """The glyph, and its pixels if they are asked for; None where it is unknown and skipped."""
+    try:
+        g = glyph(f, c)
+    except Refused as r:
+        if skip and r.args[0] == 7:
+            return None
+        raise
+    ps = pixels(f, g) if runs and g[0] * g[1] else []
+    return g, ps
+
+
+def measure(f, text, x, y, anchor, line, skip):
+    fault = font_fault(f) or text_fault(text) or place_fault(x, y, line)
+    if fault:
+        return fault
+    cs = [ord(ch) for ch in text.decode('utf-8')]
+    y += offset(anchor, cs.count(10) * line, f)
+    ax, ay, box = 0, 0, None
+    try:
+        for c in cs:
+            if c == 10:
+                ax, ay = 0, ay + line
+                continue
+            got = letter(f, c, skip)
+            if got:
+                box = join(box, box_at(x + ax, y + ay, got[0]))
+                ax += got[0][4]
+    except Refused as r:
+        return ('no',) + r.args
+    return ('ok', (ax, ay), box)
+
+
+def measure_aligned(f, text, x, y, anchor, align, line, skip):
+    fault = font_fault(f) or text_fault(text) or place_fault(x, y, line)
+    if fault:
+        return fault
+    string = text.decode('utf-8')
+    y += offset(anchor, string.count('\n') * line, f)
+    box = None
+    try:
+        for number, row in enumerate(string.split('\n')):
+            ax, glyphs = 0, []
+            for ch in row:
+                got = letter(f, ord(ch), skip)
+                if got:
+                    glyphs.append((ax, got[0]))
+                    ax += got[0][4]
+            own = None
+            for gx, g in glyphs:
+                own = join(own, box_at(gx, 0, g))
+            shift = 0
+            if align == MIDDLE and own:
+                shift = -(own[2] // 2 + own[0])
+            if align == RIGHT:
+                shift = -(ax - 1)
+            for gx, g in glyphs:
+                box = join(box, box_at(x + shift + gx, y + number * line, g))
+    except Refused as r:
+        return ('no',) + r.args
+    return ('ok', box)
+
+
+def draw(f, text, x, y, anchor, ink, line, skip, width, height, panel):
+    """ink is (colour,) or (foreground, ground). The panel is changed in place."""
+    fault = font_fault(f)
+    if not fault and not (1 <= width <= 256 and 1 <= height <= 256 and len(panel) == width * height):
+        fault = ('no', 3, 0)
+    fault = fault or text_fault(text) or place_fault(x, y, line)
+    if not fault and len(ink) == 2 and f[1] == 0:
+        fault = ('no', 6, 0)
+    if fault:
+        return fault
+    cs = [ord(ch) for ch in text.decode('utf-8')]
+    y += offset(anchor, cs.count(10) * line, f)
+    ax, ay, box = 0, 0, None
+    try:
+        for c in cs:
+            if c == 10:
+                ax, ay = 0, ay + line
+                continue
+            got = letter(f, c, skip, runs=True)
+            if not got:
+                continue
+            g, ps = got
+            own = box_at(x + ax, y + ay, g)
+            if own:
+                for i, bit in enumerate(ps):
+                    px, py = own[0] + i % g[0], own[1] + i // g[0]
+                    if 0 <= px < width and 0 <= py < height and (bit or len(ink) == 2):
+                        panel[py * width + px] = ink[0] if bit else ink[1]
+            box = join(box, own)
+            ax += g[4]
+    except Refused as r:
+        return ('no',) + r.args
+    return ('ok', (ax, ay), box)
