@@ -10,7 +10,7 @@ use native.Mathlib.Numerals.{add-one}
 use lib.Dec.{eqb}
 use lib.ListN.{length, getD, drop, length-drop, take-append-drop, drop-of-length-le}
 use lib.Seq.{drop-cons, drop-drop, drop-append-seam, getD-drop}
-use borrow.Author.Tests.{ne-eqb}
+use borrow.Author.Tests.{eq-eqb, ne-eqb}
 use Rattle.integers.specs.Integers.{pick}
 use Rattle.definitions.specs.Utf8.{Row, rowOf, Character, character, malformed, sequence, firstCharacter, Scalar, encode, Decoded, characters, notUtf8, prepend, after, byteCount, decodeFrom, decode, isUtf8, codePoints, newlines}
 use Rattle.definitions.proofs.Utf8Rows.{if-less}
@@ -141,9 +141,15 @@ unfolding newlines
 newlines-append [] t = omega arith
 newlines-append (b ∷ s) t = omega (arith, newlines-append s t)
 
-pub newlines-next : (s : List ℕ) (i : ℕ) → i < length s → newlines (drop i s) ≡ pick (eqb (getD s i 0) 10) 1 0 + newlines (drop (i + 1) s)
+newlines-next : (s : List ℕ) (i : ℕ) → i < length s → newlines (drop i s) ≡ pick (eqb (getD s i 0) 10) 1 0 + newlines (drop (i + 1) s)
 unfolding newlines
 newlines-next s i h = rw (add-one, drop-cons s i 0)
+
+pub newlines-at : (s : List ℕ) (i : ℕ) → i < length s → getD s i 0 ≡ 10 → newlines (drop i s) ≡ 1 + newlines (drop (i + 1) s)
+newlines-at s i h e = newlines-next s i h ∙ simp (eq-eqb (getD s i 0) 10 e)
+
+pub newlines-past : (s : List ℕ) (i : ℕ) → i < length s → (getD s i 0 ≡ 10 → ⊥) → newlines (drop i s) ≡ newlines (drop (i + 1) s)
+newlines-past s i h e = newlines-next s i h ∙ simp (ne-eqb (getD s i 0) 10 e) (omega arith)
 
 pub newlines-end : (s : List ℕ) (i : ℕ) → length s ≤ i → newlines (drop i s) ≡ 0
 unfolding newlines
