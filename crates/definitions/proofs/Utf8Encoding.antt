@@ -31,6 +31,13 @@ module _ (c : ℕ) where
   unfolding encode
   encode-four h = simp (lt-leb c 0x7F (omega arith), lt-leb c 0x7FF (omega arith), lt-leb c 0xFFFF h)
 
+  pub encode-some : 1 ≤ length (encode c)
+  encode-some =
+      if-less c 0x80 (λ h. rw (encode-one (omega arith)) (omega arith)) (λ one.
+      if-less c 0x800 (λ h. rw (encode-two one (omega arith)) (omega arith)) (λ two.
+      if-less c 0x10000 (λ h. rw (encode-three two (omega arith)) (omega arith)) (λ three.
+      rw (encode-four three) (omega arith))))
+
 -- ---- nothing malformed is taken: the bytes of a character are the encoding of its code point
 
 -- The bytes a, b, c, d begin with the character of code point p, which takes k of them.

@@ -1,6 +1,7 @@
--- Decoding a text. A loop over its characters needs, at a position: what was read there (`position`, `next`), that the text is
--- not UTF-8 (`not-utf8`), and the end (`at-end`). Assumes nothing.
-use mathlib.Core.Path.{_≡_, refl, sym, ap, _∙_}
+-- Decoding a text. A text decodes exactly to the code points of which it is the encoding (`decoded`, `decode-encodeAll`). A
+-- loop over its characters needs, at a position: what was read there (`position`, `next`), that the text is not UTF-8
+-- (`not-utf8`), and the end (`at-end`). Assumes nothing.
+use mathlib.Core.Path.{_≡_, refl, sym, ap, subst, _∙_}
 use mathlib.Core.Bool.{true, false}
 use mathlib.Core.List.{List, [], _∷_, _++_}
 use mathlib.Core.Logic.{inl, inr}
@@ -8,13 +9,13 @@ use Prim.Native.Nat.{ℕ, zero, suc, _+_, _-_, _/_, _%_, _≤_, _<_}
 use native.Mathlib.Omega.{arith}
 use native.Mathlib.Numerals.{add-one}
 use lib.Dec.{eqb}
-use lib.ListN.{length, getD, drop, length-drop, take-append-drop, drop-of-length-le}
+use lib.ListN.{length, getD, drop, length-append, length-drop, take-append-drop, drop-of-length-le}
 use lib.Seq.{drop-cons, drop-drop, drop-append-seam, getD-drop}
-use borrow.Author.Tests.{ne-eqb}
+use borrow.Author.Tests.{eq-eqb, ne-eqb}
 use Rattle.integers.specs.Integers.{pick}
-use Rattle.definitions.specs.Utf8.{Row, rowOf, Character, character, malformed, sequence, firstCharacter, Scalar, encode, Decoded, characters, notUtf8, prepend, after, byteCount, decodeFrom, decode, isUtf8, codePoints, newlines}
+use Rattle.definitions.specs.Utf8.{Row, rowOf, Character, character, malformed, sequence, firstCharacter, Scalar, encode, encodeAll, Scalars, nil, cons, Decoded, characters, notUtf8, prepend, decodeFrom, decode, isUtf8, codePoints, newlines}
 use Rattle.definitions.proofs.Utf8Rows.{if-less}
-use Rattle.definitions.proofs.Utf8Encoding.{encode-one, encode-two, encode-three, encode-four, head, first-encode}
+use Rattle.definitions.proofs.Utf8Encoding.{encode-one, encode-two, encode-three, encode-four, encode-some, head, first-encode}
 
 -- ---- the character at a position
 
@@ -116,23 +117,53 @@ module _ (text : List ℕ) (at : ℕ) where
   pub none-malformed : {cs : List ℕ} → at < length text → decode (drop at text) ≡ characters cs → firstCharacter (drop at text) ≡ malformed → ⊥
   none-malformed h d e = let f = not-utf8 h e in let z : _≡_ {A = ℕ} 0 1 = cc in omega arith
 
--- There are no more characters than bytes.
-one-more : (x : Character) (s cs : List ℕ)
-    → ((n : ℕ) (ds : List ℕ) → decodeFrom n s ≡ characters ds → length ds ≤ length s)
-    → after x (decodeFrom (byteCount x - 1) s) ≡ characters cs → length cs ≤ suc (length s)
-one-more (character c k) s cs rest e =
-    let r = prepended c (decodeFrom (k - 1) s) cs e in
-    omega (arith, ap length (r .1 .0), rest (k - 1) (r .0) (r .1 .1))
-one-more malformed s cs rest e = let z : _≡_ {A = ℕ} 0 1 = cc in absurd (omega arith)
+-- ---- a text and its code points: each is had from the other
 
-counted-from : (n : ℕ) (s cs : List ℕ) → decodeFrom n s ≡ characters cs → length cs ≤ length s
-unfolding decodeFrom
-counted-from n [] cs e = let z : cs ≡ [] = cc in omega (arith, ap length z)
-counted-from (suc n) (b ∷ s) cs e = omega (arith, counted-from n s cs e)
-counted-from zero (b ∷ s) cs e = one-more (firstCharacter (b ∷ s)) s cs (λ n ds. counted-from n s ds) e
+pub decode-encodeAll : {cs : List ℕ} → Scalars cs → decode (encodeAll cs) ≡ characters cs
+unfolding encodeAll decodeFrom
+decode-encodeAll nil = refl
+decode-encodeAll (cons {c} {cs} h hs) = decode-encode c (encodeAll cs) h ∙ ap (prepend c) (decode-encodeAll hs)
+
+abbrev Encoded : ℕ → Type 0
+Encoded n = (s cs : List ℕ) → length s ≤ n → decode s ≡ characters cs → (s ≡ encodeAll cs) × Scalars cs
+
+encoded-none : (cs : List ℕ) → decode [] ≡ characters cs → ([] ≡ encodeAll cs) × Scalars cs
+unfolding decodeFrom encodeAll
+encoded-none cs e = let z : [] ≡ cs = cc in subst (λ (l : List ℕ). ([] ≡ encodeAll l) × Scalars l) z (refl, nil)
+
+joined : {s t u v : List ℕ} → s ≡ u → t ≡ v → s ++ t ≡ u ++ v
+joined e f = cc
+
+encoded-next : (n : ℕ) → Encoded n → Encoded (suc n)
+unfolding encodeAll
+encoded-next n again [] cs h e = encoded-none cs e
+encoded-next n again (b ∷ s) cs h e = by (firstCharacter (b ∷ s)) refl
+  where
+    by : (x : Character) → firstCharacter (b ∷ s) ≡ x → (b ∷ s ≡ encodeAll cs) × Scalars cs
+    by (character c k) f =
+        let p = head (b ∷ s) f in
+        let r = prepended c (decode (drop k (b ∷ s))) cs (sym (decode-first (b ∷ s) f) ∙ e) in
+        let rest = again (drop k (b ∷ s)) (r .0) (omega (arith, length-drop k (b ∷ s), p .some)) (r .1 .1) in
+        subst (λ (l : List ℕ). (b ∷ s ≡ encodeAll l) × Scalars l) (sym (r .1 .0))
+        (sym (take-append-drop k (b ∷ s)) ∙ joined (p .bytes) (rest .0), cons (p .scalar) (rest .1))
+    by malformed f = absurd (none-malformed (b ∷ s) 0 (omega arith) e f)
+
+encoded : (n : ℕ) → Encoded n
+encoded zero [] cs h e = encoded-none cs e
+encoded zero (b ∷ s) cs h e = absurd (omega arith)
+encoded (suc n) s cs h e = encoded-next n (encoded n) s cs h e
+
+pub decoded : (s : List ℕ) {cs : List ℕ} → decode s ≡ characters cs → (s ≡ encodeAll cs) × Scalars cs
+decoded s {cs} e = encoded (length s) s cs (omega arith) e
+
+-- There are no more characters than bytes.
+encoded-length : (cs : List ℕ) → length cs ≤ length (encodeAll cs)
+unfolding encodeAll
+encoded-length [] = omega arith
+encoded-length (c ∷ cs) = omega (arith, length-append (encode c) (encodeAll cs), encoded-length cs, encode-some c)
 
 pub character-count : (s : List ℕ) {cs : List ℕ} → decode s ≡ characters cs → length cs ≤ length s
-character-count s {cs} e = counted-from 0 s cs e
+character-count s {cs} e = omega (arith, ap length (decoded s e .0), encoded-length cs)
 
 -- ---- newlines: the byte 10 is no part of a longer sequence, so bytes and code points have as many
 
@@ -141,9 +172,15 @@ unfolding newlines
 newlines-append [] t = omega arith
 newlines-append (b ∷ s) t = omega (arith, newlines-append s t)
 
-pub newlines-next : (s : List ℕ) (i : ℕ) → i < length s → newlines (drop i s) ≡ pick (eqb (getD s i 0) 10) 1 0 + newlines (drop (i + 1) s)
+newlines-next : (s : List ℕ) (i : ℕ) → i < length s → newlines (drop i s) ≡ pick (eqb (getD s i 0) 10) 1 0 + newlines (drop (i + 1) s)
 unfolding newlines
 newlines-next s i h = rw (add-one, drop-cons s i 0)
+
+pub newlines-at : (s : List ℕ) (i : ℕ) → i < length s → getD s i 0 ≡ 10 → newlines (drop i s) ≡ 1 + newlines (drop (i + 1) s)
+newlines-at s i h e = newlines-next s i h ∙ simp (eq-eqb (getD s i 0) 10 e)
+
+pub newlines-past : (s : List ℕ) (i : ℕ) → i < length s → (getD s i 0 ≡ 10 → ⊥) → newlines (drop i s) ≡ newlines (drop (i + 1) s)
+newlines-past s i h e = newlines-next s i h ∙ simp (ne-eqb (getD s i 0) 10 e) (omega arith)
 
 pub newlines-end : (s : List ℕ) (i : ℕ) → length s ≤ i → newlines (drop i s) ≡ 0
 unfolding newlines
@@ -160,32 +197,10 @@ newlines-encode c =
     ne : (b : ℕ) → 0x80 ≤ b → eqb b 10 ≡ false
     ne b h = ne-eqb b 10 (λ e. omega arith)
 
-abbrev Agree : ℕ → Type 0
-Agree n = (s cs : List ℕ) → length s ≤ n → decode s ≡ characters cs → newlines s ≡ newlines cs
-
-agree-none : (cs : List ℕ) → decode [] ≡ characters cs → newlines [] ≡ newlines cs
-unfolding decodeFrom
-agree-none cs e = let z : cs ≡ [] = cc in rw z
-
-agree-next : (n : ℕ) → Agree n → Agree (suc n)
-unfolding newlines
-agree-next n again [] cs h e = agree-none cs e
-agree-next n again (b ∷ s) cs h e = by (firstCharacter (b ∷ s)) refl
-  where
-    by : (x : Character) → firstCharacter (b ∷ s) ≡ x → newlines (b ∷ s) ≡ newlines cs
-    by (character c k) f =
-        let p = head (b ∷ s) f in
-        let r = prepended c (decode (drop k (b ∷ s))) cs (sym (decode-first (b ∷ s) f) ∙ e) in
-        let bytes : encode c ++ drop k (b ∷ s) ≡ b ∷ s = ap (λ (l : List ℕ). l ++ drop k (b ∷ s)) (sym (p .bytes)) ∙ take-append-drop k (b ∷ s) in
-        let rest = again (drop k (b ∷ s)) (r .0) (omega (arith, length-drop k (b ∷ s), p .some)) (r .1 .1) in
-        ap newlines (sym bytes) ∙ newlines-append (encode c) (drop k (b ∷ s)) ∙ omega (arith, newlines-encode c, ap newlines (r .1 .0), rest)
-    by malformed f =
-        let g = none-malformed (b ∷ s) 0 (omega arith) e f in absurd g
-
-agree : (n : ℕ) → Agree n
-agree zero [] cs h e = agree-none cs e
-agree zero (b ∷ s) cs h e = absurd (omega arith)
-agree (suc n) s cs h e = agree-next n (agree n) s cs h e
+newlines-encodeAll : (cs : List ℕ) → newlines (encodeAll cs) ≡ newlines cs
+unfolding encodeAll newlines
+newlines-encodeAll [] = refl
+newlines-encodeAll (c ∷ cs) = omega (arith, newlines-append (encode c) (encodeAll cs), newlines-encode c, newlines-encodeAll cs)
 
 pub newlines-decoded : (text : List ℕ) {cs : List ℕ} → decode text ≡ characters cs → newlines text ≡ newlines cs
-newlines-decoded text {cs} e = agree (length text) text cs (omega arith) e
+newlines-decoded text {cs} e = ap newlines (decoded text e .0) ∙ newlines-encodeAll cs

@@ -1,7 +1,7 @@
 -- Document 01: a text is UTF-8, Unicode's well-formed sequences. From the Unicode Standard, section 3.9: table 3-7, the
 -- well-formed sequences of bytes, and table 3-6, how a sequence's bits make the code point.
 use mathlib.Core.Bool.{Bool, true, false, _&&_}
-use mathlib.Core.List.{List, [], _∷_}
+use mathlib.Core.List.{List, [], _∷_, _++_}
 use mathlib.Core.Logic.{_⊎_}
 use Prim.Native.Nat.{ℕ, zero, suc, _+_, _-_, _*_, _/_, _%_, _≤_}
 use lib.Dec.{leb, eqb}
@@ -127,3 +127,12 @@ encode c =
     (pick (leb c 0x7FF) ((0xC0 + c / 64) ∷ (0x80 + c % 64) ∷ [])
     (pick (leb c 0xFFFF) ((0xE0 + c / 4096) ∷ (0x80 + c / 64 % 64) ∷ (0x80 + c % 64) ∷ [])
     ((0xF0 + c / 262144) ∷ (0x80 + c / 4096 % 64) ∷ (0x80 + c / 64 % 64) ∷ (0x80 + c % 64) ∷ [])))
+
+-- .. and of code points in order, each of which has an encoding
+unfoldable pub encodeAll : List ℕ → List ℕ
+encodeAll [] = []
+encodeAll (c ∷ cs) = encode c ++ encodeAll cs
+
+pub data Scalars : List ℕ → Type 0 where
+  nil : Scalars []
+  cons : {c : ℕ} {cs : List ℕ} → Scalar c → Scalars cs → Scalars (c ∷ cs)

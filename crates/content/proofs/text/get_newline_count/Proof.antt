@@ -1,14 +1,13 @@
 -- `text::get_newline_count` meets its contract. The loop keeps that the newlines counted and those among the bytes from `i`
 -- on are all; bytes and code points have as many (`newlines-decoded`). Assumes nothing.
-use mathlib.Core.Path.{_≡_, refl, sym, _∙_}
+use mathlib.Core.Path.{_≡_, _∙_}
 use mathlib.Core.Logic.{⊎-elim}
 use Prim.Native.Nat.{_+_, _-_, _≤_}
 use native.Mathlib.Omega.{arith}
 use lib.ListN.{length, drop}
 use borrow.Author.Needs.{needs}
-use borrow.Author.Tests.{eq-eqb, ne-eqb}
 use Rattle.definitions.specs.Utf8.{decode, newlines}
-use Rattle.definitions.proofs.Utf8Laws.{newlines-next, newlines-end, newlines-decoded, utf8-characters}
+use Rattle.definitions.proofs.Utf8Laws.{newlines-at, newlines-past, newlines-end, newlines-decoded, utf8-characters}
 use Rattle.content.proofs.text.get_newline_count.Statement.{statement}
 use Rattle.content.proofs.text.get_newline_count.Tie as tie
 
@@ -35,9 +34,10 @@ loop-less c = search needs
 
 loop-again : tie.Need-loop-again Inv-loop μ-loop
 loop-again c =
+    let s = c .before .before .before .before .args .text .now in
     let l = c .before .before .before .loop in
-    let n = newlines-next (c .before .before .before .before .args .text .now) (l .i) (c .before .before .loop-test .taken) in
-    ⊎-elim (λ w. let m = simp (eq-eqb _ _ (w .0 .taken)) at n in omega arith) (λ w. let m = simp (ne-eqb _ _ (w .0 .left)) at n in omega arith) (c .if1 .came)
+    let h = c .before .before .loop-test .taken in
+    ⊎-elim (λ w. omega (arith, newlines-at s (l .i) h (w .0 .taken))) (λ w. omega (arith, newlines-past s (l .i) h (w .0 .left))) (c .if1 .came)
 
 returns : tie.Need-returns Inv-loop μ-loop
 returns c =

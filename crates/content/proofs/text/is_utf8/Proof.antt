@@ -1,7 +1,7 @@
 -- `text::is_utf8` meets its contract. The loop keeps that the whole text decodes exactly if the bytes from `at` on do; each
 -- character that is read moves `at` over its bytes (`position`). Assumes nothing.
 use mathlib.Core.Path.{_≡_, refl, sym, ap, _∙_}
-use Prim.Native.Nat.{_+_, _-_, _≤_}
+use Prim.Native.Nat.{_-_, _≤_}
 use native.Mathlib.Omega.{arith}
 use lib.ListN.{length, drop}
 use borrow.Author.Needs.{needs}
