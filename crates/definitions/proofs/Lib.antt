@@ -8,3 +8,6 @@ pub mod LookupLaws
 pub mod FramebufferLaws
 pub mod TextLaws
 pub mod PictureLaws
+pub mod RefusalLaws
+pub mod Agreement
+pub mod AgreementCase
