@@ -11,3 +11,6 @@ pub mod VerticalOffsetLaws
 pub mod FramebufferLaws
 pub mod TextLaws
 pub mod PictureLaws
+pub mod RefusalLaws
+pub mod Agreement
+pub mod AgreementCase
