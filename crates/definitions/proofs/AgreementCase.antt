@@ -17,7 +17,7 @@ use Rattle.definitions.specs.Header.{header, headerOff}
 use Rattle.definitions.specs.Bits.{lowBits, bits, number, readAt}
 use Rattle.definitions.specs.Lookup.{chain, search}
 use Rattle.definitions.specs.Glyph.{fields, glyph}
-use Rattle.definitions.specs.Utf8.{rowOf, first, decodeFrom, newlines}
+use Rattle.definitions.specs.Utf8.{table, rowOf, firstCharacter, decodeFrom, newlines}
 use Rattle.definitions.specs.Text.{point, joinAll, layout}
 use Rattle.definitions.specs.Runs.{pixels, afterPair, runs, glyphPixels}
 use Rattle.definitions.specs.Picture.{textPicture}
@@ -51,7 +51,7 @@ dimensions = record {
 }
 
 pub supposed : TwoDrawings T added request small large dimensions
-unfolding T header headerOff signed8 glyph fields search chain readAt bits lowBits number rowOf first decodeFrom newlines joinAll layout afterPair runs glyphPixels draw
+unfolding T header headerOff signed8 glyph fields search chain readAt bits lowBits number table rowOf firstCharacter decodeFrom newlines joinAll layout afterPair runs glyphPixels draw
 supposed = record { first-within = refl; second-within = refl; as-wide = omega arith; as-high = omega arith; first-succeeds = refl }
 
 -- The drawing changes pixels: the left one of "-" in both, and that of "4" in the second.
@@ -63,7 +63,7 @@ changed =
     ∷ []
 
 pub changes : changed ≡ 1 ∷ 1 ∷ 1 ∷ []
-unfolding T header headerOff signed8 glyph fields search chain readAt bits lowBits number rowOf first decodeFrom newlines joinAll layout afterPair runs glyphPixels textPicture mapAt drawBuffer
+unfolding T header headerOff signed8 glyph fields search chain readAt bits lowBits number table rowOf firstCharacter decodeFrom newlines joinAll layout afterPair runs glyphPixels textPicture mapAt drawBuffer
 changes = refl
 
 module _ (runs-longer : (font more : List ℕ) (head : FontReader) (g : GlyphReader) (ps : List ℕ) → glyphPixels font head g ≡ pixels ps → glyphPixels (font ++ more) head g ≡ pixels ps) where
