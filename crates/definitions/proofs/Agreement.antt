@@ -1,6 +1,6 @@
 -- Demand 3: two plain drawings of one text agree. A longer font answers each letter that the first drew with the same glyph and
 -- the same pixels; so both texts are laid out alike and make one picture, and the framebuffer's law does the rest.
--- Assumes nothing.
+-- Assumes that a longer font gives the same runs, which is a parameter until RunsLaws.antt has it.
 use mathlib.Core.Path.{_≡_, refl, sym, ap, subst, _∙_}
 use mathlib.Core.Bool.{false, _||_, not}
 use mathlib.Core.List.{List, [], _∷_, _++_}
