@@ -5,3 +5,4 @@ pub mod JoinLaws
 pub mod BitsLaws
 pub mod GlyphLaws
 pub mod LookupLaws
+pub mod RunsLaws
