@@ -6,3 +6,5 @@ pub mod BitsLaws
 pub mod GlyphLaws
 pub mod LookupLaws
 pub mod RunsLaws
+pub mod FramebufferLaws
+pub mod TextLaws

@@ -11,6 +11,7 @@ pub mod Text
 pub mod Runs
 pub mod Picture
 pub mod Framebuffer
+pub mod TextSteps
 pub mod Limits
 pub mod Calls
 pub mod FontT

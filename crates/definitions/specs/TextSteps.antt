@@ -1,0 +1,124 @@
+-- The same text, letter by letter, as a loop goes: each loop's state, what one code point makes of it, and the fold over the
+-- code points. TextLaws.antt proves that these are the layouts of Text.antt.
+use mathlib.Core.List.{List, [], _∷_}
+use Prim.Native.Nat.{ℕ}
+use lib.Dec.{eqb}
+use lib.IntN.{ℤ, pos, _+ℤ_}
+use Rattle.integers.specs.Integers.{pick}
+use Rattle.types.specs.declared.geometry.BoundingBox.{BoundingBox}
+use Rattle.types.specs.declared.geometry.BoundingBox.the-variants.{None, Some}
+use Rattle.types.specs.declared.geometry.Point.{Point}
+use Rattle.types.specs.declared.geometry.Rectangle.{Rectangle}
+use Rattle.types.specs.declared.geometry.RenderedDimensions.{RenderedDimensions}
+use Rattle.types.specs.declared.glyph_reader.GlyphReader.{GlyphReader}
+use Rattle.types.specs.declared.style.FontColor.{FontColor}
+use Rattle.types.specs.declared.style.HorizontalAlignment.{HorizontalAlignment}
+use Rattle.definitions.specs.Refusals.{Outcome, success, refused}
+use Rattle.definitions.specs.Geometry.{left, top, join}
+use Rattle.definitions.specs.Text.{Letter, shows, nothing, stops, boxAt, point, newline, horizontalOffset}
+use Rattle.definitions.specs.Picture.{boxPicture}
+use Rattle.definitions.specs.Framebuffer.{shown}
+
+-- A success goes on, a refusal stops.
+abbrev pub andThen : {A B : Type 0} → Outcome A → (A → Outcome B) → Outcome B
+andThen (success a) rest = rest a
+andThen (refused n c) rest = refused n c
+
+-- ---- measuring: the state is the advance and the box so far
+
+abbrev pub newlineStep : ℕ → RenderedDimensions → RenderedDimensions
+newlineStep lineHeight d = record { advance = newline lineHeight (d .advance); «bounding_box» = d .«bounding_box» }
+
+-- the box of a glyph that comes next
+abbrev pub nextBox : Point → RenderedDimensions → GlyphReader → BoundingBox
+nextBox origin d g = boxAt (origin .x +ℤ d .advance .x) (origin .y +ℤ d .advance .y) g
+
+abbrev pub glyphStep : Point → RenderedDimensions → GlyphReader → RenderedDimensions
+glyphStep origin d g = record {
+  advance = point (d .advance .x +ℤ g .advance) (d .advance .y);
+  «bounding_box» = join (d .«bounding_box») (nextBox origin d g);
+}
+
+abbrev pub letterStep : Point → RenderedDimensions → Letter → Outcome RenderedDimensions
+letterStep origin d (shows g) = success (glyphStep origin d g)
+letterStep origin d nothing = success d
+letterStep origin d (stops n c) = refused n c
+
+abbrev pub step : (ℕ → Letter) → ℕ → Point → RenderedDimensions → ℕ → Outcome RenderedDimensions
+step letters lineHeight origin d c = pick (eqb c 10) (success (newlineStep lineHeight d)) (letterStep origin d (letters c))
+
+unfoldable pub measureFrom : (ℕ → Letter) → ℕ → Point → RenderedDimensions → List ℕ → Outcome RenderedDimensions
+measureFrom letters lineHeight origin d [] = success d
+measureFrom letters lineHeight origin d (c ∷ cs) =
+    andThen (step letters lineHeight origin d c) (λ next. measureFrom letters lineHeight origin next cs)
+
+-- where a text begins
+abbrev pub start : RenderedDimensions
+start = record { advance = point (pos 0) (pos 0); «bounding_box» = None }
+
+-- ---- drawing: the framebuffer too is carried along
+
+-- A glyph that comes next is shown; other letters draw nothing.
+abbrev pub letterShown : ℕ → FontColor → (GlyphReader → List ℕ) → Point → RenderedDimensions → Letter → List ℕ → List ℕ
+letterShown width color pixelsOf origin d (shows g) buffer =
+    shown width (boxPicture color (pixelsOf g) (nextBox origin d g)) buffer
+letterShown width color pixelsOf origin d nothing buffer = buffer
+letterShown width color pixelsOf origin d (stops n c) buffer = buffer
+
+abbrev pub stepShown : ℕ → FontColor → (GlyphReader → List ℕ) → (ℕ → Letter) → Point → RenderedDimensions → ℕ → List ℕ → List ℕ
+stepShown width color pixelsOf letters origin d c buffer =
+    pick (eqb c 10) buffer (letterShown width color pixelsOf origin d (letters c) buffer)
+
+-- a refusal leaves what the letters before it drew
+abbrev pub orKept : Outcome RenderedDimensions → List ℕ → (RenderedDimensions → List ℕ) → List ℕ
+orKept (success d) buffer rest = rest d
+orKept (refused n c) buffer rest = buffer
+
+unfoldable pub drawFrom : ℕ → FontColor → (GlyphReader → List ℕ) → (ℕ → Letter) → ℕ → Point → RenderedDimensions → List ℕ → List ℕ → List ℕ
+drawFrom width color pixelsOf letters lineHeight origin d buffer [] = buffer
+drawFrom width color pixelsOf letters lineHeight origin d buffer (c ∷ cs) =
+    let after = stepShown width color pixelsOf letters origin d c buffer in
+    orKept (step letters lineHeight origin d c) after (λ next. drawFrom width color pixelsOf letters lineHeight origin next after cs)
+
+-- ---- aligned measuring: a line is moved once it has ended
+
+abbrev pub movedRectangle : ℤ → ℤ → Rectangle → Rectangle
+movedRectangle x y r = record { «top_left» = record { x = x +ℤ left r; y = y +ℤ top r }; size = r .size }
+
+abbrev pub movedBox : ℤ → ℤ → BoundingBox → BoundingBox
+movedBox x y None = None
+movedBox x y (Some r) = Some (movedRectangle x y r)
+
+pub record LineState : Type 0 where
+  pub x : ℤ  -- the advance of the line
+  pub line : BoundingBox  -- the line's box, counted from the line's start
+  pub y : ℤ  -- the advance so far in y
+  pub box : BoundingBox  -- the box of the lines that have ended
+
+-- the box with the line, moved to its place
+abbrev pub withLine : HorizontalAlignment → Point → LineState → BoundingBox
+withLine a origin s =
+    join (s .box) (movedBox (origin .x +ℤ horizontalOffset a (s .line) (s .x)) (origin .y +ℤ s .y) (s .line))
+
+abbrev pub newlineAligned : HorizontalAlignment → ℕ → Point → LineState → LineState
+newlineAligned a lineHeight origin s = record { x = pos 0; line = None; y = s .y +ℤ pos lineHeight; box = withLine a origin s }
+
+abbrev pub glyphAligned : LineState → GlyphReader → LineState
+glyphAligned s g = record { x = s .x +ℤ g .advance; line = join (s .line) (boxAt (s .x) (pos 0) g); y = s .y; box = s .box }
+
+abbrev pub letterAligned : LineState → Letter → Outcome LineState
+letterAligned s (shows g) = success (glyphAligned s g)
+letterAligned s nothing = success s
+letterAligned s (stops n c) = refused n c
+
+abbrev pub stepAligned : (ℕ → Letter) → HorizontalAlignment → ℕ → Point → LineState → ℕ → Outcome LineState
+stepAligned letters a lineHeight origin s c =
+    pick (eqb c 10) (success (newlineAligned a lineHeight origin s)) (letterAligned s (letters c))
+
+unfoldable pub measureAlignedFrom : (ℕ → Letter) → HorizontalAlignment → ℕ → Point → LineState → List ℕ → Outcome BoundingBox
+measureAlignedFrom letters a lineHeight origin s [] = success (withLine a origin s)
+measureAlignedFrom letters a lineHeight origin s (c ∷ cs) =
+    andThen (stepAligned letters a lineHeight origin s c) (λ next. measureAlignedFrom letters a lineHeight origin next cs)
+
+abbrev pub startAligned : LineState
+startAligned = record { x = pos 0; line = None; y = pos 0; box = None }
