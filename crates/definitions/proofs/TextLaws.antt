@@ -77,7 +77,7 @@ module _ (width : ℕ) (color : FontColor) (pixelsOf : GlyphReader → List ℕ)
 
   draw-place : (cs : List ℕ) → Draws cs → (d : RenderedDimensions) (buffer : List ℕ) (l : Letter)
       → orKept (letterStep origin d l) (letterShown width color pixelsOf origin d l buffer) (λ next.
-        drawFrom width color pixelsOf letters lineHeight origin next (letterShown width color pixelsOf origin d l buffer) cs)
+      drawFrom width color pixelsOf letters lineHeight origin next (letterShown width color pixelsOf origin d l buffer) cs)
       ≡ on buffer (place origin (d .advance) l (λ next. layout letters lineHeight origin next cs))
   unfolding textPicture
   draw-place cs rest d buffer (shows g) =
@@ -91,7 +91,7 @@ module _ (width : ℕ) (color : FontColor) (pixelsOf : GlyphReader → List ℕ)
 
   draw-char : (cs : List ℕ) → Draws cs → (d : RenderedDimensions) (buffer : List ℕ) (t : Bool) (l : Letter)
       → orKept (pick t (success (newlineStep lineHeight d)) (letterStep origin d l)) (pick t buffer (letterShown width color pixelsOf origin d l buffer)) (λ next.
-        drawFrom width color pixelsOf letters lineHeight origin next (pick t buffer (letterShown width color pixelsOf origin d l buffer)) cs)
+      drawFrom width color pixelsOf letters lineHeight origin next (pick t buffer (letterShown width color pixelsOf origin d l buffer)) cs)
       ≡ on buffer (pick t (layout letters lineHeight origin (newline lineHeight (d .advance)) cs) (place origin (d .advance) l (λ next. layout letters lineHeight origin next cs)))
   draw-char cs rest d buffer true l = rest (newlineStep lineHeight d) buffer
   draw-char cs rest d buffer false l = draw-place cs rest d buffer l

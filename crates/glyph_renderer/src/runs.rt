@@ -1,0 +1,68 @@
+// A glyph's runs, pair by pair.
+ghost use mathlib.Core.Path.{_≡_};
+ghost use Prim.Native.Nat.{_+_};
+ghost use Rattle.glyph_renderer.specs.RunReads.{Readable, firstPair, nextPair};
+use font_reader::glyph_reader::BitReader;
+use font_reader::glyph_reader::UnsignedRead;
+
+// A zero run and a one run, and the bit of the font after their numbers.
+pub struct Runs {
+    pub zeros: u8,
+    pub ones: u8,
+    pub bit_pos: usize,
+}
+
+impl Runs {
+    // the pixels of both
+    pub fn count(self) -> usize
+        ensures { λ r. ⌜ r ≡ self .zeros + self .ones ⌝ }
+    {
+        (self.zeros as usize) + (self.ones as usize)
+    }
+}
+
+// A pair of runs, or the font ends.
+pub enum RunsRead {
+    Pair(Runs),
+    Ends,
+}
+
+// Both numbers of a pair, m0 and m1 bits wide.
+pub fn first_pair(font: &[u8], m0: u8, m1: u8, start: usize) -> RunsRead
+    requires { ⌜ Readable (now font) m0 m1 start ⌝ }
+    ensures { λ r. ⌜ r ≡ firstPair (now (font .entry)) m0 m1 start ⌝ }
+{
+    let reader = BitReader { bit_pos: start };
+    let UnsignedRead::Value(zeros, after_zeros) = reader.read_unsigned(font, m0) else {
+        return RunsRead::Ends;
+    };
+    let UnsignedRead::Value(ones, after_ones) = after_zeros.read_unsigned(font, m1) else {
+        return RunsRead::Ends;
+    };
+    RunsRead::Pair(Runs {
+        zeros,
+        ones,
+        bit_pos: after_ones.bit_pos,
+    })
+}
+
+// The pair after a pair: one bit says whether it is repeated or a new one follows.
+pub fn next_pair(font: &[u8], m0: u8, m1: u8, runs: Runs) -> RunsRead
+    requires { ⌜ Readable (now font) m0 m1 (runs .«bit_pos») ⌝ }
+    ensures { λ r. ⌜ r ≡ nextPair (now (font .entry)) m0 m1 runs ⌝ }
+{
+    let reader = BitReader {
+        bit_pos: runs.bit_pos,
+    };
+    let UnsignedRead::Value(repeat, after_repeat) = reader.read_unsigned(font, 1) else {
+        return RunsRead::Ends;
+    };
+    if repeat == 1 {
+        return RunsRead::Pair(Runs {
+            zeros: runs.zeros,
+            ones: runs.ones,
+            bit_pos: after_repeat.bit_pos,
+        });
+    }
+    first_pair(font, m0, m1, after_repeat.bit_pos)
+}
