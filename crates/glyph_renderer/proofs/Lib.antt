@@ -1,1 +1,2 @@
 pub mod RunReadsLaws
+pub mod VisibleLaws

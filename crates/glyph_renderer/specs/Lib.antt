@@ -1,1 +1,2 @@
 pub mod RunReads
+pub mod Visible

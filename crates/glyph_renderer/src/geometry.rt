@@ -1,0 +1,40 @@
+// Which rows and columns of a glyph lie on the framebuffer.
+ghost use mathlib.Core.Path.{_≡_};
+ghost use lib.IntN.{pos, negsuc};
+ghost use lib.Signed.{_≤ℤ_};
+ghost use Rattle.glyph_renderer.specs.Visible.{clamped, visible};
+
+// The visible part of a row of pixels: `count` of them from `first` on, the pixels before them being hidden.
+pub struct Stretch {
+    pub first: usize,
+    pub count: usize,
+    pub hidden: usize,
+}
+
+// The nearest number from 0 to `limit`.
+fn clamp(x: i32, limit: usize) -> usize
+    ensures { λ r. ⌜ r ≡ clamped x limit ⌝ }
+{
+    if x < 0 {
+        return 0;
+    }
+    let n = x as usize;
+    if limit < n {
+        return limit;
+    }
+    n
+}
+
+// The part of `length` pixels from `start` on that lies from 0 to before `limit`.
+pub fn get_visible(start: i32, length: u8, limit: usize) -> Stretch
+    requires { ⌜ (negsuc 1073741823 ≤ℤ start) × (start ≤ℤ pos 1073741823) ⌝ }
+    ensures { λ r. ⌜ r ≡ visible start length limit ⌝ }
+{
+    let first = clamp(start, limit);
+    let last = clamp(start + (length as i32), limit);
+    Stretch {
+        first,
+        count: last - first,
+        hidden: clamp(0 - start, length as usize),
+    }
+}
