@@ -1,2 +1,3 @@
 pub mod RunReadsLaws
 pub mod VisibleLaws
+pub mod StandsLaws

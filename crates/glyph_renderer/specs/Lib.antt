@@ -1,2 +1,3 @@
 pub mod RunReads
 pub mod Visible
+pub mod Stands

@@ -1,9 +1,13 @@
 // A glyph's runs, pair by pair.
 ghost use mathlib.Core.Path.{_≡_};
-ghost use Prim.Native.Nat.{_+_};
+ghost use Prim.Native.Nat.{_+_, _*_, _<_};
 ghost use Rattle.glyph_renderer.specs.RunReads.{Readable, firstPair, nextPair};
+ghost use Rattle.glyph_renderer.specs.Stands.{CheckedGlyph, StandsAt};
+ghost use Rattle.glyph_renderer.specs.declared.runs.RunsRead.the-variants.{Pair, Ends};
 use font_reader::glyph_reader::BitReader;
 use font_reader::glyph_reader::UnsignedRead;
+use types::font_reader::FontReader;
+use types::glyph_reader::GlyphReader;
 
 // A zero run and a one run, and the bit of the font after their numbers.
 pub struct Runs {
@@ -65,4 +69,39 @@ pub fn next_pair(font: &[u8], m0: u8, m1: u8, runs: Runs) -> RunsRead
         });
     }
     first_pair(font, m0, m1, after_repeat.bit_pos)
+}
+
+// The pair of a read before which the font cannot end, as the runs were checked.
+fn checked(read: RunsRead) -> Runs
+    requires { ⌜ (read ≡ Ends → ⊥) ⌝ }
+    ensures { λ r. ⌜ read ≡ Pair r ⌝ }
+{
+    let RunsRead::Pair(runs) = read else {
+        return Runs {
+            zeros: 0,
+            ones: 0,
+            bit_pos: 0,
+        };
+    };
+    runs
+}
+
+// A place among a glyph's pixels: so many pixels into a pair.
+pub struct Place {
+    pub runs: Runs,
+    pub offset: usize,
+}
+
+// The place of a glyph's pixel: whole pairs are passed over.
+pub fn seek(font: &[u8], head: FontReader, glyph: GlyphReader, pixel: usize) -> Place
+    requires { ⌜ CheckedGlyph (now font) head glyph × (pixel < glyph .«glyph_width» * glyph .«glyph_height») ⌝ }
+    ensures { λ r. ⌜ StandsAt (now (font .entry)) head glyph (r .runs) (r .offset) pixel ⌝ }
+{
+    let mut runs = checked(first_pair(font, head.m0, head.m1, glyph.bit_pos));
+    let mut offset = pixel;
+    while runs.count() <= offset {
+        offset -= runs.count();
+        runs = checked(next_pair(font, head.m0, head.m1, runs));
+    }
+    Place { runs, offset }
 }
