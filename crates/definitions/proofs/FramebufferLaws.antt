@@ -18,7 +18,7 @@ unfolding mapAt
 length-mapAt f i [] = refl
 length-mapAt f i (x ∷ xs) = ap suc (length-mapAt f (suc i) xs)
 
-getD-mapAt : (f : ℕ → ℕ → ℕ) (i : ℕ) (l : List ℕ) (k : ℕ) → k < length l → getD (mapAt f i l) k 0 ≡ f (i + k) (getD l k 0)
+pub getD-mapAt : (f : ℕ → ℕ → ℕ) (i : ℕ) (l : List ℕ) (k : ℕ) → k < length l → getD (mapAt f i l) k 0 ≡ f (i + k) (getD l k 0)
 unfolding mapAt
 getD-mapAt f i [] k h = absurd (omega arith)
 getD-mapAt f i (x ∷ xs) zero h = simp add-zero

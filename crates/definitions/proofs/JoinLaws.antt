@@ -1,5 +1,5 @@
 -- Joining bounding boxes is associative and commutative, none is neutral, the joined box contains both and is the smallest that
--- does, and boxes within reach join to one within reach. The laws of one dimension come first: a span is a start and a length,
+-- does, boxes within reach join to one within reach, and boxes that are moved join to the joined box moved. The laws of one dimension come first: a span is a start and a length,
 -- and a rectangle is a span of columns and a span of rows. Assumes nothing.
 use mathlib.Core.Path.{_≡_, refl, ap, subst}
 use Prim.Native.Nat.{ℕ, _≤_}
@@ -11,6 +11,7 @@ use Rattle.types.specs.declared.geometry.BoundingBox.the-variants.{None, Some}
 use Rattle.integers.specs.Integers.{minZ, maxZ}
 use Rattle.integers.proofs.Laws.{zarith, up, down, plus, minus, min-is, max-is, whole}
 use Rattle.definitions.specs.Geometry.{left, top, Inside, InsideBox, spanLength, joinRectangles, join, SpanInReach, InReach}
+use Rattle.definitions.specs.TextSteps.{movedRectangle, movedBox}
 
 -- ---- the lesser and the greater
 
@@ -164,3 +165,31 @@ pub reach-join : (a b : BoundingBox) → InReach a → InReach b → InReach (jo
 reach-join None b h k = k
 reach-join (Some p) None h k = h
 reach-join (Some p) (Some q) h k = record { columns = reach-span (h .columns) (k .columns); rows = reach-span (h .rows) (k .rows) }
+
+-- ---- moving
+
+module _ (x a b : ℤ) where
+  min-moved : minZ (x +ℤ a) (x +ℤ b) ≡ x +ℤ minZ a b
+  min-moved = omega (zarith, min-is a b, min-is (x +ℤ a) (x +ℤ b), plus x a, plus x b, plus x (minZ a b))
+
+  max-moved : maxZ (x +ℤ a) (x +ℤ b) ≡ x +ℤ maxZ a b
+  max-moved = omega (zarith, max-is a b, max-is (x +ℤ a) (x +ℤ b), plus x a, plus x b, plus x (maxZ a b))
+
+  difference-moved : (x +ℤ a) -ℤ (x +ℤ b) ≡ a -ℤ b
+  difference-moved = omega (zarith, plus x a, plus x b, minus a b, minus (x +ℤ a) (x +ℤ b))
+
+end-moved : (x a : ℤ) (m : ℕ) → end (x +ℤ a) m ≡ x +ℤ end a m
+end-moved x a m = omega (zarith, plus x a, plus a (pos m), plus (x +ℤ a) (pos m), plus x (end a m))
+
+length-moved : (x a b : ℤ) (m n : ℕ) → spanLength (x +ℤ a) (x +ℤ b) m n ≡ spanLength a b m n
+length-moved x a b m n =
+    rw (end-moved x a m, end-moved x b n, max-moved x (end a m) (end b n), min-moved x a b, difference-moved x (maxZ (end a m) (end b n)) (minZ a b))
+
+rectangles-moved : (x y : ℤ) (p q : Rectangle) → joinRectangles (movedRectangle x y p) (movedRectangle x y q) ≡ movedRectangle x y (joinRectangles p q)
+rectangles-moved x y p q =
+    cc (min-moved x (left p) (left q), min-moved y (top p) (top q), length-moved x (left p) (left q) (width p) (width q), length-moved y (top p) (top q) (height p) (height q))
+
+pub join-moved : (x y : ℤ) (a b : BoundingBox) → join (movedBox x y a) (movedBox x y b) ≡ movedBox x y (join a b)
+join-moved x y None b = refl
+join-moved x y (Some p) None = refl
+join-moved x y (Some p) (Some q) = ap Some (rectangles-moved x y p q)

@@ -17,7 +17,7 @@ use Rattle.definitions.specs.Header.{byte, signedByte, header, lengthOff
 use Rattle.definitions.specs.Calls.{openFont}
 
 -- both parts of a disjunction that is false
-or-false : (s t : Bool) → (s || t) ≡ false → (s ≡ false) × (t ≡ false)
+pub or-false : (s t : Bool) → (s || t) ≡ false → (s ≡ false) × (t ≡ false)
 or-false true t e = let z : _≡_ {A = ℕ} 0 1 = cc in absurd (omega arith)
 or-false false t e = (refl, e)
 

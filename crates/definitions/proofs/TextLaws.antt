@@ -1,6 +1,6 @@
 -- Laws of a text's layout: what another font's letters change, and that the folds of TextSteps.antt, which loops follow, come
 -- to the layouts of Text.antt. Assumes nothing.
-use mathlib.Core.Path.{_≡_, refl, sym, ap, subst, _∙_}
+use mathlib.Core.Path.{_≡_, refl, sym, ap, _∙_}
 use mathlib.Core.Bool.{Bool, true, false, _||_}
 use mathlib.Core.List.{List, [], _∷_, _++_, map}
 use Prim.Native.Nat.{ℕ}
@@ -18,13 +18,13 @@ use Rattle.types.specs.declared.style.FontColor.{FontColor}
 use Rattle.types.specs.declared.style.HorizontalAlignment.{HorizontalAlignment}
 use Rattle.definitions.specs.Refusals.{Outcome, success, refused}
 use Rattle.definitions.specs.Geometry.{join}
-use Rattle.definitions.specs.Text.{Letter, shows, nothing, stops, boxAt, Placed, boxOf, joinAll, Layout, point, newline, before, place, layout, dimensionsOf, dimensions, horizontalOffset, Line, emptyLine, moved, endLine, extend, aligned}
-use Rattle.definitions.specs.TextSteps.{andThen, newlineStep, nextBox, glyphStep, letterStep, step, measureFrom, letterShown, stepShown, orKept, drawFrom, movedBox, LineState, withLine, newlineAligned, glyphAligned, letterAligned, stepAligned, measureAlignedFrom, startAligned}
-use Rattle.definitions.specs.Picture.{Picture, boxPicture, textPicture}
+use Rattle.definitions.specs.Text.{Letter, shows, nothing, stops, Placed, boxOf, joinAll, Layout, point, newline, before, place, layout, dimensionsOf, Line, emptyLine, moved, endLine, extend, aligned}
+use Rattle.definitions.specs.TextSteps.{andThen, newlineStep, nextBox, glyphStep, letterStep, step, measureFrom, letterShown, stepShown, orKept, drawFrom, movedBox, LineState, withLine, newlineAligned, letterAligned, stepAligned, measureAlignedFrom, startAligned}
+use Rattle.definitions.specs.Picture.{boxPicture, textPicture}
 use Rattle.definitions.specs.Framebuffer.{shown}
 use Rattle.definitions.specs.Calls.{boxOfLayout}
-use Rattle.definitions.proofs.JoinLaws.{join-none-right, join-assoc}
-use Rattle.definitions.proofs.FramebufferLaws.{onto, shown-shown, shown-blank}
+use Rattle.definitions.proofs.JoinLaws.{join-none-right, join-assoc, join-moved}
+use Rattle.definitions.proofs.FramebufferLaws.{shown-shown, shown-blank}
 
 -- ---- the box of glyphs
 
@@ -103,12 +103,153 @@ module _ (width : ℕ) (color : FontColor) (pixelsOf : GlyphReader → List ℕ)
   draw-from [] d buffer = sym (shown-blank width buffer)
   draw-from (c ∷ cs) d buffer = draw-char cs (draw-from cs) d buffer (eqb c 10) (letters c)
 
--- ---- letters of another font
+-- ---- aligned measuring is the box of the aligned layout
 
--- A choice whose outcome is known.
-of-pick : {A Q : Type 0} (t : Bool) {a b o : A} → (t ≡ true → a ≡ o → Q) → (t ≡ false → b ≡ o → Q) → pick t a b ≡ o → Q
-of-pick true f g e = f refl e
-of-pick false f g e = g refl e
+module _ (x a b : ℤ) where
+  left-moved : (x +ℤ a) +ℤ b ≡ x +ℤ (a +ℤ b)
+  left-moved = omega (zarith, plus x a, plus a b, plus (x +ℤ a) b, plus x (a +ℤ b))
+
+  top-moved : (x +ℤ a) -ℤ b ≡ x +ℤ (a -ℤ b)
+  top-moved = omega (zarith, plus x a, minus a b, minus (x +ℤ a) b, plus x (a -ℤ b))
+
+module _ (x y : ℤ) where
+  -- a glyph's box where the glyph is moved
+  box-moved : (p : Placed) → boxOf (moved x y p) ≡ movedBox x y (boxOf p)
+  box-moved p = by (eqb (p .glyph .«glyph_width») 0 || eqb (p .glyph .«glyph_height») 0)
+    where
+      by : (t : Bool)
+          → pick t None
+          (Some record {
+            «top_left» = record {
+              x = (x +ℤ p .x) +ℤ p .glyph .«offset_x»;
+              y = (y +ℤ p .y) -ℤ (pos (p .glyph .«glyph_height») +ℤ p .glyph .«offset_y»);
+            };
+            size = record { width = p .glyph .«glyph_width»; height = p .glyph .«glyph_height» };
+          })
+          ≡ movedBox x y
+          (pick t None
+          (Some record {
+            «top_left» = record {
+              x = p .x +ℤ p .glyph .«offset_x»;
+              y = p .y -ℤ (pos (p .glyph .«glyph_height») +ℤ p .glyph .«offset_y»);
+            };
+            size = record { width = p .glyph .«glyph_width»; height = p .glyph .«glyph_height» };
+          }))
+      by true = refl
+      by false = cc (left-moved x (p .x) (p .glyph .«offset_x»), top-moved y (p .y) (pos (p .glyph .«glyph_height») +ℤ p .glyph .«offset_y»))
+
+  pub join-all-moved : (ps : List Placed) → joinAll (map (moved x y) ps) ≡ movedBox x y (joinAll ps)
+  unfolding joinAll
+  join-all-moved [] = refl
+  join-all-moved (p ∷ ps) = rw (box-moved p, join-all-moved ps) (join-moved x y (boxOf p) (joinAll ps))
+
+-- a box, where the layout succeeds
+abbrev pub boxIf : BoundingBox → Outcome Point → Outcome BoundingBox
+boxIf b (success a) = success b
+boxIf b (refused n c) = refused n c
+
+box-of-layout : (l : Layout) (o : Outcome Point) → boxIf (joinAll (l .glyphs)) o ≡ boxOfLayout l o
+box-of-layout l (success a) = refl
+box-of-layout l (refused n c) = refl
+
+-- the loop's state for a line so far
+abbrev stateOf : Line → ℤ → BoundingBox → LineState
+stateOf line y box = record { x = line .advance; line = joinAll (line .glyphs); y = y; box = box }
+
+module _ (letters : ℕ → Letter) (a : HorizontalAlignment) (lineHeight : ℕ) (origin : Point) where
+  abbrev lines : ℤ → Line → List ℕ → Layout
+  lines y line cs = aligned letters lineHeight a origin y line cs
+
+  abbrev boxFrom : BoundingBox → Layout → Outcome BoundingBox
+  boxFrom box l = boxIf (join box (joinAll (l .glyphs))) (l .advance)
+
+  -- what is to be shown of a list of code points, from each state
+  abbrev Measures : List ℕ → Type 0
+  Measures cs = (y : ℤ) (line : Line) (box : BoundingBox) → measureAlignedFrom letters a lineHeight origin (stateOf line y box) cs ≡ boxFrom box (lines y line cs)
+
+  with-line : (y : ℤ) (line : Line) (box : BoundingBox) → withLine a origin (stateOf line y box) ≡ join box (joinAll (endLine a origin y line))
+  with-line y line box = rw join-all-moved
+
+  aligned-newline : (cs : List ℕ) → Measures cs → (y : ℤ) (line : Line) (box : BoundingBox)
+      → measureAlignedFrom letters a lineHeight origin (newlineAligned a lineHeight origin (stateOf line y box)) cs
+      ≡ boxFrom box (before (endLine a origin y line) (lines (y +ℤ pos lineHeight) emptyLine cs))
+  unfolding joinAll
+  aligned-newline cs rest y line box =
+      rest (y +ℤ pos lineHeight) emptyLine (withLine a origin (stateOf line y box))
+      ∙ rw (with-line y line box, join-append, join-assoc)
+
+  aligned-letter : (cs : List ℕ) → Measures cs → (y : ℤ) (line : Line) (box : BoundingBox) (l : Letter)
+      → andThen (letterAligned (stateOf line y box) l) (λ next. measureAlignedFrom letters a lineHeight origin next cs)
+      ≡ boxFrom box (extend line l (λ next. lines y next cs))
+  unfolding joinAll
+  aligned-letter cs rest y line box (shows g) =
+      let p : Placed = record { x = line .advance; y = pos 0; glyph = g } in
+      let e : joinAll (line .glyphs ++ p ∷ []) ≡ join (joinAll (line .glyphs)) (boxOf p) = join-append (line .glyphs) (p ∷ []) ∙ rw join-none-right in
+      rw e at (rest y record { glyphs = line .glyphs ++ p ∷ []; advance = line .advance +ℤ g .advance } box)
+  aligned-letter cs rest y line box nothing = rest y line box
+  aligned-letter cs rest y line box (stops n c) = refl
+
+  aligned-char : (cs : List ℕ) → Measures cs → (y : ℤ) (line : Line) (box : BoundingBox) (t : Bool) (l : Letter)
+      → andThen (pick t (success (newlineAligned a lineHeight origin (stateOf line y box))) (letterAligned (stateOf line y box) l)) (λ next.
+      measureAlignedFrom letters a lineHeight origin next cs)
+      ≡ boxFrom box (pick t (before (endLine a origin y line) (lines (y +ℤ pos lineHeight) emptyLine cs)) (extend line l (λ next. lines y next cs)))
+  aligned-char cs rest y line box true l = aligned-newline cs rest y line box
+  aligned-char cs rest y line box false l = aligned-letter cs rest y line box l
+
+  aligned-from : (cs : List ℕ) → Measures cs
+  unfolding measureAlignedFrom aligned
+  aligned-from [] y line box = ap success (with-line y line box)
+  aligned-from (c ∷ cs) y line box = aligned-char cs (aligned-from cs) y line box (eqb c 10) (letters c)
+
+  pub measure-aligned : (cs : List ℕ)
+      → measureAlignedFrom letters a lineHeight origin startAligned cs
+      ≡ boxOfLayout (aligned letters lineHeight a origin (pos 0) emptyLine cs) (aligned letters lineHeight a origin (pos 0) emptyLine cs .advance)
+  unfolding joinAll
+  measure-aligned cs = aligned-from cs (pos 0) emptyLine None ∙ box-of-layout (lines (pos 0) emptyLine cs) (lines (pos 0) emptyLine cs .advance)
+
+-- ---- one turn of each loop
+
+module _ (letters : ℕ → Letter) (lineHeight : ℕ) (origin : Point) (d : RenderedDimensions) (c : ℕ) (cs : List ℕ) where
+  pub measure-next : {next : RenderedDimensions} → step letters lineHeight origin d c ≡ success next
+      → measureFrom letters lineHeight origin d (c ∷ cs) ≡ measureFrom letters lineHeight origin next cs
+  unfolding measureFrom
+  measure-next e = rw e
+
+  pub measure-stops : {n k : ℕ} → step letters lineHeight origin d c ≡ refused n k → measureFrom letters lineHeight origin d (c ∷ cs) ≡ refused n k
+  unfolding measureFrom
+  measure-stops e = rw e
+
+  module _ (width : ℕ) (color : FontColor) (pixelsOf : GlyphReader → List ℕ) (buffer : List ℕ) where
+    pub draw-next : {next : RenderedDimensions} → step letters lineHeight origin d c ≡ success next
+        → drawFrom width color pixelsOf letters lineHeight origin d buffer (c ∷ cs)
+        ≡ drawFrom width color pixelsOf letters lineHeight origin next (stepShown width color pixelsOf letters origin d c buffer) cs
+    unfolding drawFrom
+    draw-next e = rw e
+
+    stops-shown : {n k : ℕ} (t : Bool) (l : Letter) → pick t (success (newlineStep lineHeight d)) (letterStep origin d l) ≡ refused n k
+        → pick t buffer (letterShown width color pixelsOf origin d l buffer) ≡ buffer
+    stops-shown true l e = refl
+    stops-shown false (shows g) e = let z : _≡_ {A = ℕ} 0 1 = cc in absurd (omega arith)
+    stops-shown false nothing e = refl
+    stops-shown false (stops n k) e = refl
+
+    pub draw-stops : {n k : ℕ} → step letters lineHeight origin d c ≡ refused n k
+        → drawFrom width color pixelsOf letters lineHeight origin d buffer (c ∷ cs) ≡ buffer
+    unfolding drawFrom
+    draw-stops e = rw e (stops-shown (eqb c 10) (letters c) e)
+
+module _ (letters : ℕ → Letter) (a : HorizontalAlignment) (lineHeight : ℕ) (origin : Point) (s : LineState) (c : ℕ) (cs : List ℕ) where
+  pub aligned-next : {next : LineState} → stepAligned letters a lineHeight origin s c ≡ success next
+      → measureAlignedFrom letters a lineHeight origin s (c ∷ cs) ≡ measureAlignedFrom letters a lineHeight origin next cs
+  unfolding measureAlignedFrom
+  aligned-next e = rw e
+
+  pub aligned-stops : {n k : ℕ} → stepAligned letters a lineHeight origin s c ≡ refused n k
+      → measureAlignedFrom letters a lineHeight origin s (c ∷ cs) ≡ refused n k
+  unfolding measureAlignedFrom
+  aligned-stops e = rw e
+
+-- ---- letters of another font
 
 -- The letters of the first that show a glyph show the same one under the second, and none of the first shows nothing.
 pub record Follows (letters letters′ : ℕ → Letter) : Type 0 where
@@ -144,3 +285,28 @@ module _ {letters letters′ : ℕ → Letter} (follows : Follows letters letter
   unfolding layout
   same-layout [] advance last k = refl
   same-layout (c ∷ cs) advance last k = same-char cs (same-layout cs) advance last c (eqb c 10) k
+
+-- ---- each glyph of a text
+
+-- what is so of each placed glyph
+abbrev pub Each : (Placed → Type 0) → List Placed → Type 0
+Each P [] = Unit {0}
+Each P (p ∷ ps) = P p × Each P ps
+
+module _ (P : GlyphReader → Type 0) (letters : ℕ → Letter) (every : (c : ℕ) (g : GlyphReader) → letters c ≡ shows g → P g) (lineHeight : ℕ) (origin : Point) where
+  abbrev Holds : Layout → Type 0
+  Holds l = Each (λ p. P (p .glyph)) (l .glyphs)
+
+  each-letter : (advance : Point) (c : ℕ) (cs : List ℕ) → ((next : Point) → Holds (layout letters lineHeight origin next cs))
+      → (t : Bool) (l : Letter) → letters c ≡ l
+      → Holds (pick t (layout letters lineHeight origin (newline lineHeight advance) cs) (place origin advance l (λ next. layout letters lineHeight origin next cs)))
+  each-letter advance c cs rest true l e = rest (newline lineHeight advance)
+  each-letter advance c cs rest false (shows g) e = (every c g e, rest (point (advance .x +ℤ g .advance) (advance .y)))
+  each-letter advance c cs rest false nothing e = rest advance
+  each-letter advance c cs rest false (stops n k) e = tt
+
+  -- What is so of each glyph that a letter shows is so of each glyph of the text.
+  pub each-glyph : (cs : List ℕ) (advance : Point) → Each (λ p. P (p .glyph)) (layout letters lineHeight origin advance cs .glyphs)
+  unfolding layout
+  each-glyph [] advance = tt
+  each-glyph (c ∷ cs) advance = each-letter advance c cs (each-glyph cs) (eqb c 10) (letters c) refl

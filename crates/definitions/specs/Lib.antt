@@ -14,5 +14,6 @@ pub mod Framebuffer
 pub mod TextSteps
 pub mod Limits
 pub mod Calls
+pub mod Agreement
 pub mod FontT
 pub mod Cases

@@ -1,0 +1,71 @@
+-- The third demand is not empty: its hypotheses hold for "-4" drawn with font T on 8 × 8 pixels and with five bytes added to T
+-- on 9 × 12, the contents differing from the seventh row on. The 4 lies off the first framebuffer and half off the second.
+use mathlib.Core.Path.{_≡_, refl}
+use mathlib.Core.List.{List, [], _∷_, _++_}
+use Prim.Native.Nat.{ℕ}
+use native.Mathlib.Omega.{arith}
+use lib.IntN.{pos}
+use lib.ListN.{replicate}
+use Rattle.types.specs.declared.font_reader.FontReader.{FontReader}
+use Rattle.types.specs.declared.geometry.BoundingBox.the-variants.{Some}
+use Rattle.types.specs.declared.geometry.RenderedDimensions.{RenderedDimensions}
+use Rattle.types.specs.declared.glyph_reader.GlyphReader.{GlyphReader}
+use Rattle.types.specs.declared.style.FontColor.the-variants.{Transparent}
+use Rattle.types.specs.declared.style.VerticalPosition.the-variants.{Baseline}
+use Rattle.integers.specs.Integers.{signed8}
+use Rattle.definitions.specs.Header.{header, headerOff}
+use Rattle.definitions.specs.Bits.{lowBits, bits, number, readAt}
+use Rattle.definitions.specs.Lookup.{chain, search}
+use Rattle.definitions.specs.Glyph.{fields, glyph}
+use Rattle.definitions.specs.Utf8.{rowOf, first, decodeFrom, newlines}
+use Rattle.definitions.specs.Text.{point, joinAll, layout}
+use Rattle.definitions.specs.Runs.{pixels, afterPair, runs, glyphPixels}
+use Rattle.definitions.specs.Picture.{textPicture}
+use Rattle.definitions.specs.Framebuffer.{mapAt}
+use Rattle.definitions.specs.Calls.{draw, drawBuffer}
+use Rattle.definitions.specs.FontT.{T}
+use Rattle.definitions.specs.Agreement.{Request, Panel, after, pixel, TwoDrawings, Agree}
+use Rattle.definitions.proofs.Agreement.{agreement}
+
+abbrev added : List ℕ
+added = 45 ∷ 3 ∷ 255 ∷ 0 ∷ 9 ∷ []
+
+abbrev request : Request
+request = record {
+  text = 45 ∷ 52 ∷ [];
+  position = point (pos 5) (pos 3);
+  style = record { color = Transparent 1; «vertical_pos» = Baseline };
+  lineHeight = 4;
+}
+
+abbrev small : Panel
+small = record { width = 8; height = 8; before = replicate 64 0 }
+
+abbrev large : Panel
+large = record { width = 9; height = 12; before = replicate 54 0 ++ replicate 54 7 }
+
+abbrev dimensions : RenderedDimensions
+dimensions = record {
+  advance = point (pos 6) (pos 0);
+  «bounding_box» = Some record { «top_left» = record { x = pos 5; y = pos 0 }; size = record { width = 5; height = 3 } };
+}
+
+pub supposed : TwoDrawings T added request small large dimensions
+unfolding T header headerOff signed8 glyph fields search chain readAt bits lowBits number rowOf first decodeFrom newlines joinAll layout afterPair runs glyphPixels draw
+supposed = record { first-within = refl; second-within = refl; as-wide = omega arith; as-high = omega arith; first-succeeds = refl }
+
+-- The drawing changes pixels: the left one of "-" in both, and that of "4" in the second.
+abbrev changed : List ℕ
+changed =
+    pixel small (after T request small) 5 0
+    ∷ pixel large (after (T ++ added) request large) 5 0
+    ∷ pixel large (after (T ++ added) request large) 8 1
+    ∷ []
+
+pub changes : changed ≡ 1 ∷ 1 ∷ 1 ∷ []
+unfolding T header headerOff signed8 glyph fields search chain readAt bits lowBits number rowOf first decodeFrom newlines joinAll layout afterPair runs glyphPixels textPicture mapAt drawBuffer
+changes = refl
+
+module _ (runs-longer : (font more : List ℕ) (head : FontReader) (g : GlyphReader) (ps : List ℕ) → glyphPixels font head g ≡ pixels ps → glyphPixels (font ++ more) head g ≡ pixels ps) where
+  pub claimed : Agree T added request small large dimensions
+  claimed = agreement runs-longer T added request small large dimensions supposed

@@ -1,0 +1,84 @@
+-- Laws of pictures: glyphs in a row are one picture above the other, and nothing is drawn outside the box. Assumes nothing.
+use mathlib.Core.Path.{_≡_, refl, sym}
+use mathlib.Core.Bool.{Bool, true, false, _&&_}
+use mathlib.Core.List.{List, [], _∷_, _++_}
+use Prim.Native.Nat.{ℕ, _+_, _*_}
+use native.Mathlib.Omega.{arith}
+use lib.IntN.{ℤ, natAbs, _-ℤ_}
+use lib.ListN.{getD}
+use lib.Signed.{leZ, ltZ}
+use Rattle.integers.specs.Integers.{pick}
+use Rattle.integers.proofs.Laws.{zarith}
+use Rattle.types.specs.declared.geometry.Rectangle.{Rectangle}
+use Rattle.types.specs.declared.geometry.BoundingBox.{BoundingBox}
+use Rattle.types.specs.declared.geometry.BoundingBox.the-variants.{None, Some}
+use Rattle.types.specs.declared.glyph_reader.GlyphReader.{GlyphReader}
+use Rattle.types.specs.declared.style.FontColor.{FontColor}
+use Rattle.definitions.specs.Geometry.{left, top, right, bottom, Inside, InsideBox}
+use Rattle.definitions.specs.Text.{Placed, boxOf, joinAll}
+use Rattle.definitions.specs.Picture.{Paint, keep, put, above, paintOf, covers, rectanglePicture, boxPicture, textPicture}
+use Rattle.definitions.proofs.TextLaws.{Each}
+use Rattle.definitions.proofs.JoinLaws.{join-contains-left, join-contains-right}
+
+pub above-keep : (p : Paint) → above p keep ≡ p
+above-keep keep = refl
+above-keep (put c) = refl
+
+above-assoc : (p q r : Paint) → above (above p q) r ≡ above p (above q r)
+above-assoc keep q r = refl
+above-assoc (put c) q r = refl
+
+-- ---- what is covered, and what is not
+
+all-four : (a b c d : Bool) → (a && b && c && d) ≡ true → ((a ≡ true) × (b ≡ true)) × ((c ≡ true) × (d ≡ true))
+all-four true true true true e = ((refl, refl), (refl, refl))
+all-four true true true false e = let z : _≡_ {A = ℕ} 0 1 = cc in absurd (omega arith)
+all-four true true false d e = let z : _≡_ {A = ℕ} 0 1 = cc in absurd (omega arith)
+all-four true false c d e = let z : _≡_ {A = ℕ} 0 1 = cc in absurd (omega arith)
+all-four false b c d e = let z : _≡_ {A = ℕ} 0 1 = cc in absurd (omega arith)
+
+pub covers-inside : (column row : ℤ) (r : Rectangle) → covers r column row ≡ true → Inside column row r
+covers-inside column row r e =
+    let h = all-four (leZ (left r) column) (ltZ column (right r)) (leZ (top r) row) (ltZ row (bottom r)) e in
+    record { from-left = omega zarith; to-right = omega zarith; from-top = omega zarith; to-bottom = omega zarith }
+
+module _ (color : FontColor) (column row : ℤ) where
+  -- A glyph's picture keeps what lies outside its box.
+  rectangle-outside : (bits : List ℕ) (r : Rectangle) → (Inside column row r → ⊥) → rectanglePicture color bits r column row ≡ keep
+  rectangle-outside bits r out = by (covers r column row) refl
+    where
+      by : (t : Bool) → covers r column row ≡ t
+          → pick t (paintOf color (getD bits (natAbs (row -ℤ top r) * r .size .width + natAbs (column -ℤ left r)) 0)) keep ≡ keep
+      by true e = absurd (out (covers-inside column row r e))
+      by false e = refl
+
+  pub box-outside : (bits : List ℕ) (b : BoundingBox) → (InsideBox column row b → ⊥) → boxPicture color bits b column row ≡ keep
+  box-outside bits None out = refl
+  box-outside bits (Some r) out = rectangle-outside bits r out
+
+module _ (color : FontColor) (pixelsOf : GlyphReader → List ℕ) where
+  pub picture-append : (ps qs : List Placed) (column row : ℤ)
+      → textPicture color pixelsOf (ps ++ qs) column row
+      ≡ above (textPicture color pixelsOf qs column row) (textPicture color pixelsOf ps column row)
+  unfolding textPicture
+  picture-append [] qs column row = sym (above-keep (textPicture color pixelsOf qs column row))
+  picture-append (p ∷ ps) qs column row =
+      rw (picture-append ps qs column row)
+      (above-assoc (textPicture color pixelsOf qs column row) (textPicture color pixelsOf ps column row) (boxPicture color (pixelsOf (p .glyph)) (boxOf p) column row))
+
+  -- A text's picture keeps what lies outside the text's box, and everything where there is none.
+  pub picture-outside : (ps : List Placed) (column row : ℤ) → (InsideBox column row (joinAll ps) → ⊥) → textPicture color pixelsOf ps column row ≡ keep
+  unfolding textPicture joinAll
+  picture-outside [] column row out = refl
+  picture-outside (p ∷ ps) column row out =
+      rw (
+        picture-outside ps column row (λ i. out (join-contains-right column row (boxOf p) (joinAll ps) i)),
+        box-outside color column row (pixelsOf (p .glyph)) (boxOf p) (λ i. out (join-contains-left column row (boxOf p) (joinAll ps) i)),
+      )
+
+-- Glyphs that have the same pixels make the same picture.
+pub same-pixels-picture : (color : FontColor) (a b : GlyphReader → List ℕ) (ps : List Placed) → Each (λ p. a (p .glyph) ≡ b (p .glyph)) ps
+    → (column row : ℤ) → textPicture color a ps column row ≡ textPicture color b ps column row
+unfolding textPicture
+same-pixels-picture color a b [] h column row = refl
+same-pixels-picture color a b (p ∷ ps) h column row = rw (same-pixels-picture color a b ps (h .1) column row, h .0)

@@ -1,0 +1,45 @@
+-- Laws of a call's causes: a call that succeeds has none that applies, and where none applies the call comes to what is left.
+-- Assumes nothing.
+use mathlib.Core.Path.{_≡_, refl}
+use mathlib.Core.Bool.{Bool, true, false}
+use mathlib.Core.List.{List, [], _∷_, _++_}
+use Prim.Native.Nat.{ℕ}
+use native.Mathlib.Omega.{arith}
+use Rattle.definitions.specs.Refusals.{Outcome, success, Cause, unlessRefused, anyApplies}
+use Rattle.definitions.proofs.OpenedLaws.{or-false}
+
+module _ {A : Type 0} (rest : Outcome A) where
+  pub none-applies : (cs : List Cause) → anyApplies cs ≡ false → unlessRefused cs rest ≡ rest
+  none-applies [] e = refl
+  none-applies (c ∷ cs) e = let h = or-false (c .applies) (anyApplies cs) e in rw (h .0) (none-applies cs (h .1))
+
+  pub succeeded : (a : A) (cs : List Cause) → unlessRefused cs rest ≡ success a → (anyApplies cs ≡ false) × (rest ≡ success a)
+  succeeded a [] e = (refl, e)
+  succeeded a (c ∷ cs) e = by (c .applies) refl (succeeded a cs)
+    where
+      by : (t : Bool) → c .applies ≡ t → (unlessRefused cs rest ≡ success a → (anyApplies cs ≡ false) × (rest ≡ success a))
+          → (anyApplies (c ∷ cs) ≡ false) × (rest ≡ success a)
+      by true k next = let z : _≡_ {A = ℕ} 0 1 = cc (rw k at e) in absurd (omega arith)
+      by false k next = let h = next (rw k at e) in (rw k (h .0), h .1)
+
+-- one cause more, tested last
+pub last-applies : (cs : List Cause) (c : Cause) → anyApplies (cs ++ c ∷ []) ≡ false → c .applies ≡ false
+last-applies [] c e = or-false (c .applies) false e .0
+last-applies (b ∷ cs) c e = last-applies cs c (or-false (b .applies) (anyApplies (cs ++ c ∷ [])) e .1)
+
+pub nor-last : (cs : List Cause) (c : Cause) → anyApplies cs ≡ false → c .applies ≡ false → anyApplies (cs ++ c ∷ []) ≡ false
+nor-last [] c e k = rw k
+nor-last (b ∷ cs) c e k = let h = or-false (b .applies) (anyApplies cs) e in rw (h .0) (nor-last cs c (h .1) k)
+
+-- the same, cause by cause
+abbrev pub NoneApplies : List Cause → Type 0
+NoneApplies [] = Unit {0}
+NoneApplies (c ∷ cs) = (c .applies ≡ false) × NoneApplies cs
+
+pub each-off : (cs : List Cause) → anyApplies cs ≡ false → NoneApplies cs
+each-off [] e = tt
+each-off (c ∷ cs) e = let h = or-false (c .applies) (anyApplies cs) e in (h .0, each-off cs (h .1))
+
+pub all-off : (cs : List Cause) → NoneApplies cs → anyApplies cs ≡ false
+all-off [] h = refl
+all-off (c ∷ cs) h = rw (h .0) (all-off cs (h .1))

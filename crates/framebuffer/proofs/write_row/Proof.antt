@@ -1,0 +1,69 @@
+-- `write_row` meets its contract. The loop's invariant: the first i pixels are painted and the others as they were;
+-- WriteLaws.antt has the step. Assumes nothing.
+use mathlib.Core.Path.{_≡_, refl, _∙_}
+use Prim.Native.Nat.{_≤_, _<_, _-_}
+use native.Mathlib.Omega.{arith}
+use borrow.Author.Needs.{needs}
+use lib.ListN.{length, length-set}
+use Rattle.framebuffer.proofs.WriteLaws.{paintedTo, paint-next, paint-all}
+use Rattle.framebuffer.proofs.write_row.Statement.{statement}
+use Rattle.framebuffer.proofs.write_row.Tie as tie
+
+abbrev Inv-loop : tie.InvT-loop
+Inv-loop part₀ row color i₀ part i = (i ≤ length part₀) × ((length part ≡ length part₀) × (part ≡ paintedTo color row part₀ i))
+
+abbrev μ-loop : tie.MeasureT-loop
+μ-loop part₀ row color i₀ part i = length part₀ - i
+
+loop-holds : tie.Need-loop-holds Inv-loop μ-loop
+loop-holds c = (omega arith, (refl, refl))
+
+shared-slice-read-paint : tie.Need-shared-slice-read-paint Inv-loop μ-loop
+shared-slice-read-paint c = search needs
+
+slice-read-paint : tie.Need-slice-read-paint Inv-loop μ-loop
+slice-read-paint c = search needs
+
+paint-requires : tie.Need-paint-requires Inv-loop μ-loop
+paint-requires c κs = search needs
+
+slice-write-part : tie.Need-slice-write-part Inv-loop μ-loop
+slice-write-part c = search needs
+
+add-i : tie.Need-add-i Inv-loop μ-loop
+add-i c = search needs
+
+loop-less : tie.Need-loop-less Inv-loop μ-loop
+loop-less c = search needs
+
+loop-again : tie.Need-loop-again Inv-loop μ-loop
+loop-again c =
+    let a = c .before .before .before .before .before .before .before .args in
+    let l = c .before .before .before .before .loop in
+    let h : l .i < length (a .part .now) = omega arith in
+    (omega arith, (simp length-set (l .inv .1 .0), paint-next (a .color) (a .row .now) (a .part .now) (l .i) h (l .inv .1 .1) (c .paint .ensures)))
+
+same-length : tie.Need-same-length Inv-loop μ-loop
+same-length c = search needs
+
+returns : tie.Need-returns Inv-loop μ-loop
+returns c =
+    let a = c .before .before .before .before .args in
+    c .before .loop .inv .1 .1 ∙ paint-all (a .color) (a .row .now) (a .part .now) (c .before .loop .i) (omega arith)
+
+pub write-row-spec : {M : Type 1} → statement M
+write-row-spec =
+    tie.close
+    (tie.spec
+    Inv-loop
+    μ-loop
+    loop-holds
+    shared-slice-read-paint
+    slice-read-paint
+    paint-requires
+    slice-write-part
+    add-i
+    loop-less
+    loop-again
+    same-length
+    returns)
