@@ -1,2 +1,4 @@
 pub mod PaintLaws
 pub mod WriteLaws
+pub mod RowLaws
+pub mod PartLaws
