@@ -1,19 +1,21 @@
--- A column or row of the framebuffer is among the visible ones where it is one of the glyph's, and which of them it is.
+-- The visible part of a glyph's columns or rows: it lies on the framebuffer and in the glyph, and which pixel comes first.
 -- Assumes nothing.
 use mathlib.Core.Path.{_≡_, refl, sym, ap, _∙_}
-use mathlib.Core.Bool.{Bool, true, false, _&&_}
+use mathlib.Core.Bool.{Bool, true, false}
 use Prim.Native.Nat.{ℕ, _+_, _-_, _≤_, _<_, min}
 use native.Mathlib.Decide.{decLt}
 use native.Mathlib.Omega.{arith}
-use lib.Dec.{ltb, leb}
-use lib.IntN.{ℤ, pos, negsuc, natAbs, _+ℤ_, _-ℤ_}
-use lib.Signed.{ltZ, leZ, _≤ℤ_, _<ℤ_}
+use lib.Dec.{ltb}
+use lib.IntN.{ℤ, pos, negsuc, _+ℤ_, _-ℤ_}
+use lib.Signed.{_≤ℤ_}
 use mir.Syntax.{w32}
 use mir.Val.{SFits}
-use borrow.Author.Tests.{ltb-true, ltb-false, lt-ltb, le-ltb, le-leb, lt-leb}
-use Rattle.integers.specs.Integers.{pick}
-use Rattle.integers.proofs.Laws.{zarith, up, down, plus, minus, size, ltZ-yes, ltZ-no, leZ-yes, leZ-no}
-use Rattle.glyph_renderer.specs.Visible.{clamped, visible}
+use borrow.Author.Tests.{ltb-true, ltb-false, le-ltb}
+use Rattle.integers.specs.Integers.{pick, minZ, maxZ}
+use Rattle.integers.proofs.Laws.{zarith, up, down, plus, minus, min-is, max-is}
+use Rattle.framebuffer.proofs.PartLaws.{Visible}
+use Rattle.glyph_renderer.specs.declared.geometry.Stretch.{Stretch}
+use Rattle.glyph_renderer.specs.Visible.{Near, clamped, visible}
 
 lesser : (limit n : ℕ) (t : Bool) → ltb limit n ≡ t → pick t limit n ≡ min n limit
 lesser limit n true e = omega (arith, ltb-true limit n e)
@@ -31,8 +33,8 @@ module _ (start : ℤ) (length limit : ℕ) where
   pub ordered : clamped start limit ≤ clamped (start +ℤ pos length) limit
   ordered = omega (zarith, clamped-is start limit, clamped-is (start +ℤ pos length) limit, plus start (pos length))
 
-  module _ (near : (negsuc 1073741823 ≤ℤ start) × (start ≤ℤ pos 1073741823)) where
-    pub end-fits : length < 256 → SFits w32 (start +ℤ pos length)
+  module _ (near : Near start) where
+    pub end-fits : length ≤ 255 → SFits w32 (start +ℤ pos length)
     end-fits h = omega (zarith, plus start (pos length))
 
     pub opposite-fits : SFits w32 (pos 0 -ℤ start)
@@ -45,49 +47,58 @@ module _ (start : ℤ) (length limit : ℕ) where
   abbrev first : ℕ
   first = clamped start limit
 
-  abbrev count : ℕ
-  count = clamped end limit - first
+  abbrev last : ℕ
+  last = clamped end limit
 
   abbrev hidden : ℕ
   hidden = clamped (pos 0 -ℤ start) length
 
-  pub within : first + count ≤ limit
+  within : first + (last - first) ≤ limit
   within = omega (arith, ordered start length limit, clamped-is end limit, clamped-is start limit)
 
   -- some pixel is visible
-  some : first < clamped end limit → (up start < down start + limit) × (down start < up start + length)
+  some : first < last → (up start < down start + limit) × (down start < up start + length)
   some h = omega (zarith, plus start (pos length), clamped-is start limit, clamped-is end limit)
 
   -- The first visible one stands at `first`.
-  shift : first < clamped end limit → first + down start ≡ up start + hidden
+  shift : first < last → first + down start ≡ up start + hidden
   shift h = let s = some h in omega (zarith, minus (pos 0) start, clamped-is start limit, clamped-is (pos 0 -ℤ start) length)
 
-  last-in : 0 < clamped end limit → clamped end limit + down end ≤ up end
-  last-in h = omega (arith, clamped-is end limit)
-
-  pub shown-within : hidden + count ≤ length
-  shown-within = split (decLt first (clamped end limit))
+  shown-within : hidden + (last - first) ≤ length
+  shown-within = split (decLt first last)
     where
-      split : Dec (first < clamped end limit) → hidden + count ≤ length
+      last-in : 0 < last → last + down end ≤ up end
+      last-in h = omega (arith, clamped-is end limit)
+
+      split : Dec (first < last) → hidden + (last - first) ≤ length
       split (yes p) = let s = some p in let e = shift p in let l = last-in (omega arith) in omega (zarith, plus start (pos length))
       split (no p) = omega (arith, clamped-is (pos 0 -ℤ start) length)
 
-  -- a place c of the framebuffer, of which `limit` are there
-  module _ (c : ℕ) (h : c < limit) where
-    pub not-before : leZ start (pos c) ≡ leb first c
-    not-before = split (decLt c first)
-      where
-        split : Dec (c < first) → leZ start (pos c) ≡ leb first c
-        split (yes p) = leZ-no start (pos c) (omega (arith, clamped-is start limit)) ∙ sym (lt-leb first c p)
-        split (no p) = leZ-yes start (pos c) (omega (arith, clamped-is start limit)) ∙ sym (le-leb first c (omega arith))
+  module _ (h : first < last) where
+    begins : pos first ≡ maxZ start (pos 0)
+    begins = let s = some h in omega (zarith, clamped-is start limit, max-is start (pos 0))
 
-    pub not-after : ltZ (pos c) end ≡ ltb c (first + count)
-    not-after = split (decLt c (first + count))
-      where
-        split : Dec (c < first + count) → ltZ (pos c) end ≡ ltb c (first + count)
-        split (yes p) = ltZ-yes (pos c) end (omega (arith, ordered start length limit, clamped-is end limit)) ∙ sym (lt-ltb c (first + count) p)
-        split (no p) = ltZ-no (pos c) end (omega (arith, ordered start length limit, clamped-is end limit)) ∙ sym (le-ltb c (first + count) (omega arith))
+    ends : pos (first + (last - first)) ≡ minZ end (pos limit)
+    ends = let e : first + (last - first) ≡ last = omega arith in rw e (omega (zarith, clamped-is end limit, min-is end (pos limit)))
 
-    -- Which pixel of the glyph it shows.
-    pub distance : (k : ℕ) → c ≡ first + k → k < count → natAbs (pos c -ℤ start) ≡ hidden + k
-    distance k e l = let s = shift (omega arith) in omega (zarith, size (pos c -ℤ start), minus (pos c) start)
+    skips : start +ℤ pos hidden ≡ pos first
+    skips = let s = shift h in omega (zarith, plus start (pos hidden))
+
+  beside : last ≤ first → minZ end (pos limit) ≤ℤ maxZ start (pos 0)
+  beside h = omega (zarith, clamped-is start limit, clamped-is end limit, min-is end (pos limit), max-is start (pos 0))
+
+-- ---- what the code computed
+
+module _ (start : ℤ) (length limit : ℕ) {q : Stretch} (e : q ≡ visible start length limit) where
+  -- It lies on the framebuffer and in the glyph.
+  pub stretch-within : (q .first + q .count ≤ limit) × (q .hidden + q .count ≤ length)
+  stretch-within = rw e (within start length limit, shown-within start length limit)
+
+  pub stretch-seen : (q .count ≡ 0 → ⊥) → Visible limit start length (q .hidden) (q .first) (q .count)
+  stretch-seen =
+      rw e (λ h.
+      let l : clamped start limit < clamped (start +ℤ pos length) limit = omega arith in
+      record { begins = begins start length limit l; ends = ends start length limit l; skips = skips start length limit l })
+
+  pub stretch-unseen : q .count ≡ 0 → minZ (start +ℤ pos length) (pos limit) ≤ℤ maxZ start (pos 0)
+  stretch-unseen = rw e (λ h. beside start length limit (omega arith))

@@ -1,10 +1,15 @@
 -- Which pixels of a glyph lie on the framebuffer, in one direction: columns or rows.
 use Prim.Native.Nat.{ℕ, _-_}
 use lib.Dec.{ltb}
-use lib.IntN.{ℤ, pos, natAbs, _+ℤ_, _-ℤ_}
-use lib.Signed.{ltZ}
+use lib.IntN.{ℤ, pos, negsuc, natAbs, _+ℤ_, _-ℤ_}
+use lib.Signed.{ltZ, _≤ℤ_}
 use Rattle.integers.specs.Integers.{pick}
 use Rattle.glyph_renderer.specs.declared.geometry.Stretch.{Stretch}
+
+-- A place near enough that a glyph's end is a number of 32 bits.
+pub record Near (z : ℤ) : Type 0 where
+  pub low : negsuc 1073741823 ≤ℤ z
+  pub high : z ≤ℤ pos 1073741823
 
 -- the nearest number from 0 to the limit
 unfoldable pub clamped : ℤ → ℕ → ℕ

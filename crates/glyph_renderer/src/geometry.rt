@@ -1,8 +1,7 @@
 // Which rows and columns of a glyph lie on the framebuffer.
 ghost use mathlib.Core.Path.{_≡_};
-ghost use lib.IntN.{pos, negsuc};
-ghost use lib.Signed.{_≤ℤ_};
-ghost use Rattle.glyph_renderer.specs.Visible.{clamped, visible};
+ghost use Prim.Native.Nat.{_≤_};
+ghost use Rattle.glyph_renderer.specs.Visible.{Near, clamped, visible};
 
 // The visible part of a row of pixels: `count` of them from `first` on, the pixels before them being hidden.
 pub struct Stretch {
@@ -26,8 +25,8 @@ fn clamp(x: i32, limit: usize) -> usize
 }
 
 // The part of `length` pixels from `start` on that lies from 0 to before `limit`.
-pub fn get_visible(start: i32, length: u8, limit: usize) -> Stretch
-    requires { ⌜ (negsuc 1073741823 ≤ℤ start) × (start ≤ℤ pos 1073741823) ⌝ }
+pub fn get_visible(start: i32, length: usize, limit: usize) -> Stretch
+    requires { ⌜ Near start × (length ≤ 255) ⌝ }
     ensures { λ r. ⌜ r ≡ visible start length limit ⌝ }
 {
     let first = clamp(start, limit);
@@ -35,6 +34,6 @@ pub fn get_visible(start: i32, length: u8, limit: usize) -> Stretch
     Stretch {
         first,
         count: last - first,
-        hidden: clamp(0 - start, length as usize),
+        hidden: clamp(0 - start, length),
     }
 }

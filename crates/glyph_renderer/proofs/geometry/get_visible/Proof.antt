@@ -26,7 +26,7 @@ cast-clamp : tie.Need-cast-clamp
 cast-clamp c = search needs
 
 add-clamp : tie.Need-add-clamp
-add-clamp c = let s = c .before in rw (end-is s) (end-fits (s .args .start) (s .args .length) 0 (s .pre) (omega arith))
+add-clamp c = let s = c .before in rw (end-is s) (end-fits (s .args .start) (s .args .length) 0 (s .pre .0) (s .pre .1))
 
 first-is : (c : tie.After-clamp) → c .clamp .result ≡ clamped (c .before .args .start) (c .before .args .limit)
 first-is c = c .clamp .ensures ∙ simp (toZ-ofZ, c .before .fits .start)
@@ -41,7 +41,7 @@ sub-t8 : tie.Need-sub-t8
 sub-t8 c = let a = c .before .before .args in omega (arith, first-is (c .before), last-is c, ordered (a .start) (a .length) (a .limit))
 
 sub-clamp : tie.Need-sub-clamp
-sub-clamp c = let s = c .before .before in rw (opposite-is s) (opposite-fits (s .args .start) (s .args .length) 0 (s .pre))
+sub-clamp c = let s = c .before .before in rw (opposite-is s) (opposite-fits (s .args .start) (s .args .length) 0 (s .pre .0))
 
 clamp-requires-3 : tie.Need-clamp-requires-3
 clamp-requires-3 c κs = search needs
