@@ -1,6 +1,8 @@
 // A glyph's runs, pair by pair.
 ghost use mathlib.Core.Path.{_≡_};
 ghost use Prim.Native.Nat.{_+_, _*_, _<_};
+ghost use lib.Dec.{ltb};
+ghost use Rattle.integers.specs.Integers.{pick};
 ghost use Rattle.glyph_renderer.specs.RunReads.{Readable, firstPair, nextPair};
 ghost use Rattle.glyph_renderer.specs.Stands.{CheckedGlyph, StandsAt};
 ghost use Rattle.glyph_renderer.specs.declared.runs.RunsRead.the-variants.{Pair, Ends};
@@ -22,6 +24,16 @@ impl Runs {
         ensures { λ r. ⌜ r ≡ self .zeros + self .ones ⌝ }
     {
         (self.zeros as usize) + (self.ones as usize)
+    }
+
+    // the pixel after so many of them: the zeros come first
+    pub fn pixel(self, offset: usize) -> u8
+        ensures { λ r. ⌜ r ≡ pick (ltb offset (self .zeros)) 0 1 ⌝ }
+    {
+        if offset < (self.zeros as usize) {
+            return 0;
+        }
+        1
     }
 }
 
@@ -72,7 +84,7 @@ pub fn next_pair(font: &[u8], m0: u8, m1: u8, runs: Runs) -> RunsRead
 }
 
 // The pair of a read before which the font cannot end, as the runs were checked.
-fn checked(read: RunsRead) -> Runs
+pub fn checked(read: RunsRead) -> Runs
     requires { ⌜ (read ≡ Ends → ⊥) ⌝ }
     ensures { λ r. ⌜ read ≡ Pair r ⌝ }
 {
@@ -95,7 +107,7 @@ pub struct Place {
 // The place of a glyph's pixel: whole pairs are passed over.
 pub fn seek(font: &[u8], head: FontReader, glyph: GlyphReader, pixel: usize) -> Place
     requires { ⌜ CheckedGlyph (now font) head glyph × (pixel < glyph .«glyph_width» * glyph .«glyph_height») ⌝ }
-    ensures { λ r. ⌜ StandsAt (now (font .entry)) head glyph (r .runs) (r .offset) pixel ⌝ }
+    ensures { λ r. ⌜ StandsAt (now (font .entry)) head glyph (r .runs) (r .offset) pixel × (r .offset < r .runs .zeros + r .runs .ones) ⌝ }
 {
     let mut runs = checked(first_pair(font, head.m0, head.m1, glyph.bit_pos));
     let mut offset = pixel;

@@ -65,7 +65,7 @@ loop-again c =
     (stands-next (c .before .before .before .before .before .loop .inv n ps h s) (omega arith) h (sym (c .before .next-pair .ensures) ∙ c .checked2 .ensures))
 
 returns : tie.Need-returns Inv-loop μ-loop
-returns c = standing (c .before .before)
+returns c = (standing (c .before .before), omega arith)
 
 pub seek-spec : {M : Type 1} → statement M
 seek-spec =
