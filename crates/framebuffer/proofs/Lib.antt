@@ -2,3 +2,4 @@ pub mod PaintLaws
 pub mod WriteLaws
 pub mod RowLaws
 pub mod PartLaws
+pub mod ClipLaws

@@ -21,7 +21,7 @@ use Rattle.framebuffer.specs.Rows.{rowRectangle, rowPicture, firstRows}
 -- ---- the rows of a rectangle, one after the other
 
 -- a rectangle covers a pixel, or the pixel does not lie in it
-outside : (r : Rectangle) (column row : ℤ) → covers r column row ≡ false → Inside column row r → ⊥
+pub outside : (r : Rectangle) (column row : ℤ) → covers r column row ≡ false → Inside column row r → ⊥
 outside r column row e h = let k = inside-covers column row r h in let z : _≡_ {A = ℕ} 0 1 = cc in omega arith
 
 -- before the first row nothing is drawn
