@@ -8,6 +8,7 @@ pub mod BitsLaws
 pub mod GlyphLaws
 pub mod LookupLaws
 pub mod VerticalOffsetLaws
+pub mod RunsLaws
 pub mod FramebufferLaws
 pub mod TextLaws
 pub mod PictureLaws

@@ -1,0 +1,4 @@
+pub mod RunReadsLaws
+pub mod VisibleLaws
+pub mod StandsLaws
+pub mod DrawLaws
