@@ -30,5 +30,7 @@ fn has_bad_coordinate(coordinate: i32) -> bool
 pub fn has_bad_place(position: Point, line_height: u32) -> bool
     ensures { λ r. ⌜ r ≡ placeCause position «line_height» .applies ⌝ }
 {
-    has_bad_coordinate(position.x) | has_bad_coordinate(position.y) | (MAX_LINE_HEIGHT < line_height)
+    has_bad_coordinate(position.x)
+        | has_bad_coordinate(position.y)
+        | (MAX_LINE_HEIGHT < line_height)
 }

@@ -64,12 +64,12 @@ pub fn try_retrieve_glyph_data(
     letter_of(retrieve_glyph_data(font, head, ch), ignore_unknown_chars)
 }
 
-// The left edge of a glyph at a place.
-fn left(x: i32, offset_x: i8) -> i32
+// A coordinate moved by an offset or an advance of a glyph.
+pub fn moved(x: i32, by: i8) -> i32
     requires { ⌜ Near x ⌝ }
-    ensures { λ r. ⌜ r ≡ x +ℤ «offset_x» ⌝ }
+    ensures { λ r. ⌜ r ≡ x +ℤ by ⌝ }
 {
-    x + (offset_x as i32)
+    x + (by as i32)
 }
 
 // The top edge: the offset counts upwards, from the place to the glyph's lowest row.
@@ -90,7 +90,7 @@ pub fn get_glyph_bounding_box(glyph: GlyphReader, x: i32, y: i32) -> BoundingBox
     }
     BoundingBox::Some(Rectangle {
         top_left: Point {
-            x: left(x, glyph.offset_x),
+            x: moved(x, glyph.offset_x),
             y: top(y, glyph.glyph_height, glyph.offset_y),
         },
         size: Size {

@@ -18,8 +18,8 @@ module _ (c : tie.Start) where
 returns : tie.Need-returns
 returns c = simp (c .if1 .taken)
 
-left-requires : tie.Need-left-requires
-left-requires c κs = search needs
+moved-requires : tie.Need-moved-requires
+moved-requires c κs = search needs
 
 top-requires : tie.Need-top-requires
 top-requires c κs = search needs
@@ -35,9 +35,9 @@ returns-2 c =
     let top = c .before .before in
     let left = top .before .before in
     let s = left .before .before .before .before .before in
-    simp (left .before .before .if1 .left, stored w32 (left .left .ok) (left .left .ensures), stored w32 (top .top .ok) (top .top .ensures))
+    simp (left .before .before .if1 .left, stored w32 (left .moved .ok) (left .moved .ensures), stored w32 (top .top .ok) (top .top .ensures))
     (simp (toZ-ofZ, x-fits s, y-fits s, s .fits .x, s .fits .y))
 
 pub get-glyph-bounding-box-spec : {M : Type 1} → statement M
 get-glyph-bounding-box-spec =
-    tie.close (tie.spec returns left-requires top-requires cast-t10 cast-t11 returns-2)
+    tie.close (tie.spec returns moved-requires top-requires cast-t10 cast-t11 returns-2)
