@@ -11,7 +11,7 @@ const MAX_COORDINATE: i32 = 1_048_576;
 const MAX_LINE_HEIGHT: u32 = 65_535;
 
 // Cause 4. All of the text is looked at, so none of a text that is not UTF-8 is drawn.
-pub fn has_bad_text(text: &[u8]) -> bool
+pub(crate) fn has_bad_text(text: &[u8]) -> bool
     ensures { λ r. ⌜ r ≡ textCause (now (text .entry)) .applies ⌝ }
 {
     if MAX_TEXT_SIZE < text.len() {
@@ -27,7 +27,7 @@ fn has_bad_coordinate(coordinate: i32) -> bool
 }
 
 // Cause 5. The place is the given one: the anchor and the advance may move a glyph past the limit.
-pub fn has_bad_place(position: Point, line_height: u32) -> bool
+pub(crate) fn has_bad_place(position: Point, line_height: u32) -> bool
     ensures { λ r. ⌜ r ≡ placeCause position «line_height» .applies ⌝ }
 {
     has_bad_coordinate(position.x)

@@ -12,7 +12,7 @@ use types::font_reader::FontReader;
 use types::geometry::Point;
 use types::style::VerticalPosition;
 
-pub enum OriginResult {
+pub(crate) enum OriginResult {
     Ok(Point),
     Err(Error),
 }
@@ -42,7 +42,7 @@ fn text_origin(
 }
 
 // The origin, or 01's cause 4 or 5, in this order.
-pub fn checked_origin(
+pub(crate) fn checked_origin(
     head: FontReader,
     text: &[u8],
     position: Point,

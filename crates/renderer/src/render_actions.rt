@@ -19,7 +19,7 @@ use types::glyph_reader::GlyphReader;
 use types::results::GlyphResult;
 
 // A letter shows a glyph, or nothing where it is unknown and skipped, or stops the text.
-pub enum Letter {
+pub(crate) enum Letter {
     Shows(GlyphReader),
     Nothing,
     Stops(Error),
@@ -39,7 +39,7 @@ fn skip_unknown(error: Error, ignore_unknown_chars: bool) -> Letter
 }
 
 // The letter that a lookup's answer makes.
-pub fn letter_of(lookup: GlyphResult, ignore_unknown_chars: bool) -> Letter
+pub(crate) fn letter_of(lookup: GlyphResult, ignore_unknown_chars: bool) -> Letter
     ensures { λ r. ⌜ asLetter r ≡ letter «ignore_unknown_chars» (glyphOutcome lookup) ⌝ }
 {
     let GlyphResult::Ok(glyph) = lookup else {
@@ -52,7 +52,7 @@ pub fn letter_of(lookup: GlyphResult, ignore_unknown_chars: bool) -> Letter
 }
 
 // The letter of a code point in measuring, which reads no runs.
-pub fn try_retrieve_glyph_data(
+pub(crate) fn try_retrieve_glyph_data(
     font: &[u8],
     head: FontReader,
     ch: u32,
@@ -65,7 +65,7 @@ pub fn try_retrieve_glyph_data(
 }
 
 // A coordinate moved by an offset or an advance of a glyph.
-pub fn moved(x: i32, by: i8) -> i32
+pub(crate) fn moved(x: i32, by: i8) -> i32
     requires { ⌜ Near x ⌝ }
     ensures { λ r. ⌜ r ≡ x +ℤ by ⌝ }
 {
@@ -81,7 +81,7 @@ fn top(y: i32, height: u8, offset_y: i8) -> i32
 }
 
 // The bounding box of a glyph at a place. A glyph without pixels has none.
-pub fn get_glyph_bounding_box(glyph: GlyphReader, x: i32, y: i32) -> BoundingBox
+pub(crate) fn get_glyph_bounding_box(glyph: GlyphReader, x: i32, y: i32) -> BoundingBox
     requires { ⌜ Near x × Near y ⌝ }
     ensures { λ r. ⌜ r ≡ boxAt x y glyph ⌝ }
 {

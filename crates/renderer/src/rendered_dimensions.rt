@@ -28,7 +28,7 @@ use utils::combine_bounding_boxes;
 
 const NEWLINE: u32 = 10;
 
-pub fn add_newline(dimensions: RenderedDimensions, line_height: u32) -> RenderedDimensions
+pub(crate) fn add_newline(dimensions: RenderedDimensions, line_height: u32) -> RenderedDimensions
     requires { ⌜ Near (dimensions .advance .y) × («line_height» ≤ 65535) ⌝ }
     ensures { λ r. ⌜ r ≡ newlineStep «line_height» dimensions ⌝ }
 {
@@ -44,7 +44,7 @@ pub fn add_newline(dimensions: RenderedDimensions, line_height: u32) -> Rendered
 }
 
 // The glyph stands at the advance so far, and then adds its own.
-pub fn add_glyph(
+pub(crate) fn add_glyph(
     dimensions: RenderedDimensions,
     origin: Point,
     glyph: GlyphReader,
@@ -64,7 +64,7 @@ pub fn add_glyph(
     }
 }
 
-pub fn add_letter(dimensions: RenderedDimensions, origin: Point, letter: Letter) -> DimensionsResult
+pub(crate) fn add_letter(dimensions: RenderedDimensions, origin: Point, letter: Letter) -> DimensionsResult
     requires { ⌜ HasRoom origin dimensions ⌝ }
     ensures { λ r. ⌜ dimensionsOutcome r ≡ letterStep origin dimensions (asLetter letter) ⌝ }
 {
