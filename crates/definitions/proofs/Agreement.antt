@@ -116,7 +116,7 @@ module _ (font : List ℕ) (r : Request) (p : Panel) (within : WithinLimits font
   measuring : anyApplies (measureCauses font (r .text) (r .position) (r .lineHeight)) ≡ false
   measuring = all-off (measureCauses font (r .text) (r .position) (r .lineHeight)) (off .0, (off .1 .0, off .1 .1 .1))
 
-  size : length (p .before) ≡ p .width * p .height
+  pub size : length (p .before) ≡ p .width * p .height
   size =
       let area = or-false (sideOff (p .width) || sideOff (p .height)) (not (eqb (length (p .before)) (p .width * p .height))) (off .1 .1 .0) .1 in
       eqb-true (length (p .before)) (p .width * p .height) (not-false _ area)

@@ -15,3 +15,4 @@ pub mod PictureLaws
 pub mod RefusalLaws
 pub mod Agreement
 pub mod AgreementCase
+pub mod RedrawLaws
