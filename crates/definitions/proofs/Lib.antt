@@ -11,3 +11,5 @@ pub mod VerticalOffsetLaws
 pub mod FramebufferLaws
 pub mod TextLaws
 pub mod PictureLaws
+pub mod LineCases
+pub mod LineLaws
