@@ -2,7 +2,6 @@
 use mathlib.Core.Path.{_≡_, refl}
 use mathlib.Core.List.{List, [], _∷_, map}
 use Prim.Native.Nat.{ℕ}
-use lib.ListN.{replicate}
 use Rattle.integers.specs.Integers.{signed8}
 use Rattle.definitions.specs.Header.{header, headerOff}
 use Rattle.definitions.specs.Bits.{lowBits, bits, number, readAt}

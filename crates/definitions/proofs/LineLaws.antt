@@ -1,6 +1,6 @@
 -- Laws of a number's decimal digits: the bound on the recursion decides nothing, and the digits are those of the number and no
 -- others. Assumes nothing.
-use mathlib.Core.Path.{_≡_, refl, sym, ap, _∙_}
+use mathlib.Core.Path.{_≡_, refl, ap, _∙_}
 use mathlib.Core.Bool.{Bool, true, false}
 use mathlib.Core.List.{List, [], _∷_, _++_}
 use Prim.Native.Nat.{ℕ, zero, suc, _+_, _-_, _*_, _/_, _%_, _≤_, _<_}
@@ -8,9 +8,12 @@ use native.Mathlib.Decide.{decLt}
 use native.Mathlib.Omega.{arith}
 use borrow.Author.Tests.{ltb-true, ltb-false, lt-ltb, le-ltb}
 use lib.Dec.{ltb}
+use lib.IntN.{ℤ, pos, negsuc, natAbs}
 use lib.ListN.{length, getD, length-append}
+use lib.Signed.{ltZ}
 use Rattle.integers.specs.Integers.{pick}
-use Rattle.definitions.specs.Line.{decimalFrom, decimal}
+use Rattle.integers.proofs.Laws.{zarith, ltZ-false}
+use Rattle.definitions.specs.Line.{decimalFrom, decimal, signedDecimal}
 
 -- two choices by one test, alike where the test fails
 alike : {A : Type 0} (t : Bool) (a : A) {x y : A} → (t ≡ false → x ≡ y) → pick t a x ≡ pick t a y
@@ -85,3 +88,12 @@ no-leading-zero n =
     (λ n h. (omega arith, λ p. omega arith))
     (λ n ds h r. (simp length-append (omega arith), λ p. rw (first-append ds (48 + n % 10) (r .0)) (r .1 (omega arith))))
     n .1
+
+-- A sign stands where the number is negative.
+pub minus-sign : (z : ℤ) → ltZ z (pos 0) ≡ true → signedDecimal z ≡ 45 ∷ decimal (natAbs z)
+minus-sign (pos n) h = absurd (omega (arith, ltb-true n 0 h))
+minus-sign (negsuc n) h = refl
+
+pub no-sign : (z : ℤ) → ltZ z (pos 0) ≡ false → signedDecimal z ≡ decimal (natAbs z)
+no-sign (pos n) h = refl
+no-sign (negsuc n) h = absurd (omega (zarith, ltZ-false (negsuc n) (pos 0) h))
