@@ -1,5 +1,5 @@
--- Laws of a number's decimal digits: the bound on the recursion decides nothing, and the digits are those of the number and no
--- others. Assumes nothing.
+-- Laws of the measuring program's line. A number's decimal digits: the bound on the recursion decides nothing, and the digits
+-- are those of the number and no others. Then signs, and what the program measures. Assumes nothing.
 use mathlib.Core.Path.{_≡_, refl, ap, _∙_}
 use mathlib.Core.Bool.{Bool, true, false}
 use mathlib.Core.List.{List, [], _∷_, _++_}
@@ -13,7 +13,12 @@ use lib.ListN.{length, getD, length-append}
 use lib.Signed.{ltZ}
 use Rattle.integers.specs.Integers.{pick}
 use Rattle.integers.proofs.Laws.{zarith, ltZ-false}
-use Rattle.definitions.specs.Line.{decimalFrom, decimal, signedDecimal}
+use Rattle.types.specs.declared.font_reader.FontReader.{FontReader}
+use Rattle.types.specs.declared.style.VerticalPosition.the-variants.{Baseline}
+use Rattle.definitions.specs.Refusals.{success, refused}
+use Rattle.definitions.specs.Text.{point}
+use Rattle.definitions.specs.Calls.{openFont, measure}
+use Rattle.definitions.specs.Line.{decimalFrom, decimal, signedDecimal, measuredByProgram}
 
 -- two choices by one test, alike where the test fails
 alike : {A : Type 0} (t : Bool) (a : A) {x y : A} → (t ≡ false → x ≡ y) → pick t a x ≡ pick t a y
@@ -97,3 +102,18 @@ minus-sign (negsuc n) h = refl
 pub no-sign : (z : ℤ) → ltZ z (pos 0) ≡ false → signedDecimal z ≡ decimal (natAbs z)
 no-sign (pos n) h = refl
 no-sign (negsuc n) h = absurd (omega (zarith, ltZ-false (negsuc n) (pos 0) h))
+
+-- What the program measures: a font that is too long, one that does not open, one that opens.
+module _ (font text : List ℕ) where
+  pub font-too-long : 65536 < length font → measuredByProgram font text ≡ refused 1 0
+  unfolding measuredByProgram
+  font-too-long h = simp (lt-ltb 65536 (length font) h)
+
+  module _ (h : length font ≤ 65536) where
+    pub font-refused : (n c : ℕ) → openFont font ≡ refused n c → measuredByProgram font text ≡ refused n c
+    unfolding measuredByProgram
+    font-refused n c e = simp (le-ltb 65536 (length font) h, e)
+
+    pub font-opens : (head : FontReader) → openFont font ≡ success head → measuredByProgram font text ≡ measure font text (point (pos 0) (pos 0)) Baseline (head .«line_height») false
+    unfolding measuredByProgram
+    font-opens head e = simp (le-ltb 65536 (length font) h, e)

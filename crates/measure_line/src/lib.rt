@@ -5,14 +5,20 @@ ghost use mathlib.Core.Path.{_≡_};
 ghost use mathlib.Core.List.{_++_};
 ghost use Prim.Native.Nat.{_+_, _≤_};
 ghost use lib.ListN.{length, take};
+ghost use Rattle.io.specs.Counts.{Counts};
 ghost use Rattle.definitions.specs.Refusals.{success, refusal};
 ghost use Rattle.definitions.specs.Calls.{dimensionsOutcome};
-ghost use Rattle.definitions.specs.Line.{spaced, boxWords, outcomeLine};
+ghost use Rattle.definitions.specs.Line.{spaced, boxWords, outcomeLine, measuredByProgram, measuringLine};
+use font_reader::new_from_raw_data;
+use renderer::rendered_dimensions::get_rendered_dimensions;
 use types::error::Error;
 use types::geometry::BoundingBox;
+use types::geometry::Point;
 use types::geometry::Rectangle;
 use types::geometry::RenderedDimensions;
 use types::results::DimensionsResult;
+use types::results::FontReaderResult;
+use types::style::VerticalPosition;
 use utils::error::error_code_point;
 use utils::error::error_number;
 use writer::append;
@@ -70,4 +76,36 @@ fn result_line(out: &mut [u8], result: DimensionsResult) -> usize
         DimensionsResult::Ok(d) => success_line(out, d),
         DimensionsResult::Err(e) => refusal_line(out, e),
     }
+}
+
+// The longest font that the program takes; the calls take longer ones.
+const MAX_FONT_SIZE: usize = 65_536;
+
+fn measured(font: &[u8], text: &[u8]) -> DimensionsResult
+    ensures { λ r. ⌜ dimensionsOutcome r ≡ measuredByProgram (now (font .entry)) (now (text .entry)) ⌝ }
+{
+    if MAX_FONT_SIZE < font.len() {
+        return DimensionsResult::Err(Error::FontLength);
+    }
+    match new_from_raw_data(font) {
+        FontReaderResult::Err(error) => DimensionsResult::Err(error),
+        FontReaderResult::Ok(head) => get_rendered_dimensions(
+            font,
+            text,
+            Point { x: 0, y: 0 },
+            VerticalPosition::Baseline,
+            head.line_height,
+            false,
+        ),
+    }
+}
+
+// Writes the line to the start of `out` and answers its length. The longest line has 73 bytes: `ok`,
+// four signed numbers, two unsigned ones, a space before each, and the newline.
+pub fn measure_line(font: &[u8], text: &[u8], out: &mut [u8]) -> usize
+    requires { ⌜ 73 ≤ length (now out) ⌝ }
+    ensures { λ n. ⌜ Counts n (now (out .exit)) × (take n (now (out .exit)) ≡ measuringLine (now (font .entry)) (now (text .entry))) ⌝ }
+{
+    let result = measured(font, text);
+    result_line(out, result)
 }
