@@ -6,13 +6,13 @@ use Prim.Native.Nat.{ℕ, _+_, _*_, _≤_}
 use native.Mathlib.Nat.{mul-le-mul, zero-add}
 use native.Mathlib.Omega.{arith}
 use lib.Dec.{eqb}
-use lib.IntN.{ℤ, pos, negsuc, _+ℤ_, _-ℤ_}
+use lib.IntN.{ℤ, pos, negsuc, negℤ, _+ℤ_, _-ℤ_}
 use lib.ListN.{length}
 use lib.Signed.{_≤ℤ_}
 use mir.Syntax.{w8, w32}
 use mir.Val.{SFits}
 use Rattle.integers.specs.Integers.{pick}
-use Rattle.integers.proofs.Laws.{zarith, plus, minus, range}
+use Rattle.integers.proofs.Laws.{zarith, plus, minus, neg, range}
 use Rattle.types.specs.declared.geometry.BoundingBox.{BoundingBox}
 use Rattle.types.specs.declared.geometry.BoundingBox.the-variants.{None, Some}
 use Rattle.types.specs.declared.geometry.Point.{Point}
@@ -33,6 +33,10 @@ near-fits h = omega zarith
 
 pub signed-byte : {z : ℤ} → SFits w8 z → SignedByte z
 signed-byte {z} f = record { low = omega (zarith, range f); high = omega (zarith, range f) }
+
+-- the code's -z is 0 less z
+pub negated : (z : ℤ) → pos 0 -ℤ z ≡ negℤ z
+negated z = omega (zarith, minus (pos 0) z, neg z)
 
 -- ---- a glyph
 
