@@ -48,6 +48,9 @@ pub record Small (g : GlyphReader) : Type 0 where
   pub y : SignedByte (g .«offset_y»)
   pub advance : SignedByte (g .advance)
 
+pub fits-small : {g : GlyphReader} → g .«glyph_width» ≤ 255 → g .«glyph_height» ≤ 255 → SFits w8 (g .«offset_x») → SFits w8 (g .«offset_y») → SFits w8 (g .advance) → Small g
+fits-small w h x y a = record { width = w; height = h; x = signed-byte x; y = signed-byte y; advance = signed-byte a }
+
 pub in-range-small : {font : List ℕ} {g : GlyphReader} → InRange font g → Small g
 in-range-small r = record { width = r .width; height = r .height; x = r .x; y = r .y; advance = r .advance }
 

@@ -64,7 +64,11 @@ pub(crate) fn add_glyph(
     }
 }
 
-pub(crate) fn add_letter(dimensions: RenderedDimensions, origin: Point, letter: Letter) -> DimensionsResult
+pub(crate) fn add_letter(
+    dimensions: RenderedDimensions,
+    origin: Point,
+    letter: Letter,
+) -> DimensionsResult
     requires { ⌜ HasRoom origin dimensions ⌝ }
     ensures { λ r. ⌜ dimensionsOutcome r ≡ letterStep origin dimensions (asLetter letter) ⌝ }
 {
