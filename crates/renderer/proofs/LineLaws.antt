@@ -23,7 +23,7 @@ use Rattle.definitions.specs.Geometry.{left, spanLength, join, SpanInReach, InR
 use Rattle.definitions.specs.Text.{Letter, shows, nothing, stops, boxAt, horizontalOffset}
 use Rattle.definitions.specs.TextSteps.{movedBox, LineState, withLine, newlineAligned, glyphAligned, letterAligned, stepAligned}
 use Rattle.definitions.proofs.JoinLaws.{end, join-end, reach-join}
-use Rattle.renderer.specs.Ranges.{Near, Checked, LineSpan, LineInReach, LineHasRoom}
+use Rattle.renderer.specs.Ranges.{Near, Checked, LineSpan, LineInReach, LineFits, LineHasRoom}
 use Rattle.renderer.proofs.RangeLaws.{Small, Advanced, advanced-x, advanced-y, near-row, advanced-newline, advanced-letter, advanced-nothing}
 
 -- ---- boxes
@@ -104,25 +104,25 @@ offset-bounds Center (Some r) x p q h =
     omega (zarith, plus (left r) (pos (r .size .width)), plus (pos (r .size .width / 2)) (left r), neg m)
 offset-bounds Right b x p q h = omega (zarith, minus x (pos 1), neg (x -ℤ pos 1))
 
+pub x-near : {s : LineState} → LineFits s → Near (s .x)
+x-near f = let l = f .left in let r = f .right in record { low = omega zarith; high = omega zarith }
+
 module _ {origin : Point} {s : LineState} (room : LineHasRoom origin s) where
   pub offset-near : (a : HorizontalAlignment) → Near (horizontalOffset a (s .line) (s .x))
   offset-near a =
-      let o = offset-bounds a (s .line) (s .x) (room .left) (room .right) (room .line) in
+      let o = offset-bounds a (s .line) (s .x) (room .fits .left) (room .fits .right) (room .fits .line) in
       record { low = omega zarith; high = omega zarith }
 
   pub column-near : (a : HorizontalAlignment) → Near (origin .x +ℤ horizontalOffset a (s .line) (s .x))
   column-near a =
-      let o = offset-bounds a (s .line) (s .x) (room .left) (room .right) (room .line) in
+      let o = offset-bounds a (s .line) (s .x) (room .fits .left) (room .fits .right) (room .fits .line) in
       let l = room .origin-left in
       let r = room .origin-right in
       let z = horizontalOffset a (s .line) (s .x) in
       record { low = omega (zarith, plus (origin .x) z); high = omega (zarith, plus (origin .x) z) }
 
   pub with-line-in-reach : (a : HorizontalAlignment) → InReach (withLine a origin s)
-  with-line-in-reach a = reach-join (s .box) _ (room .box) (moved-in-reach (s .line) (column-near a) (room .row) (room .line))
-
-  pub x-near : Near (s .x)
-  x-near = let l = room .left in let r = room .right in record { low = omega zarith; high = omega zarith }
+  with-line-in-reach a = reach-join (s .box) _ (room .fits .box) (moved-in-reach (s .line) (column-near a) (room .row) (room .fits .line))
 
 -- ---- the lines after `at` bytes
 
@@ -144,14 +144,16 @@ module _ {lineHeight at : ℕ} {rest : List ℕ} {s : LineState} (h : at ≤ 409
       let r = x-right in
       let y = advanced-y h (w .advance) in
       record {
-        left = omega zarith;
-        right = omega zarith;
-        line = w .line;
+        fits = record {
+          left = omega zarith;
+          right = omega zarith;
+          line = w .line;
+          y = record { low = omega zarith; high = omega zarith };
+          box = w .box;
+        };
         origin-left = k .left;
         origin-right = k .right;
-        y = record { low = omega zarith; high = omega zarith };
         row = near-row h (w .advance) k;
-        box = w .box;
       }
 
 module _ {letters : ℕ → Letter} (small : (c : ℕ) (g : GlyphReader) → letters c ≡ shows g → Small g) (a : HorizontalAlignment) where

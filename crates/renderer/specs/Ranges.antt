@@ -53,13 +53,17 @@ abbrev pub LineInReach : BoundingBox → Type 0
 LineInReach None = Unit {0}
 LineInReach (Some r) = LineRectangle r
 
--- the lines so far leave room for one more letter
-pub record LineHasRoom (origin : Point) (s : LineState) : Type 0 where
+-- the lines so far leave room for one more letter ..
+pub record LineFits (s : LineState) : Type 0 where
   pub left : negsuc 1048575 ≤ℤ s .x
   pub right : s .x ≤ℤ pos 1048575
   pub line : LineInReach (s .line)
+  pub y : Near (s .y)
+  pub box : InReach (s .box)
+
+-- .. and the line may end here
+pub record LineHasRoom (origin : Point) (s : LineState) : Type 0 where
+  pub fits : LineFits s
   pub origin-left : negsuc 1048575 ≤ℤ origin .x
   pub origin-right : origin .x ≤ℤ pos 1048576
-  pub y : Near (s .y)
   pub row : Near (origin .y +ℤ s .y)
-  pub box : InReach (s .box)

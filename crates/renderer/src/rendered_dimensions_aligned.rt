@@ -6,7 +6,7 @@ ghost use Rattle.definitions.specs.TextSteps.{movedBox, withLine, newlineAligne
 ghost use Rattle.definitions.specs.Calls.{characters, measuredLetter, measureAligned, boundingBoxOutcome};
 ghost use Rattle.renderer.specs.Letters.{asLetter};
 ghost use Rattle.renderer.specs.Lines.{asState, stateOutcome};
-ghost use Rattle.renderer.specs.Ranges.{Near, LineInReach, LineHasRoom, Checked};
+ghost use Rattle.renderer.specs.Ranges.{Near, LineInReach, LineFits, LineHasRoom, Checked};
 use crate::origin::OriginResult;
 use crate::origin::checked_origin;
 use crate::render_actions::Letter;
@@ -92,8 +92,8 @@ fn add_newline(
     }
 }
 
-fn add_glyph(state: LineState, origin: Point, glyph: GlyphReader) -> LineState
-    requires { ⌜ LineHasRoom origin (asState state) ⌝ }
+fn add_glyph(state: LineState, glyph: GlyphReader) -> LineState
+    requires { ⌜ LineFits (asState state) ⌝ }
     ensures { λ r. ⌜ asState r ≡ glyphAligned (asState state) glyph ⌝ }
 {
     let line_box = state.line_box;
@@ -107,12 +107,12 @@ fn add_glyph(state: LineState, origin: Point, glyph: GlyphReader) -> LineState
     }
 }
 
-fn add_letter(state: LineState, origin: Point, letter: Letter) -> LineResult
-    requires { ⌜ LineHasRoom origin (asState state) ⌝ }
+fn add_letter(state: LineState, letter: Letter) -> LineResult
+    requires { ⌜ LineFits (asState state) ⌝ }
     ensures { λ r. ⌜ stateOutcome r ≡ letterAligned (asState state) (asLetter letter) ⌝ }
 {
     match letter {
-        Letter::Shows(glyph) => LineResult::Ok(add_glyph(state, origin, glyph)),
+        Letter::Shows(glyph) => LineResult::Ok(add_glyph(state, glyph)),
         Letter::Nothing => LineResult::Ok(state),
         Letter::Stops(error) => LineResult::Err(error),
     }
@@ -135,7 +135,7 @@ fn add_char(
         return LineResult::Ok(add_newline(state, horizontal_align, line_height, origin));
     }
     let letter = try_retrieve_glyph_data(font, head, ch, ignore_unknown_chars);
-    add_letter(state, origin, letter)
+    add_letter(state, letter)
 }
 
 // The letters of a checked text, one after the other. The first that stops the text is the answer.

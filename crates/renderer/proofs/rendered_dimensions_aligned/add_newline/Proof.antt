@@ -15,10 +15,10 @@ module _ (c : tie.Start) where
   line-is = toZ-pos w32 (search needs)
 
   y-fits : SFits w32 (c .args .state .«advance_y»)
-  y-fits = near-fits (c .pre .0 .y)
+  y-fits = near-fits (c .pre .0 .fits .y)
 
   sum-fits : SFits w32 (c .args .state .«advance_y» +ℤ pos (c .args .line-height))
-  sum-fits = let y = c .pre .0 .y in omega (zarith, plus (c .args .state .«advance_y») (pos (c .args .line-height)))
+  sum-fits = let y = c .pre .0 .fits .y in omega (zarith, plus (c .args .state .«advance_y») (pos (c .args .line-height)))
 
 cast-t6 : tie.Need-cast-t6
 cast-t6 c = search needs

@@ -22,10 +22,10 @@ module _ (c : tie.Start) where
   origin-y = search needs
 
   advance-x : SFits w32 (c .args .state .«line_advance»)
-  advance-x = near-fits (x-near (c .pre))
+  advance-x = near-fits (x-near (c .pre .fits))
 
   advance-y : SFits w32 (c .args .state .«advance_y»)
-  advance-y = near-fits (c .pre .y)
+  advance-y = near-fits (c .pre .fits .y)
 
   abbrev offset : ℤ
   offset = horizontalOffset (c .args .horizontal-align) (c .args .state .«line_box») (c .args .state .«line_advance»)
@@ -57,7 +57,7 @@ module _ (c : tie.After-move-box) where
 compute-horizontal-offset-requires : tie.Need-compute-horizontal-offset-requires
 compute-horizontal-offset-requires c κs =
     let s = c .before in
-    simp (toZ-ofZ, advance-x s) (s .pre .line, x-near (s .pre))
+    simp (toZ-ofZ, advance-x s) (s .pre .fits .line, x-near (s .pre .fits))
 
 add-move-box : tie.Need-add-move-box
 add-move-box c =
@@ -74,12 +74,12 @@ move-box-requires c κs =
     let k = c .before .before .before .before .before .before in
     let s = entry k in
     simp (offset-is k, toZ-ofZ, origin-x s, origin-y s, advance-y s)
-    (simp (toZ-ofZ, column-fits s, row-fits s) (s .pre .line, (column-near (s .pre) (s .args .horizontal-align), s .pre .row)))
+    (simp (toZ-ofZ, column-fits s, row-fits s) (s .pre .fits .line, (column-near (s .pre) (s .args .horizontal-align), s .pre .row)))
 
 combine-bounding-boxes-requires : tie.Need-combine-bounding-boxes-requires
 combine-bounding-boxes-requires c κs =
     let s = entry (offset-known c) in
-    (s .pre .box, subst InReach (sym (line-is c)) (moved-in-reach (s .args .state .«line_box») (column-near (s .pre) (s .args .horizontal-align)) (s .pre .row) (s .pre .line)))
+    (s .pre .fits .box, subst InReach (sym (line-is c)) (moved-in-reach (s .args .state .«line_box») (column-near (s .pre) (s .args .horizontal-align)) (s .pre .row) (s .pre .fits .line)))
 
 returns : tie.Need-returns
 returns c = simp (c .combine-bounding-boxes .ensures, line-is (c .before))
