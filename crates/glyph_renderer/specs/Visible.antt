@@ -1,10 +1,10 @@
--- Which pixels of a glyph lie on the framebuffer, in one direction: columns or rows.
-use Prim.Native.Nat.{ℕ, _-_}
+-- Which rows of a glyph lie on the framebuffer.
+use Prim.Native.Nat.{ℕ}
 use lib.Dec.{ltb}
-use lib.IntN.{ℤ, pos, negsuc, natAbs, _+ℤ_, _-ℤ_}
+use lib.IntN.{ℤ, pos, negsuc, natAbs, _-ℤ_}
 use lib.Signed.{ltZ, _≤ℤ_}
 use Rattle.integers.specs.Integers.{pick}
-use Rattle.glyph_renderer.specs.declared.geometry.Stretch.{Stretch}
+use Rattle.glyph_renderer.specs.declared.geometry.Rows.{Rows}
 
 -- A place near enough that a glyph's end is a number of 32 bits.
 pub record Near (z : ℤ) : Type 0 where
@@ -15,10 +15,9 @@ pub record Near (z : ℤ) : Type 0 where
 unfoldable pub clamped : ℤ → ℕ → ℕ
 clamped x limit = pick (ltZ x (pos 0)) 0 (pick (ltb limit (natAbs x)) limit (natAbs x))
 
--- Of so many pixels from `start` on, those from 0 to before the limit.
-abbrev pub visible : ℤ → ℕ → ℕ → Stretch
-visible start length limit = record {
-  first = clamped start limit;
-  count = clamped (start +ℤ pos length) limit - clamped start limit;
-  hidden = clamped (pos 0 -ℤ start) length;
+-- The rows of a glyph of that height which the framebuffer's rows, from 0 to before `height`, show.
+abbrev pub visibleRows : ℤ → ℕ → ℕ → Rows
+visibleRows top glyphHeight height = record {
+  first = clamped (pos 0 -ℤ top) glyphHeight;
+  past = clamped (pos height -ℤ top) glyphHeight;
 }

@@ -1,13 +1,12 @@
-// Which rows and columns of a glyph lie on the framebuffer.
+// Which rows of a glyph lie on the framebuffer.
 ghost use mathlib.Core.Path.{_≡_};
 ghost use Prim.Native.Nat.{_≤_};
-ghost use Rattle.glyph_renderer.specs.Visible.{Near, clamped, visible};
+ghost use Rattle.glyph_renderer.specs.Visible.{Near, clamped, visibleRows};
 
-// The visible part of a row of pixels: `count` of them from `first` on, the pixels before them being hidden.
-pub struct Stretch {
+// Rows of a glyph, from `first` to before `past`.
+pub struct Rows {
     pub first: usize,
-    pub count: usize,
-    pub hidden: usize,
+    pub past: usize,
 }
 
 // The nearest number from 0 to `limit`.
@@ -24,16 +23,14 @@ fn clamp(x: i32, limit: usize) -> usize
     n
 }
 
-// The part of `length` pixels from `start` on that lies from 0 to before `limit`.
-pub fn get_visible(start: i32, length: usize, limit: usize) -> Stretch
-    requires { ⌜ Near start × (length ≤ 255) ⌝ }
-    ensures { λ r. ⌜ r ≡ visible start length limit ⌝ }
+// The rows of a glyph that lie on a framebuffer of that height, the first row of the glyph being its row `top`.
+pub fn get_visible_rows(top: i32, glyph_height: u8, height: usize) -> Rows
+    requires { ⌜ Near top × (height ≤ 256) ⌝ }
+    ensures { λ r. ⌜ r ≡ visibleRows top «glyph_height» height ⌝ }
 {
-    let first = clamp(start, limit);
-    let last = clamp(start + (length as i32), limit);
-    Stretch {
-        first,
-        count: last - first,
-        hidden: clamp(0 - start, length),
+    let limit = glyph_height as usize;
+    Rows {
+        first: clamp(0 - top, limit),
+        past: clamp((height as i32) - top, limit),
     }
 }
