@@ -32,6 +32,7 @@ use Rattle.glyph_renderer.specs.declared.runs.RunsRead.the-variants.{Pai
 use Rattle.glyph_renderer.specs.RunReads.{nextPair}
 use Rattle.glyph_renderer.specs.Stands.{Stands, StandsAt}
 use Rattle.glyph_renderer.specs.Drawing.{RowsFit}
+use Rattle.glyph_renderer.proofs.VisibleLaws.{near-fits}
 use Rattle.glyph_renderer.proofs.StandsLaws.{stands-pixel, stands-on, next-known, stands-next}
 
 -- The rows before `row` are drawn on `old`, and of this one so many columns are collected.
@@ -62,12 +63,12 @@ module _ {font : List ℕ} {head : FontReader} {g : GlyphReader} {start : Place}
 
   -- where a row is drawn
   pub left-is : toZ w32 (ofZ w32 (left area)) ≡ left area
-  left-is = toZ-ofZ (omega (zarith, p .glyph .left .low, p .glyph .left .high))
+  left-is = toZ-ofZ (near-fits (p .glyph .left))
 
   module _ (row : ℕ) (small : row < 256) where
     sum-is : (toZ w32 (ofZ w32 (top area)) +ℤ toZ w32 row) ≡ (top area +ℤ pos row)
     sum-is =
-        let f : SFits w32 (top area) = omega (zarith, p .glyph .top .low, p .glyph .top .high) in
+        let f = near-fits (p .glyph .top) in
         let h : row < 2 ^ 31 = omega arith in
         simp (toZ-ofZ, f, toZ-pos w32)
 

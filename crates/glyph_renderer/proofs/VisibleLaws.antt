@@ -25,6 +25,9 @@ clamped-is (pos n) limit =
     simp (le-ltb n 0 (omega arith)) (lesser limit n (ltb limit n) refl ∙ e)
 clamped-is (negsuc n) limit = omega arith
 
+pub near-fits : {z : ℤ} → Near z → SFits w32 z
+near-fits near = omega (zarith, near .low, near .high)
+
 -- the difference that is taken
 pub difference-fits : (n : ℕ) (top : ℤ) → n ≤ 256 → Near top → SFits w32 (pos n -ℤ top)
 difference-fits n top h near = omega (zarith, minus (pos n) top, near .low, near .high)

@@ -7,15 +7,25 @@ mod runs;
 ghost use mathlib.Core.Path.{_≡_};
 ghost use Prim.Native.Nat.{_*_, _≤_};
 ghost use lib.ListN.{length};
+ghost use Rattle.definitions.specs.Calls.{pixelsOf};
+ghost use Rattle.definitions.specs.Framebuffer.{shown};
 ghost use Rattle.definitions.specs.Header.{Opened};
+ghost use Rattle.definitions.specs.Picture.{boxPicture};
 ghost use Rattle.definitions.specs.Runs.{glyphPixels};
+ghost use Rattle.glyph_renderer.specs.Drawing.{BufferFits, GlyphBox};
 ghost use Rattle.glyph_renderer.specs.RunReads.{isWhole};
+ghost use Rattle.glyph_renderer.specs.Stands.{CheckedGlyph};
+use geometry::get_visible_rows;
+use rows::draw_rows;
 use runs::Runs;
 use runs::RunsRead;
 use runs::first_pair;
 use runs::next_pair;
+use runs::seek;
 use types::font_reader::FontReader;
+use types::geometry::BoundingBox;
 use types::glyph_reader::GlyphReader;
+use types::style::FontColor;
 
 // Whether the font has all of a glyph's runs. The pixels are counted, run by run, and none is looked at.
 pub fn check_runs(font: &[u8], head: FontReader, glyph: GlyphReader) -> bool
@@ -38,4 +48,42 @@ pub fn check_runs(font: &[u8], head: FontReader, glyph: GlyphReader) -> bool
         runs = next;
     }
     true
+}
+
+// Draws a glyph whose runs were checked, which cannot fail. Pairs before the first visible row are passed over whole, and the
+// reading ends with the last visible row.
+pub fn render_glyph(
+    font: &[u8],
+    head: FontReader,
+    glyph: GlyphReader,
+    bounding_box: BoundingBox,
+    color: FontColor,
+    buffer: &mut [u8],
+    width: usize,
+    height: usize,
+)
+    requires { ⌜ CheckedGlyph (now font) head glyph × (GlyphBox glyph «bounding_box» × BufferFits (length (now buffer)) width height) ⌝ }
+    ensures { λ r. ⌜ now (buffer .exit) ≡ shown width (boxPicture color (pixelsOf (now (font .entry)) glyph) «bounding_box») (now (buffer .entry)) ⌝ }
+{
+    let BoundingBox::Some(area) = bounding_box else {
+        return;
+    };
+    let corner = area.top_left;
+    let rows = get_visible_rows(corner.y, glyph.glyph_height, height);
+    if rows.past <= rows.first {
+        return;
+    }
+    let start = seek(font, head, glyph, rows.first * (glyph.glyph_width as usize));
+    draw_rows(
+        font,
+        head,
+        glyph,
+        start,
+        area,
+        rows,
+        color,
+        &mut buffer[..],
+        width,
+        height,
+    );
 }
