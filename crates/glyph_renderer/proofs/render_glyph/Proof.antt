@@ -69,7 +69,7 @@ returns-2 c =
     let q = c .before .before in
     let s = c .before .before .before .before .before .before .before .before .before .before in
     let a = s .args in
-    sym (hidden-rows (a .buffer .now) (s .pre .1 .1) (a .color) (pixelsOf (a .font .now) (a .glyph)) (area (q .before)) (rows-are q) (q .get-visible-rows .result .past) (c .if1 .taken)) ∙ shows q
+    sym (hidden-rows (a .buffer .now) (s .pre .1 .1) (a .color) (pixelsOf (a .font .now) (a .glyph)) (area (q .before)) (rows-are q) (q .get-visible-rows .result .past) (omega arith)) ∙ shows q
 
 cast-seek : tie.Need-cast-seek
 cast-seek c = search needs

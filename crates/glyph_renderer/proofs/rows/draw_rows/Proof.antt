@@ -53,7 +53,7 @@ pairs-holds : tie.Need-pairs-holds Inv-loop μ-loop Inv-pairs μ-pairs
 pairs-holds c = (c .before .before .before .pre .order, (refl, none-drawn (c .before .before .before .pre) refl))
 
 loop-holds : tie.Need-loop-holds Inv-loop μ-loop Inv-pairs μ-pairs
-loop-holds c = (c .if1 .taken, (refl, λ old d. d))
+loop-holds c = (omega arith, (refl, λ old d. d))
 
 count-requires : tie.Need-count-requires Inv-loop μ-loop Inv-pairs μ-pairs
 count-requires c κs = search needs
