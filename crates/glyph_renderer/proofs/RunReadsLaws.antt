@@ -12,6 +12,8 @@ use Rattle.types.specs.declared.font_reader.FontReader.{FontReader}
 use Rattle.types.specs.declared.glyph_reader.GlyphReader.{GlyphReader}
 use Rattle.definitions.specs.Bits.{Read, got, ends, bits, readAt}
 use Rattle.definitions.specs.Runs.{Pixels, pixels, cut, prepend, unlessCut, runs, glyphPixels, pixelsAfter, pixelsFrom}
+use Rattle.definitions.specs.Refusals.{success, refused}
+use Rattle.definitions.specs.Calls.{withRuns}
 use Rattle.definitions.proofs.BitsLaws.{read-inside}
 use Rattle.definitions.proofs.RunsLaws.{pairPixels, NewPair, runs-reads, after-reads}
 use Rattle.glyph_renderer.specs.declared.runs.Runs.{Runs}
@@ -112,3 +114,14 @@ module _ (font : List ℕ) (head : FontReader) (g : GlyphReader) where
   pub glyph-gives : (count ≡ 0 → ⊥) → glyphPixels font head g ≡ onPair (given font (head .m0) (head .m1) count) (pairAt font (head .m0) (head .m1) (g .«bit_pos»))
   unfolding glyphPixels
   glyph-gives h = simp (ne-eqb count 0 h) (first-gives font (head .m0) (head .m1) count (g .«bit_pos»))
+
+-- ---- what the check says of a letter
+
+module _ (c : ℕ) (g : GlyphReader) where
+  pub runs-whole : (r : Pixels) → isWhole r ≡ true → withRuns c g r ≡ success g
+  runs-whole (pixels ps) e = refl
+  runs-whole cut e = let z : _≡_ {A = ℕ} 0 1 = cc in absurd (omega arith)
+
+  pub runs-cut : (r : Pixels) → isWhole r ≡ false → withRuns c g r ≡ refused 8 c
+  runs-cut (pixels ps) e = let z : _≡_ {A = ℕ} 0 1 = cc in absurd (omega arith)
+  runs-cut cut e = refl

@@ -91,7 +91,8 @@ mul-seek c =
     let g = c .before .before .before .before .before .before .before .before .before .before .before .before .args .glyph in
     let w : g .«glyph_width» ≤ 255 = search needs in
     let h : g .«glyph_height» ≤ 255 = search needs in
-    omega (arith, pixel (c .before .before), mul-le-mul w h)
+    let f : c .before .before .before .before .get-visible-rows .result .first ≤ 255 = omega (arith, inside (c .before .before), c .before .before .if1 .left) in
+    omega (arith, mul-le-mul f w, mul-le-mul f h)
 
 seek-requires : tie.Need-seek-requires
 seek-requires c κs = (c .before .before .before .before .before .before .before .before .before .before .before .before .pre .0, pixel (c .before .before))
