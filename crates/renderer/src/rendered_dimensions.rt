@@ -54,10 +54,12 @@ pub(crate) fn add_glyph(
 {
     let advance = dimensions.advance;
     let bounding_box = dimensions.bounding_box;
-    let glyph_box = get_glyph_bounding_box(glyph, origin.x + advance.x, origin.y + advance.y);
+    let x = advance.x;
+    let next_x = moved(x, glyph.advance);
+    let glyph_box = get_glyph_bounding_box(glyph, origin.x + x, origin.y + advance.y);
     RenderedDimensions {
         advance: Point {
-            x: moved(advance.x, glyph.advance),
+            x: next_x,
             y: advance.y,
         },
         bounding_box: combine_bounding_boxes(bounding_box, glyph_box),

@@ -30,10 +30,30 @@ module _ (c : tie.Start) where
   small : Small (c .args .glyph)
   small = fits-small (search needs) (search needs) (search needs) (search needs) glyph-advance
 
+moved-requires : tie.Need-moved-requires
+moved-requires c κs = search needs
+
+add-get-glyph-bounding-box : tie.Need-add-get-glyph-bounding-box
+add-get-glyph-bounding-box c =
+    let s = c .before .before .before .before .before .before in
+    simp (toZ-ofZ, origin-x s, advance-x s) (near-fits (s .pre .column))
+
+add-get-glyph-bounding-box-2 : tie.Need-add-get-glyph-bounding-box-2
+add-get-glyph-bounding-box-2 c =
+    let s = c .before .before .before .before .before .before .before .before .before .before in
+    simp (toZ-ofZ, origin-y s, advance-y s) (near-fits (s .pre .row))
+
+get-glyph-bounding-box-requires : tie.Need-get-glyph-bounding-box-requires
+get-glyph-bounding-box-requires c κs =
+    let s = c .before .before .before .before .before .before .before .before .before .before in
+    simp
+    (toZ-ofZ, origin-x s, origin-y s, advance-x s, advance-y s, near-fits (s .pre .column), near-fits (s .pre .row))
+    (s .pre .column, s .pre .row)
+
 -- the glyph's box
 module _ (c : tie.After-get-glyph-bounding-box) where
   abbrev entry : tie.Start
-  entry = c .before .before .before .before .before .before .before .before .before .before
+  entry = c .before .before .before .before .before .before .before .before .before .before .before
 
   box-is : c .get-glyph-bounding-box .result ≡ nextBox (entry .args .origin) (entry .args .dimensions) (entry .args .glyph)
   box-is = simp (toZ-ofZ, origin-x entry, origin-y entry, advance-x entry, advance-y entry, near-fits (entry .pre .column), near-fits (entry .pre .row)) at (c .get-glyph-bounding-box .ensures)
@@ -41,35 +61,13 @@ module _ (c : tie.After-get-glyph-bounding-box) where
   in-reach : InReach (c .get-glyph-bounding-box .result)
   in-reach = subst InReach (sym box-is) (box-in-reach (entry .args .glyph) (entry .pre .column) (entry .pre .row) (small entry))
 
-add-get-glyph-bounding-box : tie.Need-add-get-glyph-bounding-box
-add-get-glyph-bounding-box c =
-    let s = c .before .before .before .before .before in
-    simp (toZ-ofZ, origin-x s, advance-x s) (near-fits (s .pre .column))
-
-add-get-glyph-bounding-box-2 : tie.Need-add-get-glyph-bounding-box-2
-add-get-glyph-bounding-box-2 c =
-    let s = c .before .before .before .before .before .before .before .before .before in
-    simp (toZ-ofZ, origin-y s, advance-y s) (near-fits (s .pre .row))
-
-get-glyph-bounding-box-requires : tie.Need-get-glyph-bounding-box-requires
-get-glyph-bounding-box-requires c κs =
-    let s = c .before .before .before .before .before .before .before .before .before in
-    simp
-    (toZ-ofZ, origin-x s, origin-y s, advance-x s, advance-y s, near-fits (s .pre .column), near-fits (s .pre .row))
-    (s .pre .column, s .pre .row)
-
-moved-requires : tie.Need-moved-requires
-moved-requires c κs = search needs
-
 combine-bounding-boxes-requires : tie.Need-combine-bounding-boxes-requires
-combine-bounding-boxes-requires c κs =
-    let k = c .before .before .before .before in
-    (entry k .pre .box, in-reach k)
+combine-bounding-boxes-requires c κs = let k = c .before in (entry k .pre .box, in-reach k)
 
 returns : tie.Need-returns
 returns c =
-    let m = c .before .before in
-    let k = m .before .before .before in
+    let k = c .before .before in
+    let m = k .before .before .before .before .before .before .before in
     let s = entry k in
     simp (stored w32 (m .moved .ok) (m .moved .ensures), c .combine-bounding-boxes .ensures, box-is k)
     (simp (toZ-ofZ, advance-x s, advance-y s, glyph-advance s))
@@ -78,9 +76,9 @@ pub add-glyph-spec : {M : Type 1} → statement M
 add-glyph-spec =
     tie.close
     (tie.spec
+    moved-requires
     add-get-glyph-bounding-box
     add-get-glyph-bounding-box-2
     get-glyph-bounding-box-requires
-    moved-requires
     combine-bounding-boxes-requires
     returns)
