@@ -1,7 +1,7 @@
 -- Where there is room, the sums fit and the glyph's box lies within the reach of joining.
 use mathlib.Core.Path.{_≡_, sym, subst}
 use mir.Syntax.{w8, w32}
-use mir.Val.{SFits, toZ, ofZ}
+use mir.Val.{SFits}
 use mir.Facts.{toZ-ofZ}
 use borrow.Author.Needs.{needs}
 use Rattle.integers.proofs.Laws.{stored}
