@@ -63,8 +63,8 @@ def say(answer):
 
 def show_panel(panel, before, width, height):
     """Small panels in full, larger ones by the number of changed bytes and a checksum."""
-    if len(panel) <= 400 and len(panel) == width * height:
-        rows = [' '.join('%d' % v for v in panel[r * width:(r + 1) * width]) for r in range(height)]
+    if len(panel) <= 400 and max(width, height) <= 256 and len(panel) == width * height:
+        rows = [' '.join('%d' % v for v in panel[r * width:(r + 1) * width]) for r in range(height if panel else 0)]
         return ['  ' + row for row in rows]
     total = 0
     for v in panel:

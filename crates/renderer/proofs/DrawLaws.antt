@@ -1,10 +1,9 @@
 -- Drawing a text: the letters, the loop over them, and what the causes leave of a call. Assumes nothing.
 use mathlib.Core.Path.{_≡_, refl, sym, ap, subst, _∙_}
-use mathlib.Core.Bool.{Bool, true, false, _||_}
+use mathlib.Core.Bool.{Bool, true, false}
 use mathlib.Core.List.{List, [], _∷_, _++_}
 use Prim.Native.Nat.{ℕ, _+_, _≤_}
 use native.Mathlib.Omega.{arith}
-use lib.IntN.{pos}
 use lib.ListN.{length, drop}
 use Rattle.integers.specs.Integers.{pick}
 use Rattle.types.specs.declared.font_reader.FontReader.{FontReader}
@@ -17,20 +16,19 @@ use Rattle.definitions.specs.Refusals.{Outcome, success, refused, Cause, unless
 use Rattle.definitions.specs.Header.{header, fontCauses, Opened}
 use Rattle.definitions.specs.Glyph.{glyph}
 use Rattle.definitions.specs.Utf8.{character, firstCharacter, decode, codePoints}
-use Rattle.definitions.specs.Text.{Letter, shows, dimensions, layout, point}
+use Rattle.definitions.specs.Text.{Letter, shows, dimensions}
 use Rattle.definitions.specs.TextSteps.{step, stepShown, measureFrom, drawFrom, start}
 use Rattle.definitions.specs.Runs.{Pixels, pixels, cut, glyphPixels}
 use Rattle.definitions.specs.Picture.{textPicture}
 use Rattle.definitions.specs.Framebuffer.{shown, framebufferCause}
 use Rattle.definitions.specs.Limits.{textCause, placeCause, backgroundCause}
-use Rattle.definitions.specs.Calls.{openFont, characters, origin, withRuns, drawable, drawnLetter, pixelsOf, drawnText, drawCauses, draw, drawBuffer}
+use Rattle.definitions.specs.Calls.{openFont, origin, withRuns, drawable, drawnLetter, pixelsOf, drawnText, drawCauses, draw, drawBuffer}
 use Rattle.definitions.proofs.OpenedLaws.{or-false}
 use Rattle.definitions.proofs.RefusalLaws.{succeeded}
 use Rattle.definitions.proofs.GlyphLaws.{glyph-range}
 use Rattle.definitions.proofs.TextLaws.{measure-from, draw-from, draw-next}
 use Rattle.definitions.proofs.Utf8Laws.{next}
 use Rattle.glyph_renderer.specs.RunReads.{isWhole}
-use Rattle.glyph_renderer.specs.Stands.{CheckedGlyph}
 use Rattle.renderer.specs.Letters.{RunsChecked}
 use Rattle.renderer.specs.Ranges.{Checked}
 use Rattle.renderer.specs.Origins.{originBy, checkedOrigin}

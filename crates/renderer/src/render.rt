@@ -15,6 +15,7 @@ use crate::origin::OriginResult;
 use crate::origin::checked_origin;
 use crate::render_actions::Letter;
 use crate::render_actions::letter_of;
+use crate::rendered_dimensions::NEWLINE;
 use crate::rendered_dimensions::add_letter;
 use crate::rendered_dimensions::add_newline;
 use crate::rendered_dimensions::get_next_bounding_box;
@@ -34,8 +35,6 @@ use types::results::FontReaderResult;
 use types::results::GlyphResult;
 use types::style::FontColor;
 use types::style::FontStyle;
-
-const NEWLINE: u32 = 10;
 
 // The glyph of a code point, its runs read to the last pixel. So a glyph that the font's end cuts off is refused before any
 // of it is drawn.

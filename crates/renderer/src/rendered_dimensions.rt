@@ -27,7 +27,7 @@ use types::results::FontReaderResult;
 use types::style::VerticalPosition;
 use utils::combine_bounding_boxes;
 
-const NEWLINE: u32 = 10;
+pub(crate) const NEWLINE: u32 = 10;
 
 pub(crate) fn add_newline(dimensions: RenderedDimensions, line_height: u32) -> RenderedDimensions
     requires { ⌜ Near (dimensions .advance .y) × («line_height» ≤ 65535) ⌝ }
