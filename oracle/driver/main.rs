@@ -1,0 +1,47 @@
+//! Runs the Rust beside ours.
+//!   driver model SCRIPT SEED COUNT     against tools/model.py
+
+mod case;
+mod compare;
+mod display;
+mod fonts;
+mod generate;
+mod model_side;
+mod random;
+mod rust_side;
+mod shrink;
+
+use case::{Call, Case, Outcome};
+
+fn run(seed: u64, count: u64, mut ours: impl FnMut(&Case, Call) -> Outcome) -> bool {
+    let mut cases = generate::Cases::new(seed);
+    let mut tally = compare::Tally::default();
+    for _ in 0..count {
+        let case = cases.next();
+        for call in Call::ALL {
+            let answer = ours(&case, call);
+            tally.add(&case, call, compare::verdict(&case, call, &answer));
+        }
+    }
+    println!("seed {seed}, {count} cases");
+    tally.print();
+    compare::explain(&tally, ours);
+    tally.different.is_empty()
+}
+
+fn main() {
+    rust_side::silence_panics();
+    let args: Vec<String> = std::env::args().skip(1).collect();
+    let number = |i: usize, or: u64| args.get(i).map_or(or, |a| a.parse().expect("a number"));
+    let good = match args.first().map(String::as_str) {
+        Some("model") => {
+            let mut model = model_side::Model::start(&args[1]);
+            run(number(2, 1), number(3, 1000), |case, call| model.call(case, call))
+        }
+        _ => {
+            eprintln!("usage: driver model SCRIPT SEED COUNT");
+            false
+        }
+    };
+    std::process::exit(if good { 0 } else { 1 });
+}
