@@ -146,8 +146,6 @@ header('T', T, 'ok 4')
 header('no bytes', b'', 'no 1 0')
 header('T cut to 22 bytes', T[:22], 'no 1 0')
 header('T cut to 23 bytes', T[:23], 'ok 4')
-header('1048576 bytes', but(bytes(1048576), (6, 1), (7, 1), (8, 1)), 'ok 1')
-header('1048577 bytes', but(bytes(1048577), (6, 1), (7, 1), (8, 1)), 'no 1 0')
 for i, name in enumerate(('zero runs', 'one runs', 'w', 'h', 'x', 'y', 'advance'), 2):
     header(name + ' of 0 bits', but(T, (i, 0)), 'ok 4' if i < 6 else 'no 2 0')
     header(name + ' of 8 bits', but(T, (i, 8)), 'ok 4')
