@@ -1,25 +1,21 @@
 -- How a call's outcome reaches a caller in C: a status, and eight numbers stored in the slice `out`.
 use mathlib.Core.Path.{_≡_}
-use mathlib.Core.Bool.{Bool, true, false}
 use mathlib.Core.List.{List, [], _∷_}
-use Prim.Native.Nat.{ℕ, suc, zero}
-use lib.Dec.{ltb}
+use Prim.Native.Nat.{ℕ, suc}
 use lib.IntN.{ℤ, pos}
-use lib.ListN.{set, length}
-use Rattle.integers.specs.Integers.{pick}
+use lib.ListN.{set}
 use Rattle.types.specs.declared.error.Error.{Error}
 use Rattle.types.specs.declared.geometry.BoundingBox.{BoundingBox}
 use Rattle.types.specs.declared.geometry.BoundingBox.the-variants.{None, Some}
 use Rattle.types.specs.declared.geometry.Point.{Point}
 use Rattle.types.specs.declared.geometry.Rectangle.{Rectangle}
 use Rattle.types.specs.declared.geometry.RenderedDimensions.{RenderedDimensions}
-use Rattle.types.specs.declared.style.VerticalPosition.{VerticalPosition}
 use Rattle.definitions.specs.Refusals.{Outcome, success, refused, number, codePoint}
 use Rattle.definitions.specs.Text.{point}
 use Rattle.c_api.specs.declared.reply.Reply.{Reply}
-use Rattle.c_api.specs.declared.codes.AnchorCode.{AnchorCode}
-use Rattle.c_api.specs.declared.codes.AnchorCode.the-variants.{Known, Unknown}
-use Rattle.c_api.specs.Codes.{anchorOf}
+use Rattle.c_api.specs.declared.codes.Codes.{Codes}
+use Rattle.c_api.specs.declared.codes.Codes.the-variants.{Known, Unknown}
+use Rattle.c_api.specs.declared.codes.Meaning.{Meaning}
 
 -- A refusal: 01's number as the status, the code point, and zeros.
 abbrev pub refusedReply : ℕ → ℕ → Reply
@@ -67,22 +63,14 @@ storedAt i (v ∷ vs) out = storedAt (suc i) vs (set out i v)
 abbrev pub stored : Reply → List ℤ → List ℤ
 stored r out = storedAt 0 (values r) out
 
--- What a call comes to: its reply, or that an argument has no meaning.
-pub data Meant : Type 0 where
-  meaningless : Meant
-  meant : Reply → Meant
+-- What a call comes to by its codes: status 255 and nothing stored where one has no meaning.
+abbrev pub status : Codes → (Meaning → Reply) → ℕ
+status Unknown reply = 255
+status (Known m) reply = reply m .status
 
-abbrev pub Told : Meant → ℕ → List ℤ → List ℤ → Type 0
-Told meaningless status before after = (status ≡ 255) × (after ≡ before)
-Told (meant r) status before after = (status ≡ r .status) × (after ≡ stored r before)
+abbrev pub storedReply : Codes → (Meaning → Reply) → List ℤ → List ℤ
+storedReply Unknown reply out = out
+storedReply (Known m) reply out = stored (reply m) out
 
--- `out` needs room for the eight numbers.
-abbrev pub withRoom : ℕ → Reply → Meant
-withRoom room r = pick (ltb room 8) meaningless (meant r)
-
-abbrev pub knownAnchor : AnchorCode → (VerticalPosition → Meant) → Meant
-knownAnchor (Known v) f = f v
-knownAnchor Unknown f = meaningless
-
-abbrev pub anchored : ℕ → ℕ → (VerticalPosition → Reply) → Meant
-anchored code room f = knownAnchor (anchorOf code) (λ v. withRoom room (f v))
+abbrev pub Answers : Codes → (Meaning → Reply) → ℕ → List ℤ → List ℤ → Type 0
+Answers codes reply r before after = (r ≡ status codes reply) × (after ≡ storedReply codes reply before)

@@ -1,21 +1,92 @@
-// Codes of enums, from 0 in the order of their variants.
+// What the codes of a call mean: numbers from 0 in the order of an enum's variants.
 ghost use mathlib.Core.Path.{_≡_};
-ghost use Rattle.c_api.specs.Codes.{anchorOf};
+ghost use Rattle.c_api.specs.Codes.{anchorOf, alignmentOf, flagOf, meaningOf};
+use types::style::HorizontalAlignment;
 use types::style::VerticalPosition;
 
-pub enum AnchorCode {
+pub enum Anchor {
     Known(VerticalPosition),
     Unknown,
 }
 
-pub fn anchor(code: u32) -> AnchorCode
+pub enum Alignment {
+    Known(HorizontalAlignment),
+    Unknown,
+}
+
+pub enum Flag {
+    Known(bool),
+    Unknown,
+}
+
+pub struct Meaning {
+    pub vertical_pos: VerticalPosition,
+    pub horizontal_align: HorizontalAlignment,
+    pub skip: bool,
+    pub background: bool,
+}
+
+pub enum Codes {
+    Known(Meaning),
+    Unknown,
+}
+
+fn anchor(code: u32) -> Anchor
     ensures { λ r. ⌜ r ≡ anchorOf code ⌝ }
 {
     match code {
-        0 => AnchorCode::Known(VerticalPosition::Baseline),
-        1 => AnchorCode::Known(VerticalPosition::Top),
-        2 => AnchorCode::Known(VerticalPosition::Center),
-        3 => AnchorCode::Known(VerticalPosition::Bottom),
-        _ => AnchorCode::Unknown,
+        0 => Anchor::Known(VerticalPosition::Baseline),
+        1 => Anchor::Known(VerticalPosition::Top),
+        2 => Anchor::Known(VerticalPosition::Center),
+        3 => Anchor::Known(VerticalPosition::Bottom),
+        _ => Anchor::Unknown,
     }
+}
+
+fn alignment(code: u32) -> Alignment
+    ensures { λ r. ⌜ r ≡ alignmentOf code ⌝ }
+{
+    match code {
+        0 => Alignment::Known(HorizontalAlignment::Left),
+        1 => Alignment::Known(HorizontalAlignment::Center),
+        2 => Alignment::Known(HorizontalAlignment::Right),
+        _ => Alignment::Unknown,
+    }
+}
+
+fn flag(code: u32) -> Flag
+    ensures { λ r. ⌜ r ≡ flagOf code ⌝ }
+{
+    match code {
+        0 => Flag::Known(false),
+        1 => Flag::Known(true),
+        _ => Flag::Unknown,
+    }
+}
+
+// A call hands 0 for a code that it does not have, and the length of what it stores its answer in.
+pub fn meaning(anchor_code: u32, align: u32, skip: u32, background: u32, room: usize) -> Codes
+    ensures { λ r. ⌜ r ≡ meaningOf «anchor_code» align skip background room ⌝ }
+{
+    let Anchor::Known(vertical_pos) = anchor(anchor_code) else {
+        return Codes::Unknown;
+    };
+    let Alignment::Known(horizontal_align) = alignment(align) else {
+        return Codes::Unknown;
+    };
+    let Flag::Known(skips) = flag(skip) else {
+        return Codes::Unknown;
+    };
+    let Flag::Known(fills) = flag(background) else {
+        return Codes::Unknown;
+    };
+    if room < 8 {
+        return Codes::Unknown;
+    }
+    Codes::Known(Meaning {
+        vertical_pos,
+        horizontal_align,
+        skip: skips,
+        background: fills,
+    })
 }

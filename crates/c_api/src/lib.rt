@@ -1,31 +1,58 @@
 // The calls for programs in C or Rust, which link the static library (`rt staticlib c_api`). Numbers
 // and slices go in; a slice is a pointer and a length. Each call answers with a status: 0 for
-// success, 01's number for a refusal, 255 where an argument has no meaning. Its values go to `out`,
-// and specs/Replies.antt says which ones. oracle/papayahelm.h declares the calls.
+// success, 01's number for a refusal, 255 where a code has no meaning or `out` is too short. The
+// answer's values are stored in `out`: specs/Replies.antt says which. oracle/papayahelm.h declares
+// the calls.
 mod codes;
 mod reply;
 
 ghost use mathlib.Core.Path.{_≡_};
 ghost use lib.ListN.{length};
-ghost use Rattle.definitions.specs.Calls.{fontBoundingBox};
-ghost use Rattle.c_api.specs.Replies.{Told, anchored, boxReply};
-use codes::AnchorCode;
-use codes::anchor;
+ghost use Rattle.definitions.specs.Calls.{fontBoundingBox, measure, measureAligned};
+ghost use Rattle.definitions.specs.Text.{point};
+ghost use Rattle.c_api.specs.Codes.{meaningOf};
+ghost use Rattle.c_api.specs.Replies.{Answers, boxReply, textReply, alignedReply};
+use codes::Codes;
+use codes::meaning;
 use renderer::font_bounding_box::get_font_bounding_box;
+use renderer::rendered_dimensions::get_rendered_dimensions;
 use reply::BAD_ARGUMENT;
+use reply::of_dimensions;
 use reply::of_rectangle;
 use reply::store;
+use types::geometry::Point;
 
 // The bounding box of all of the font's glyphs.
 #[no_mangle]
-pub extern "C" fn papayahelm_font_box(font: &[u8], anchor_code: u32, out: &mut [i64]) -> u32
-    ensures { λ r. ⌜ Told (anchored «anchor_code» (length (now (out .entry))) (λ v. boxReply (fontBoundingBox (now (font .entry)) v))) r (now (out .entry)) (now (out .exit)) ⌝ }
+pub extern "C" fn papayahelm_font_box(font: &[u8], anchor: u32, out: &mut [i64]) -> u32
+    ensures { λ r. ⌜ Answers (meaningOf anchor 0 0 0 (length (now (out .entry)))) (λ m. boxReply (fontBoundingBox (now (font .entry)) (m .«vertical_pos»))) r (now (out .entry)) (now (out .exit)) ⌝ }
 {
-    let AnchorCode::Known(vertical_pos) = anchor(anchor_code) else {
+    let Codes::Known(m) = meaning(anchor, 0, 0, 0, out.len()) else {
         return BAD_ARGUMENT;
     };
-    if out.len() < 8 {
-        return BAD_ARGUMENT;
-    }
+    let vertical_pos = m.vertical_pos;
     store(out, of_rectangle(get_font_bounding_box(font, vertical_pos)))
+}
+
+// The dimensions that a text has when it is drawn.
+#[no_mangle]
+pub extern "C" fn papayahelm_measure(
+    font: &[u8],
+    text: &[u8],
+    x: i32,
+    y: i32,
+    anchor: u32,
+    line_height: u32,
+    skip: u32,
+    out: &mut [i64],
+) -> u32
+    ensures { λ r. ⌜ Answers (meaningOf anchor 0 skip 0 (length (now (out .entry)))) (λ m. textReply (measure (now (font .entry)) (now (text .entry)) (point x y) (m .«vertical_pos») «line_height» (m .skip))) r (now (out .entry)) (now (out .exit)) ⌝ }
+{
+    let Codes::Known(m) = meaning(anchor, 0, skip, 0, out.len()) else {
+        return BAD_ARGUMENT;
+    };
+    let vertical_pos = m.vertical_pos;
+    let position = Point { x, y };
+    let result = get_rendered_dimensions(font, text, position, vertical_pos, line_height, m.skip);
+    store(out, of_dimensions(result))
 }

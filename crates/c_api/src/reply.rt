@@ -4,7 +4,7 @@ ghost use Prim.Native.Nat.{_≤_};
 ghost use lib.IntN.{pos};
 ghost use lib.ListN.{length};
 ghost use Rattle.definitions.specs.Calls.{rectangleOutcome, dimensionsOutcome, boundingBoxOutcome};
-ghost use Rattle.c_api.specs.Replies.{refusedReply, errorReply, boxedReply, boundsReply, boxReply, textReply, alignedReply, Told, meant};
+ghost use Rattle.c_api.specs.Replies.{refusedReply, errorReply, boxedReply, boundsReply, boxReply, textReply, alignedReply, stored};
 use types::error::Error;
 use types::geometry::BoundingBox;
 use types::geometry::Point;
@@ -142,7 +142,7 @@ pub fn of_bounding_box(result: BoundingBoxResult) -> Reply
 // Stores the reply's eight numbers and answers with its status.
 pub fn store(out: &mut [i64], reply: Reply) -> u32
     requires { ⌜ 8 ≤ length (now out) ⌝ }
-    ensures { λ r. ⌜ Told (meant reply) r (now (out .entry)) (now (out .exit)) ⌝ }
+    ensures { λ r. ⌜ (r ≡ reply .status) × (now (out .exit) ≡ stored reply (now (out .entry))) ⌝ }
 {
     let code_point = reply.code_point;
     let x = reply.x;

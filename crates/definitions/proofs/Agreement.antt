@@ -34,6 +34,7 @@ use Rattle.definitions.proofs.RefusalLaws.{none-applies, succeeded, las
 use Rattle.definitions.proofs.OpenedLaws.{or-false, opened-limits}
 use Rattle.definitions.proofs.LookupLaws.{byte-longer, header-longer, search-longer}
 use Rattle.definitions.proofs.GlyphLaws.{fields-longer}
+use Rattle.definitions.proofs.RunsLaws.{glyph-pixels-longer}
 use Rattle.definitions.proofs.TextLaws.{Follows, same-layout, each-glyph}
 use Rattle.definitions.proofs.PictureLaws.{picture-outside, same-pixels-picture}
 use Rattle.definitions.proofs.FramebufferLaws.{shown-at}
@@ -115,7 +116,7 @@ module _ (font : List ℕ) (r : Request) (p : Panel) (within : WithinLimits font
   measuring : anyApplies (measureCauses font (r .text) (r .position) (r .lineHeight)) ≡ false
   measuring = all-off (measureCauses font (r .text) (r .position) (r .lineHeight)) (off .0, (off .1 .0, off .1 .1 .1))
 
-  size : length (p .before) ≡ p .width * p .height
+  pub size : length (p .before) ≡ p .width * p .height
   size =
       let area = or-false (sideOff (p .width) || sideOff (p .height)) (not (eqb (length (p .before)) (p .width * p .height))) (off .1 .1 .0) .1 in
       eqb-true (length (p .before)) (p .width * p .height) (not-false _ area)
@@ -148,111 +149,110 @@ background-longer (Transparent c) font more h = refl
 background-longer (WithBackground fg bg) font more h = let k : 1 < length font = omega arith in rw (byte-longer font more 1 k)
 
 -- RunsLaws.antt is to have this law, and the parameter is then to go.
-module _ (runs-longer : (font more : List ℕ) (head : FontReader) (g : GlyphReader) (ps : List ℕ) → glyphPixels font head g ≡ pixels ps → glyphPixels (font ++ more) head g ≡ pixels ps) where
-  -- The longer font gives the same glyph with the same pixels.
-  module _ (font more : List ℕ) (least : 23 ≤ length font) where
-    drawable-longer : (c : ℕ) (g : GlyphReader) (d : Drawable font c g)
-        → (glyph (font ++ more) c ≡ success g) × (glyphPixels (font ++ more) (header (font ++ more)) g ≡ pixels (d .bits))
-    drawable-longer c g d =
-        (glyph-longer font more least c g (d .answer), rw (header-longer font more least) (runs-longer font more (header font) g (d .bits) (d .runs)))
+-- The longer font gives the same glyph with the same pixels.
+module _ (font more : List ℕ) (least : 23 ≤ length font) where
+  drawable-longer : (c : ℕ) (g : GlyphReader) (d : Drawable font c g)
+      → (glyph (font ++ more) c ≡ success g) × (glyphPixels (font ++ more) (header (font ++ more)) g ≡ pixels (d .bits))
+  drawable-longer c g d =
+      (glyph-longer font more least c g (d .answer), rw (header-longer font more least) (glyph-pixels-longer font (header font) g (d .bits) more (d .runs)))
 
-    never : (c : ℕ) → drawnLetter font false c ≡ nothing → ⊥
-    never c e = no-nothing (drawable font c (glyph font c)) e
+  never : (c : ℕ) → drawnLetter font false c ≡ nothing → ⊥
+  never c e = no-nothing (drawable font c (glyph font c)) e
 
-    drawn-follows : Follows (drawnLetter font false) (drawnLetter (font ++ more) false)
-    drawn-follows = record {
-      same = λ c g e. let d = drawable-longer c g (drawable-glyph font c g e) in rw (d .0) (rw (d .1));
-      some = never;
-    }
+  drawn-follows : Follows (drawnLetter font false) (drawnLetter (font ++ more) false)
+  drawn-follows = record {
+    same = λ c g e. let d = drawable-longer c g (drawable-glyph font c g e) in rw (d .0) (rw (d .1));
+    some = never;
+  }
 
-    measured-follows : Follows (drawnLetter font false) (measuredLetter font false)
-    measured-follows = record { same = λ c g e. rw (drawable-glyph font c g e .answer); some = never }
+  measured-follows : Follows (drawnLetter font false) (measuredLetter font false)
+  measured-follows = record { same = λ c g e. rw (drawable-glyph font c g e .answer); some = never }
 
-    measured-longer : Follows (drawnLetter font false) (measuredLetter (font ++ more) false)
-    measured-longer = record {
-      same = λ c g e. rw (glyph-longer font more least c g (drawable-glyph font c g e .answer));
-      some = never;
-    }
+  measured-longer : Follows (drawnLetter font false) (measuredLetter (font ++ more) false)
+  measured-longer = record {
+    same = λ c g e. rw (glyph-longer font more least c g (drawable-glyph font c g e .answer));
+    some = never;
+  }
 
-    same-pixels : (c : ℕ) (g : GlyphReader) → drawnLetter font false c ≡ shows g → pixelsOf font g ≡ pixelsOf (font ++ more) g
-    same-pixels c g e =
-        let d = drawable-glyph font c g e in
-        ap pixelList (d .runs) ∙ sym (ap pixelList (drawable-longer c g d .1))
+  same-pixels : (c : ℕ) (g : GlyphReader) → drawnLetter font false c ≡ shows g → pixelsOf font g ≡ pixelsOf (font ++ more) g
+  same-pixels c g e =
+      let d = drawable-glyph font c g e in
+      ap pixelList (d .runs) ∙ sym (ap pixelList (drawable-longer c g d .1))
 
-  module _ (font more : List ℕ) (r : Request) (p q : Panel) (d : RenderedDimensions) (h : TwoDrawings font more r p q d) where
-    enough : 23 ≤ length font
-    enough = least font r p (h .first-within)
+module _ (font more : List ℕ) (r : Request) (p q : Panel) (d : RenderedDimensions) (h : TwoDrawings font more r p q d) where
+  enough : 23 ≤ length font
+  enough = least font r p (h .first-within)
 
-    -- what the first drawing's success tells
-    first : (anyApplies (causes font r p) ≡ false) × (dimensions (text font r) ≡ success d)
-    unfolding draw
-    first = succeeded (dimensions (text font r)) d (causes font r p) (h .first-succeeds)
+  -- what the first drawing's success tells
+  first : (anyApplies (causes font r p) ≡ false) × (dimensions (text font r) ≡ success d)
+  unfolding draw
+  first = succeeded (dimensions (text font r)) d (causes font r p) (h .first-succeeds)
 
-    advance-and-box : (text font r .advance ≡ success (d .advance)) × (joinAll (text font r .glyphs) ≡ d .«bounding_box»)
-    advance-and-box = dimensions-success (joinAll (text font r .glyphs)) (text font r .advance) d (first .1)
+  advance-and-box : (text font r .advance ≡ success (d .advance)) × (joinAll (text font r .glyphs) ≡ d .«bounding_box»)
+  advance-and-box = dimensions-success (joinAll (text font r .glyphs)) (text font r .advance) d (first .1)
 
-    second-unrefused : anyApplies (causes (font ++ more) r q) ≡ false
-    second-unrefused =
-        nor-last (limits (font ++ more) r q) (backgroundCause (r .style .color) (font ++ more)) (h .second-within)
-        (background-longer (r .style .color) font more enough
-        ∙ last-applies (limits font r p) (backgroundCause (r .style .color) font) (first .0))
+  second-unrefused : anyApplies (causes (font ++ more) r q) ≡ false
+  second-unrefused =
+      nor-last (limits (font ++ more) r q) (backgroundCause (r .style .color) (font ++ more)) (h .second-within)
+      (background-longer (r .style .color) font more enough
+      ∙ last-applies (limits font r p) (backgroundCause (r .style .color) font) (first .0))
 
-    abbrev place : Point
-    place = origin font (r .text) (r .position) (r .style .«vertical_pos») (r .lineHeight)
+  abbrev place : Point
+  place = origin font (r .text) (r .position) (r .style .«vertical_pos») (r .lineHeight)
 
-    place-longer : origin (font ++ more) (r .text) (r .position) (r .style .«vertical_pos») (r .lineHeight) ≡ place
-    place-longer = rw (header-longer font more enough)
+  place-longer : origin (font ++ more) (r .text) (r .position) (r .style .«vertical_pos») (r .lineHeight) ≡ place
+  place-longer = rw (header-longer font more enough)
 
-    -- letters that follow the first drawing's are laid out alike
-    laid : (letters : ℕ → Letter) → Follows (drawnLetter font false) letters
-        → layout letters (r .lineHeight) place (point (pos 0) (pos 0)) (characters (r .text)) ≡ text font r
-    laid letters follows = same-layout follows (r .lineHeight) place (characters (r .text)) (point (pos 0) (pos 0)) (d .advance) (advance-and-box .0)
+  -- letters that follow the first drawing's are laid out alike
+  laid : (letters : ℕ → Letter) → Follows (drawnLetter font false) letters
+      → layout letters (r .lineHeight) place (point (pos 0) (pos 0)) (characters (r .text)) ≡ text font r
+  laid letters follows = same-layout follows (r .lineHeight) place (characters (r .text)) (point (pos 0) (pos 0)) (d .advance) (advance-and-box .0)
 
-    laid-longer : (letters : ℕ → Letter) → Follows (drawnLetter font false) letters
-        → layout letters (r .lineHeight) (origin (font ++ more) (r .text) (r .position) (r .style .«vertical_pos») (r .lineHeight)) (point (pos 0) (pos 0)) (characters (r .text)) ≡ text font r
-    laid-longer letters follows = rw place-longer (laid letters follows)
+  laid-longer : (letters : ℕ → Letter) → Follows (drawnLetter font false) letters
+      → layout letters (r .lineHeight) (origin (font ++ more) (r .text) (r .position) (r .style .«vertical_pos») (r .lineHeight)) (point (pos 0) (pos 0)) (characters (r .text)) ≡ text font r
+  laid-longer letters follows = rw place-longer (laid letters follows)
 
-    same-text : text (font ++ more) r ≡ text font r
-    same-text = laid-longer (drawnLetter (font ++ more) false) (drawn-follows font more enough)
+  same-text : text (font ++ more) r ≡ text font r
+  same-text = laid-longer (drawnLetter (font ++ more) false) (drawn-follows font more enough)
 
-    same-picture : (column row : ℤ)
-        → textPicture (r .style .color) (pixelsOf font) (text font r .glyphs) column row
-        ≡ textPicture (r .style .color) (pixelsOf (font ++ more)) (text (font ++ more) r .glyphs) column row
-    same-picture column row =
-        same-pixels-picture (r .style .color) (pixelsOf font) (pixelsOf (font ++ more)) (text font r .glyphs)
-        (each-glyph (λ g. pixelsOf font g ≡ pixelsOf (font ++ more) g) (drawnLetter font false) (same-pixels font more enough)
-        (r .lineHeight) place (characters (r .text)) (point (pos 0) (pos 0)))
-        column row
-        ∙ ap (λ (l : Layout). textPicture (r .style .color) (pixelsOf (font ++ more)) (l .glyphs) column row) (sym same-text)
+  same-picture : (column row : ℤ)
+      → textPicture (r .style .color) (pixelsOf font) (text font r .glyphs) column row
+      ≡ textPicture (r .style .color) (pixelsOf (font ++ more)) (text (font ++ more) r .glyphs) column row
+  same-picture column row =
+      same-pixels-picture (r .style .color) (pixelsOf font) (pixelsOf (font ++ more)) (text font r .glyphs)
+      (each-glyph (λ g. pixelsOf font g ≡ pixelsOf (font ++ more) g) (drawnLetter font false) (same-pixels font more enough)
+      (r .lineHeight) place (characters (r .text)) (point (pos 0) (pos 0)))
+      column row
+      ∙ ap (λ (l : Layout). textPicture (r .style .color) (pixelsOf (font ++ more)) (l .glyphs) column row) (sym same-text)
 
-    second : drawn (font ++ more) r q ≡ success d
-    unfolding draw
-    second = none-applies (dimensions (text (font ++ more) r)) (causes (font ++ more) r q) second-unrefused ∙ ap dimensions same-text ∙ first .1
+  second : drawn (font ++ more) r q ≡ success d
+  unfolding draw
+  second = none-applies (dimensions (text (font ++ more) r)) (causes (font ++ more) r q) second-unrefused ∙ ap dimensions same-text ∙ first .1
 
-    measured-first : measured font r ≡ success d
-    unfolding measure
-    measured-first =
-        none-applies _ (measureCauses font (r .text) (r .position) (r .lineHeight)) (measuring font r p (h .first-within))
-        ∙ ap dimensions (laid (measuredLetter font false) (measured-follows font more enough))
-        ∙ first .1
+  measured-first : measured font r ≡ success d
+  unfolding measure
+  measured-first =
+      none-applies _ (measureCauses font (r .text) (r .position) (r .lineHeight)) (measuring font r p (h .first-within))
+      ∙ ap dimensions (laid (measuredLetter font false) (measured-follows font more enough))
+      ∙ first .1
 
-    measured-second : measured (font ++ more) r ≡ success d
-    unfolding measure
-    measured-second =
-        none-applies _ (measureCauses (font ++ more) (r .text) (r .position) (r .lineHeight)) (measuring (font ++ more) r q (h .second-within))
-        ∙ ap dimensions (laid-longer (measuredLetter (font ++ more) false) (measured-longer font more enough))
-        ∙ first .1
+  measured-second : measured (font ++ more) r ≡ success d
+  unfolding measure
+  measured-second =
+      none-applies _ (measureCauses (font ++ more) (r .text) (r .position) (r .lineHeight)) (measuring (font ++ more) r q (h .second-within))
+      ∙ ap dimensions (laid-longer (measuredLetter (font ++ more) false) (measured-longer font more enough))
+      ∙ first .1
 
-    -- The third demand.
-    pub agreement : Agree font more r p q d
-    agreement = record {
-      second-succeeds = second;
-      first-measured = measured-first;
-      second-measured = measured-second;
-      alike = λ column row c k began.
-          pixel-after font r p (h .first-within) (first .0) column row c k
-          ∙ (cc (same-picture (pos column) (pos row)))
-          ∙ sym (pixel-after (font ++ more) r q (h .second-within) second-unrefused column row (omega (arith, h .as-wide)) (omega (arith, h .as-high)));
-      first-kept = kept font r p (h .first-within) (first .0) d (advance-and-box .1);
-      second-kept = kept (font ++ more) r q (h .second-within) second-unrefused d (ap (λ (l : Layout). joinAll (l .glyphs)) same-text ∙ advance-and-box .1);
-    }
+  -- The third demand.
+  pub agreement : Agree font more r p q d
+  agreement = record {
+    second-succeeds = second;
+    first-measured = measured-first;
+    second-measured = measured-second;
+    alike = λ column row c k began.
+        pixel-after font r p (h .first-within) (first .0) column row c k
+        ∙ (cc (same-picture (pos column) (pos row)))
+        ∙ sym (pixel-after (font ++ more) r q (h .second-within) second-unrefused column row (omega (arith, h .as-wide)) (omega (arith, h .as-high)));
+    first-kept = kept font r p (h .first-within) (first .0) d (advance-and-box .1);
+    second-kept = kept (font ++ more) r q (h .second-within) second-unrefused d (ap (λ (l : Layout). joinAll (l .glyphs)) same-text ∙ advance-and-box .1);
+  }

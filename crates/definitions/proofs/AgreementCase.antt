@@ -66,6 +66,5 @@ pub changes : changed ≡ 1 ∷ 1 ∷ 1 ∷ []
 unfolding T header headerOff signed8 glyph fields search chain readAt bits lowBits number table rowOf firstCharacter decodeFrom newlines joinAll layout afterPair runs glyphPixels textPicture mapAt drawBuffer
 changes = refl
 
-module _ (runs-longer : (font more : List ℕ) (head : FontReader) (g : GlyphReader) (ps : List ℕ) → glyphPixels font head g ≡ pixels ps → glyphPixels (font ++ more) head g ≡ pixels ps) where
-  pub claimed : Agree T added request small large dimensions
-  claimed = agreement runs-longer T added request small large dimensions supposed
+pub claimed : Agree T added request small large dimensions
+claimed = agreement T added request small large dimensions supposed

@@ -7,9 +7,10 @@ use lib.ListN.{length}
 use Rattle.types.specs.declared.font_reader.FontReader.{FontReader}
 use Rattle.types.specs.declared.glyph_reader.GlyphReader.{GlyphReader}
 use Rattle.definitions.specs.Refusals.{Outcome, success}
-use Rattle.definitions.specs.Header.{Opened}
+use Rattle.definitions.specs.Header.{header, Opened}
 use Rattle.definitions.specs.Bits.{Read, got, ends, readAt}
-use Rattle.definitions.specs.Glyph.{unlessEnds, fields}
+use Rattle.definitions.specs.Lookup.{Search, found, missing, short, search}
+use Rattle.definitions.specs.Glyph.{unlessEnds, fields, fromSearch, glyph}
 use Rattle.definitions.proofs.BitsLaws.{SignedByte, read-inside, read-longer, unsigned-range, signed-range}
 
 -- a field that was read: its number, and what came of that
@@ -67,3 +68,13 @@ module _ (font : List ℕ) (head : FontReader) (c at : ℕ) (g : GlyphReader) wh
         advance = signed-range font _ _ (d .0) (o .d) (d .1 .0);
         runs = read-inside font _ _ (d .0) (d .1 .0) .0;
       }
+
+-- .. and so of each glyph of an opened font.
+pub glyph-range : (font : List ℕ) (head : FontReader) (c : ℕ) (g : GlyphReader) → Opened font head → glyph font c ≡ success g → InRange font g
+unfolding glyph
+glyph-range font head c g o e = by (search font c) e
+  where
+    by : (s : Search) → fromSearch font c s ≡ success g → InRange font g
+    by (found at) e = fields-range font (header font) c (at * 8) g (subst (λ (h : FontReader). Opened font h) (o .read) o) e
+    by missing e = let z : _≡_ {A = ℕ} 0 1 = cc in absurd (omega arith)
+    by short e = let z : _≡_ {A = ℕ} 0 1 = cc in absurd (omega arith)

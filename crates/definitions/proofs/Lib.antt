@@ -8,9 +8,11 @@ pub mod BitsLaws
 pub mod GlyphLaws
 pub mod LookupLaws
 pub mod VerticalOffsetLaws
+pub mod RunsLaws
 pub mod FramebufferLaws
 pub mod TextLaws
 pub mod PictureLaws
 pub mod RefusalLaws
 pub mod Agreement
 pub mod AgreementCase
+pub mod RedrawLaws

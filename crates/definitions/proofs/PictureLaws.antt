@@ -42,9 +42,22 @@ covers-inside column row r e =
     let h = all-four (leZ (left r) column) (ltZ column (right r)) (leZ (top r) row) (ltZ row (bottom r)) e in
     record { from-left = omega zarith; to-right = omega zarith; from-top = omega zarith; to-bottom = omega zarith }
 
+pub inside-covers : (column row : ℤ) (r : Rectangle) → Inside column row r → covers r column row ≡ true
+inside-covers column row r h =
+    let a : leZ (left r) column ≡ true = omega (zarith, h .from-left) in
+    let b : ltZ column (right r) ≡ true = omega (zarith, h .to-right) in
+    let c : leZ (top r) row ≡ true = omega (zarith, h .from-top) in
+    let d : ltZ row (bottom r) ≡ true = omega (zarith, h .to-bottom) in
+    rw (a, b, c, d)
+
 module _ (color : FontColor) (column row : ℤ) where
+  pub rectangle-inside : (bits : List ℕ) (r : Rectangle) → Inside column row r
+      → rectanglePicture color bits r column row
+      ≡ paintOf color (getD bits (natAbs (row -ℤ top r) * r .size .width + natAbs (column -ℤ left r)) 0)
+  rectangle-inside bits r h = rw (inside-covers column row r h)
+
   -- A glyph's picture keeps what lies outside its box.
-  rectangle-outside : (bits : List ℕ) (r : Rectangle) → (Inside column row r → ⊥) → rectanglePicture color bits r column row ≡ keep
+  pub rectangle-outside : (bits : List ℕ) (r : Rectangle) → (Inside column row r → ⊥) → rectanglePicture color bits r column row ≡ keep
   rectangle-outside bits r out = by (covers r column row) refl
     where
       by : (t : Bool) → covers r column row ≡ t

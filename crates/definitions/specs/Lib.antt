@@ -15,5 +15,6 @@ pub mod TextSteps
 pub mod Limits
 pub mod Calls
 pub mod Agreement
+pub mod Redraw
 pub mod FontT
 pub mod Cases

@@ -56,3 +56,11 @@ glyphPixels font head g =
     pick (eqb (g .«glyph_width» * g .«glyph_height») 0)
     (pixels [])
     (runs (head .m0) (head .m1) (g .«glyph_width» * g .«glyph_height») (drop (g .«bit_pos») (bits font)))
+
+-- What the bits of a font after a pair give, n pixels being missing and the bit `at` being the first after the pair.
+abbrev pub pixelsAfter : List ℕ → ℕ → ℕ → ℕ → ℕ → ℕ → ℕ → Pixels
+pixelsAfter font m0 m1 n zeros ones at = afterPair m0 m1 n zeros ones 0 (drop at (bits font))
+
+-- The same with the pair itself: what a reader of runs still has to give.
+abbrev pub pixelsFrom : List ℕ → ℕ → ℕ → ℕ → ℕ → ℕ → ℕ → Pixels
+pixelsFrom font m0 m1 n zeros ones at = pair n zeros ones (λ n. pixelsAfter font m0 m1 n zeros ones at)

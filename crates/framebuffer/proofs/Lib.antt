@@ -1,2 +1,5 @@
 pub mod PaintLaws
 pub mod WriteLaws
+pub mod RowLaws
+pub mod PartLaws
+pub mod ClipLaws

@@ -1,2 +1,6 @@
 // The public calls. Each takes the font's bytes and checks all of its input: none has a `requires`.
 pub mod font_bounding_box;
+mod limits;
+mod origin;
+mod render_actions;
+pub mod rendered_dimensions;

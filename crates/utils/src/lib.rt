@@ -7,13 +7,13 @@ ghost use mathlib.Core.Path.{_≡_};
 ghost use Rattle.integers.specs.Integers.{minZ, maxZ};
 ghost use Rattle.definitions.specs.Geometry.{spanLength, joinRectangles, join, SpanInReach, RectangleInReach, InReach};
 
-fn min(a: i32, b: i32) -> i32
+pub fn min(a: i32, b: i32) -> i32
     ensures { λ r. ⌜ r ≡ minZ a b ⌝ }
 {
     if a < b { a } else { b }
 }
 
-fn max(a: i32, b: i32) -> i32
+pub fn max(a: i32, b: i32) -> i32
     ensures { λ r. ⌜ r ≡ maxZ a b ⌝ }
 {
     if a < b { b } else { a }

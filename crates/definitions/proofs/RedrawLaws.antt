@@ -1,0 +1,90 @@
+-- Filling the box of a reading that was drawn on the background colour brings back what the framebuffer held before: inside the
+-- box it was that colour, and outside nothing had changed, by demand 3. Assumes nothing.
+use mathlib.Core.Path.{_≡_, refl, sym, ap, subst, _∙_}
+use mathlib.Core.Bool.{Bool, true, false}
+use mathlib.Core.List.{List, [], _++_, append-nil}
+use Prim.Native.Nat.{ℕ, suc, _+_, _*_, _≤_, _<_}
+use native.Mathlib.Nat.{mul-le-mul-right, mul-comm}
+use native.Mathlib.Decide.{decLt}
+use native.Mathlib.Omega.{arith}
+use lib.IntN.{ℤ, pos}
+use lib.ListN.{length, getD}
+use Rattle.integers.specs.Integers.{pick}
+use Rattle.types.specs.declared.geometry.BoundingBox.{BoundingBox}
+use Rattle.types.specs.declared.geometry.BoundingBox.the-variants.{None, Some}
+use Rattle.types.specs.declared.geometry.Rectangle.{Rectangle}
+use Rattle.types.specs.declared.geometry.RenderedDimensions.{RenderedDimensions}
+use Rattle.definitions.specs.Refusals.{success, anyApplies}
+use Rattle.definitions.specs.Geometry.{InsideBox}
+use Rattle.definitions.specs.Picture.{Paint, keep, put, Picture, covers, textPicture}
+use Rattle.definitions.specs.Framebuffer.{over, shown}
+use Rattle.definitions.specs.Calls.{drawCauses, drawnText, pixelsOf, drawBuffer}
+use Rattle.definitions.specs.Agreement.{Request, Panel, WithinLimits, drawn, after, pixel, KeptOutside, TwoDrawings, Agree}
+use Rattle.definitions.specs.Redraw.{fillPicture, filled, AllOf}
+use Rattle.definitions.proofs.FramebufferLaws.{length-shown, shown-at, same-pixels}
+use Rattle.definitions.proofs.PictureLaws.{covers-inside, inside-covers}
+use Rattle.definitions.proofs.Agreement.{agreement, size}
+
+-- the framebuffer keeps its length
+length-by : (t : Bool) (width : ℕ) (picture : Picture) (before : List ℕ) → length (pick t before (shown width picture before)) ≡ length before
+length-by true width picture before = refl
+length-by false width picture before = length-shown width picture before
+
+pub length-after : (font : List ℕ) (r : Request) (p : Panel) → length (after font r p) ≡ length (p .before)
+unfolding drawBuffer
+length-after font r p =
+    length-by
+    (anyApplies (drawCauses font (r .text) (r .position) (r .style) (r .lineHeight) (p .width) (p .height) (p .before)))
+    (p .width)
+    (textPicture (r .style .color) (pixelsOf font) (drawnText font (r .text) (r .position) (r .style .«vertical_pos») (r .lineHeight) false .glyphs))
+    (p .before)
+
+-- a pixel of the buffer lies in a row of the framebuffer
+row-below : (width height column row : ℕ) → row * width + column < width * height → row < height
+row-below width height column row h = by (decLt row height)
+  where
+    by : Dec (row < height) → row < height
+    by (yes k) = k
+    by (no k) =
+        let past : height ≤ row = omega arith in
+        absurd (omega (arith, mul-le-mul-right width past, mul-comm width height))
+
+module _ (font : List ℕ) (r : Request) (p : Panel) (d : RenderedDimensions) (within : WithinLimits font r p)
+    (succeeded : drawn font r p ≡ success d) where
+  kept : KeptOutside font r p d
+  kept =
+      agreement font [] r p p d record {
+        first-within = within;
+        second-within = subst (λ (f : List ℕ). WithinLimits f r p) (sym (append-nil font)) within;
+        as-wide = omega arith;
+        as-high = omega arith;
+        first-succeeds = succeeded;
+      } .first-kept
+
+  module _ (color : ℕ) (ground : AllOf color p (d .«bounding_box»)) where
+    -- inside the box the fill puts the colour, which was there; outside it keeps what the drawing kept
+    restored : (box : BoundingBox) → box ≡ d .«bounding_box» → (column row : ℕ) → column < p .width → row < p .height
+        → over (fillPicture color box (pos column) (pos row)) (pixel p (after font r p) column row) ≡ pixel p (p .before) column row
+    restored None e column row c k = kept column row c k (λ i. subst (InsideBox (pos column) (pos row)) (sym e) i)
+    restored (Some b) e column row c k = by (covers b (pos column) (pos row)) refl
+      where
+        by : (t : Bool) → covers b (pos column) (pos row) ≡ t
+            → over (pick t (put color) keep) (pixel p (after font r p) column row) ≡ pixel p (p .before) column row
+        by true h = sym (ground column row c k (subst (InsideBox (pos column) (pos row)) e (covers-inside (pos column) (pos row) b h)))
+        by false h = kept column row c k (λ i. outside h (subst (InsideBox (pos column) (pos row)) (sym e) i))
+          where
+            outside : covers b (pos column) (pos row) ≡ false → InsideBox (pos column) (pos row) (Some b) → ⊥
+            outside h i = let z : true ≡ false = sym (inside-covers (pos column) (pos row) b i) ∙ h in let q : _≡_ {A = ℕ} 0 1 = cc in omega arith
+
+    pub fill-restores : 0 < p .width → filled p color (d .«bounding_box») (after font r p) ≡ p .before
+    fill-restores some =
+        same-pixels some (filled p color (d .«bounding_box») (after font r p)) (p .before)
+        (length-shown (p .width) (fillPicture color (d .«bounding_box»)) (after font r p) ∙ length-after font r p)
+        (λ column row c h. at column row c (omega (arith, h, length-shown (p .width) (fillPicture color (d .«bounding_box»)) (after font r p), length-after font r p)))
+      where
+        at : (column row : ℕ) → column < p .width → row * p .width + column < length (p .before)
+            → pixel p (filled p color (d .«bounding_box») (after font r p)) column row ≡ pixel p (p .before) column row
+        at column row c h =
+            let k = row-below (p .width) (p .height) column row (omega (arith, size font r p within)) in
+            shown-at (p .width) (fillPicture color (d .«bounding_box»)) (after font r p) column row c (omega (arith, length-after font r p))
+            ∙ restored (d .«bounding_box») refl column row c k

@@ -1,0 +1,55 @@
+-- `write_line` meets its contract: PartLaws.antt has that the part written and put back is the row's picture on the framebuffer.
+-- Assumes nothing.
+use mathlib.Core.Path.{_≡_}
+use Prim.Native.Nat.{_+_, _-_, _*_}
+use native.Mathlib.Omega.{arith}
+use borrow.Author.Needs.{needs}
+use lib.ListN.{length}
+use Rattle.framebuffer.proofs.PartLaws.{row-shown}
+use Rattle.framebuffer.proofs.write_line.Statement.{statement}
+use Rattle.framebuffer.proofs.write_line.Tie as tie
+
+mul-start : tie.Need-mul-start
+mul-start c = search needs
+
+add-start : tie.Need-add-start
+add-start c = search needs
+
+add-end : tie.Need-add-end
+add-end c = search needs
+
+sub-write-row : tie.Need-sub-write-row
+sub-write-row c = search needs
+
+part-write-row-start : tie.Need-part-write-row-start
+part-write-row-start c = search needs
+
+part-write-row-end : tie.Need-part-write-row-end
+part-write-row-end c = search needs
+
+write-row-requires : tie.Need-write-row-requires
+write-row-requires c κs = search needs
+
+same-length : tie.Need-same-length
+same-length c = search needs
+
+returns : tie.Need-returns
+returns c =
+    let s = c .before .before .before .before .before .before in
+    let a = s .args in
+    let k : a .y * a .width + a .first + length (a .row .now) - (a .y * a .width + a .first) ≡ length (a .row .now) = omega arith in
+    rw (c .before .before .write-row .ensures, k) (row-shown (a .width) (a .color) (a .row .now) (a .y) (a .first) (a .buffer .now) (s .pre))
+
+pub write-line-spec : {M : Type 1} → statement M
+write-line-spec =
+    tie.close
+    (tie.spec
+    mul-start
+    add-start
+    add-end
+    sub-write-row
+    part-write-row-start
+    part-write-row-end
+    write-row-requires
+    same-length
+    returns)

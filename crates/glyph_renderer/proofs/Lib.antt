@@ -1,0 +1,5 @@
+pub mod RunReadsLaws
+pub mod VisibleLaws
+pub mod StandsLaws
+pub mod DrawLaws
+pub mod BoxLaws

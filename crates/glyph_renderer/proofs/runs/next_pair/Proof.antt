@@ -1,0 +1,61 @@
+-- The repeat bit is what `readAt` says of it (ReadLaws of the bit reader), and `nextPair` goes by the same test of it.
+use mathlib.Core.Path.{_≡_, sym}
+use Prim.Native.Nat.{_+_}
+use native.Mathlib.Omega.{arith}
+use Rattle.definitions.specs.Bits.{got, readAt}
+use Rattle.definitions.proofs.BitsLaws.{read-inside}
+use Rattle.font_reader.proofs.ReadLaws.{unsigned-value, unsigned-ends}
+use Rattle.glyph_renderer.specs.RunReads.{nextPair}
+use borrow.Author.Needs.{needs}
+use borrow.Author.Tests.{eq-eqb, ne-eqb}
+use Rattle.glyph_renderer.proofs.runs.next_pair.Statement.{statement}
+use Rattle.glyph_renderer.proofs.runs.next_pair.Tie as tie
+
+read-unsigned-requires : tie.Need-read-unsigned-requires
+read-unsigned-requires c κs = search needs
+
+enum-known-repeat : tie.Need-enum-known-repeat
+enum-known-repeat c = search needs
+
+enum-told : tie.Need-enum-told
+enum-told c = search needs
+
+returns : tie.Need-returns
+unfolding nextPair
+returns c =
+    let a = c .before .before .before .before .args in
+    simp (unsigned-ends (readAt (a .font .now) (a .runs .«bit_pos») 1) _ (c .before .before .read-unsigned .ensures) (c .enum-told .given .1))
+
+-- the repeat bit, and the bit after it
+repeat : (c : tie.After-known-told) → let a = c .before .before .before .before .before .args in
+    (readAt (a .font .now) (a .runs .«bit_pos») 1 ≡ got (c .before .repeat .given .0 .0)) × (c .before .repeat .given .0 .1 .0 .«bit_pos» ≡ a .runs .«bit_pos» + 1)
+repeat c = unsigned-value _ _ (c .before .before .before .read-unsigned .ensures) (c .before .repeat .given .1)
+
+returns-2 : tie.Need-returns-2
+unfolding nextPair
+returns-2 c = let r = repeat (c .before) in simp (r .0, r .1, eq-eqb _ _ (c .if1 .taken))
+
+first-pair-requires : tie.Need-first-pair-requires
+first-pair-requires c κs =
+    let s = c .before .before .before .before .before .before in
+    let r = repeat (c .before) in
+    let i = read-inside (s .args .font .now) (s .args .runs .«bit_pos») 1 _ (r .0) .0 in
+    record { zeros = s .pre .zeros; ones = s .pre .ones; most = s .pre .most; place = omega (arith, i, r .1) }
+
+returns-3 : tie.Need-returns-3
+unfolding nextPair
+returns-3 c =
+    let r = repeat (c .before .before) in
+    simp (r .0, sym (r .1), ne-eqb _ _ (c .before .if1 .left)) (c .first-pair .ensures)
+
+pub next-pair-spec : {M : Type 1} → statement M
+next-pair-spec =
+    tie.close
+    (tie.spec
+    read-unsigned-requires
+    enum-known-repeat
+    enum-told
+    returns
+    returns-2
+    first-pair-requires
+    returns-3)

@@ -1,0 +1,4 @@
+pub mod RunReads
+pub mod Visible
+pub mod Stands
+pub mod Drawing

@@ -1,0 +1,47 @@
+-- The reading of runs, pair by pair, as the code does it: each pair from the bit at which its numbers begin.
+use mathlib.Core.Bool.{Bool, true, false}
+use mathlib.Core.List.{List}
+use Prim.Native.Nat.{ℕ, _+_, _*_, _≤_}
+use lib.Dec.{eqb}
+use lib.ListN.{length}
+use Rattle.integers.specs.Integers.{pick}
+use Rattle.definitions.specs.Bits.{Read, got, ends, readAt}
+use Rattle.definitions.specs.Runs.{Pixels, pixels, cut}
+use Rattle.glyph_renderer.specs.declared.runs.Runs.{Runs}
+use Rattle.glyph_renderer.specs.declared.runs.RunsRead.{RunsRead}
+use Rattle.glyph_renderer.specs.declared.runs.RunsRead.the-variants.{Pair, Ends}
+
+-- what a reader of runs may count on: the widths of the runs and the place are within limits
+pub record Readable (font : List ℕ) (m0 m1 at : ℕ) : Type 0 where
+  pub zeros : m0 ≤ 8
+  pub ones : m1 ≤ 8
+  pub most : length font ≤ 1048576
+  pub place : at ≤ 8 * length font
+
+-- whether the font reaches to a glyph's last pixel
+abbrev pub isWhole : Pixels → Bool
+isWhole (pixels ps) = true
+isWhole cut = false
+
+abbrev pub unlessEnds : Read → (ℕ → RunsRead) → RunsRead
+unlessEnds (got n) rest = rest n
+unlessEnds ends rest = Ends
+
+-- what comes of a pair
+abbrev pub onPair : (Runs → Pixels) → RunsRead → Pixels
+onPair rest (Pair runs) = rest runs
+onPair rest Ends = cut
+
+-- A zero run then a one run, their numbers being m0 and m1 bits wide.
+unfoldable pub firstPair : List ℕ → ℕ → ℕ → ℕ → RunsRead
+firstPair font m0 m1 at =
+    unlessEnds (readAt font at m0) (λ zeros.
+    unlessEnds (readAt font (at + m0) m1) (λ ones. Pair (record { zeros = zeros; ones = ones; «bit_pos» = at + m0 + m1 })))
+
+-- One bit follows a pair: 1 repeats the pair, 0 brings a new pair.
+unfoldable pub nextPair : List ℕ → ℕ → ℕ → Runs → RunsRead
+nextPair font m0 m1 runs =
+    unlessEnds (readAt font (runs .«bit_pos») 1) (λ repeat.
+    pick (eqb repeat 1)
+    (Pair (record { zeros = runs .zeros; ones = runs .ones; «bit_pos» = runs .«bit_pos» + 1 }))
+    (firstPair font m0 m1 (runs .«bit_pos» + 1)))

@@ -1,0 +1,36 @@
+-- How far from 0 the numbers lie that the functions inside are handed. Calls within 01's limits stay far inside.
+use mathlib.Core.Path.{_≡_}
+use mathlib.Core.Bool.{true}
+use mathlib.Core.List.{List}
+use Prim.Native.Nat.{ℕ, _≤_}
+use lib.IntN.{ℤ, pos, negsuc, _+ℤ_}
+use lib.ListN.{length}
+use lib.Signed.{_≤ℤ_}
+use Rattle.types.specs.declared.geometry.Point.{Point}
+use Rattle.types.specs.declared.geometry.RenderedDimensions.{RenderedDimensions}
+use Rattle.definitions.specs.Geometry.{InReach}
+use Rattle.definitions.specs.Utf8.{decode, isUtf8}
+
+-- less than 2 to the power 29: sums of two such numbers fit an i32
+pub record Near (z : ℤ) : Type 0 where
+  pub low : negsuc 536870910 ≤ℤ z
+  pub high : z ≤ℤ pos 536870911
+
+-- the dimensions so far leave room for one more letter
+pub record HasRoom (origin : Point) (d : RenderedDimensions) : Type 0 where
+  pub x : Near (d .advance .x)
+  pub y : Near (d .advance .y)
+  pub column : Near (origin .x +ℤ d .advance .x)
+  pub row : Near (origin .y +ℤ d .advance .y)
+  pub box : InReach (d .«bounding_box»)
+
+-- What the checks of a call leave of a text and its place: the text is UTF-8 of at most 4,096 bytes, the line height at most
+-- 65,535, and the place within 01's limits, moved by the anchor.
+pub record Checked (text : List ℕ) (origin : Point) (lineHeight : ℕ) : Type 0 where
+  pub short : length text ≤ 4096
+  pub utf8 : isUtf8 (decode text) ≡ true
+  pub line : lineHeight ≤ 65535
+  pub left : negsuc 1048575 ≤ℤ origin .x
+  pub right : origin .x ≤ℤ pos 1048576
+  pub top : negsuc 269480063 ≤ℤ origin .y
+  pub bottom : origin .y ≤ℤ pos 1048704
