@@ -15,20 +15,20 @@ use Rattle.c_api.specs.declared.codes.Meaning.{Meaning}
 use Rattle.c_api.specs.declared.codes.Codes.{Codes}
 use Rattle.c_api.specs.declared.codes.Codes.the-variants.{Known, Unknown}
 
-abbrev pub anchorOf : ℕ → Anchor
+unfoldable pub anchorOf : ℕ → Anchor
 anchorOf code =
     pick (eqb code 0) (Anchor·Known Baseline)
     (pick (eqb code 1) (Anchor·Known Top)
     (pick (eqb code 2) (Anchor·Known Center)
     (pick (eqb code 3) (Anchor·Known Bottom) Anchor·Unknown)))
 
-abbrev pub alignmentOf : ℕ → Alignment
+unfoldable pub alignmentOf : ℕ → Alignment
 alignmentOf code =
     pick (eqb code 0) (Alignment·Known Left)
     (pick (eqb code 1) (Alignment·Known Centre)
     (pick (eqb code 2) (Alignment·Known Right) Alignment·Unknown))
 
-abbrev pub flagOf : ℕ → Flag
+unfoldable pub flagOf : ℕ → Flag
 flagOf code = pick (eqb code 0) (Flag·Known false) (pick (eqb code 1) (Flag·Known true) Flag·Unknown)
 
 -- All of a call's codes have a meaning and the answer has room, or not.
@@ -40,6 +40,6 @@ allKnown (Anchor·Known v) (Alignment·Known h) Flag·Unknown b narrow = Unknown
 allKnown (Anchor·Known v) Alignment·Unknown s b narrow = Unknown
 allKnown Anchor·Unknown h s b narrow = Unknown
 
-abbrev pub meaningOf : ℕ → ℕ → ℕ → ℕ → ℕ → Codes
+unfoldable pub meaningOf : ℕ → ℕ → ℕ → ℕ → ℕ → Codes
 meaningOf anchor align skip background room =
     allKnown (anchorOf anchor) (alignmentOf align) (flagOf skip) (flagOf background) (ltb room 8)

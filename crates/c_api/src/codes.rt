@@ -31,7 +31,7 @@ pub enum Codes {
     Unknown,
 }
 
-fn anchor(code: u32) -> Anchor
+fn known_anchor(code: u32) -> Anchor
     ensures { λ r. ⌜ r ≡ anchorOf code ⌝ }
 {
     match code {
@@ -43,7 +43,7 @@ fn anchor(code: u32) -> Anchor
     }
 }
 
-fn alignment(code: u32) -> Alignment
+fn known_alignment(code: u32) -> Alignment
     ensures { λ r. ⌜ r ≡ alignmentOf code ⌝ }
 {
     match code {
@@ -54,7 +54,7 @@ fn alignment(code: u32) -> Alignment
     }
 }
 
-fn flag(code: u32) -> Flag
+fn known_flag(code: u32) -> Flag
     ensures { λ r. ⌜ r ≡ flagOf code ⌝ }
 {
     match code {
@@ -65,19 +65,19 @@ fn flag(code: u32) -> Flag
 }
 
 // A call hands 0 for a code that it does not have, and the length of what it stores its answer in.
-pub fn meaning(anchor_code: u32, align: u32, skip: u32, background: u32, room: usize) -> Codes
+pub fn known_codes(anchor_code: u32, align: u32, skip: u32, background: u32, room: usize) -> Codes
     ensures { λ r. ⌜ r ≡ meaningOf «anchor_code» align skip background room ⌝ }
 {
-    let Anchor::Known(vertical_pos) = anchor(anchor_code) else {
+    let Anchor::Known(vertical_pos) = known_anchor(anchor_code) else {
         return Codes::Unknown;
     };
-    let Alignment::Known(horizontal_align) = alignment(align) else {
+    let Alignment::Known(horizontal_align) = known_alignment(align) else {
         return Codes::Unknown;
     };
-    let Flag::Known(skips) = flag(skip) else {
+    let Flag::Known(skips) = known_flag(skip) else {
         return Codes::Unknown;
     };
-    let Flag::Known(fills) = flag(background) else {
+    let Flag::Known(fills) = known_flag(background) else {
         return Codes::Unknown;
     };
     if room < 8 {

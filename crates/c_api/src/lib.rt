@@ -13,7 +13,7 @@ ghost use Rattle.definitions.specs.Text.{point};
 ghost use Rattle.c_api.specs.Codes.{meaningOf};
 ghost use Rattle.c_api.specs.Replies.{Answers, boxReply, textReply, alignedReply};
 use codes::Codes;
-use codes::meaning;
+use codes::known_codes;
 use renderer::font_bounding_box::get_font_bounding_box;
 use renderer::rendered_dimensions::get_rendered_dimensions;
 use reply::BAD_ARGUMENT;
@@ -27,7 +27,7 @@ use types::geometry::Point;
 pub extern "C" fn papayahelm_font_box(font: &[u8], anchor: u32, out: &mut [i64]) -> u32
     ensures { λ r. ⌜ Answers (meaningOf anchor 0 0 0 (length (now (out .entry)))) (λ m. boxReply (fontBoundingBox (now (font .entry)) (m .«vertical_pos»))) r (now (out .entry)) (now (out .exit)) ⌝ }
 {
-    let Codes::Known(m) = meaning(anchor, 0, 0, 0, out.len()) else {
+    let Codes::Known(m) = known_codes(anchor, 0, 0, 0, out.len()) else {
         return BAD_ARGUMENT;
     };
     let vertical_pos = m.vertical_pos;
@@ -48,7 +48,7 @@ pub extern "C" fn papayahelm_measure(
 ) -> u32
     ensures { λ r. ⌜ Answers (meaningOf anchor 0 skip 0 (length (now (out .entry)))) (λ m. textReply (measure (now (font .entry)) (now (text .entry)) (point x y) (m .«vertical_pos») «line_height» (m .skip))) r (now (out .entry)) (now (out .exit)) ⌝ }
 {
-    let Codes::Known(m) = meaning(anchor, 0, skip, 0, out.len()) else {
+    let Codes::Known(m) = known_codes(anchor, 0, skip, 0, out.len()) else {
         return BAD_ARGUMENT;
     };
     let vertical_pos = m.vertical_pos;
