@@ -4,23 +4,46 @@
 // answer's values are stored in `out`: specs/Replies.antt says which. oracle/papayahelm.h declares
 // the calls.
 mod codes;
+mod header;
 mod reply;
 
 ghost use mathlib.Core.Path.{_≡_};
 ghost use lib.ListN.{length};
-ghost use Rattle.definitions.specs.Calls.{fontBoundingBox, measure, measureAligned};
+ghost use Rattle.definitions.specs.Calls.{openFont, fontBoundingBox, measure, measureAligned};
 ghost use Rattle.definitions.specs.Text.{point};
 ghost use Rattle.c_api.specs.Codes.{meaningOf};
 ghost use Rattle.c_api.specs.Replies.{Answers, boxReply, textReply, alignedReply};
+ghost use Rattle.c_api.specs.Headers.{Opens};
 use codes::Codes;
 use codes::known_codes;
+use font_reader::new_from_raw_data;
+use header::store_header;
 use renderer::font_bounding_box::get_font_bounding_box;
 use renderer::rendered_dimensions::get_rendered_dimensions;
 use reply::BAD_ARGUMENT;
+use reply::number_of;
 use reply::of_dimensions;
 use reply::of_rectangle;
 use reply::store;
 use types::geometry::Point;
+use types::results::FontReaderResult;
+
+// The header's values and the default line height.
+#[no_mangle]
+pub extern "C" fn papayahelm_open(font: &[u8], out: &mut [i64]) -> u32
+    ensures { λ r. ⌜ Opens (length (now (out .entry))) (openFont (now (font .entry))) r (now (out .entry)) (now (out .exit)) ⌝ }
+{
+    if out.len() < 21 {
+        return BAD_ARGUMENT;
+    }
+    match new_from_raw_data(font) {
+        FontReaderResult::Err(error) => number_of(error),
+        FontReaderResult::Ok(head) => {
+            store_header(out, head);
+            0
+        }
+    }
+}
 
 // The bounding box of all of the font's glyphs.
 #[no_mangle]

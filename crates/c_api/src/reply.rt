@@ -4,6 +4,7 @@ ghost use Prim.Native.Nat.{_≤_};
 ghost use lib.IntN.{pos};
 ghost use lib.ListN.{length};
 ghost use Rattle.definitions.specs.Calls.{rectangleOutcome, dimensionsOutcome, boundingBoxOutcome};
+ghost use Rattle.definitions.specs.Refusals.{number, codePoint};
 ghost use Rattle.c_api.specs.Replies.{refusedReply, errorReply, boxedReply, boundsReply, boxReply, textReply, alignedReply, stored};
 use types::error::Error;
 use types::geometry::BoundingBox;
@@ -36,7 +37,7 @@ fn signed(n: i32) -> i64
     n as i64
 }
 
-fn unsigned(n: u32) -> i64
+pub fn unsigned(n: u32) -> i64
     ensures { λ r. ⌜ r ≡ pos n ⌝ }
 {
     n as i64
@@ -58,19 +59,41 @@ fn refused(status: u32, code_point: u32) -> Reply
     }
 }
 
+// 01's number.
+pub fn number_of(error: Error) -> u32
+    ensures { λ r. ⌜ r ≡ number error ⌝ }
+{
+    match error {
+        Error::FontLength => 1,
+        Error::FontHeader => 2,
+        Error::FramebufferSize => 3,
+        Error::TextEncoding => 4,
+        Error::PositionOrLineHeight => 5,
+        Error::BackgroundColorNotSupported => 6,
+        Error::GlyphNotFound(_) => 7,
+        Error::FontEnds(_) => 8,
+    }
+}
+
+fn code_point_of(error: Error) -> u32
+    ensures { λ r. ⌜ r ≡ codePoint error ⌝ }
+{
+    match error {
+        Error::GlyphNotFound(code_point) => code_point,
+        Error::FontEnds(code_point) => code_point,
+        Error::FontLength => 0,
+        Error::FontHeader => 0,
+        Error::FramebufferSize => 0,
+        Error::TextEncoding => 0,
+        Error::PositionOrLineHeight => 0,
+        Error::BackgroundColorNotSupported => 0,
+    }
+}
+
 fn of_error(error: Error) -> Reply
     ensures { λ r. ⌜ r ≡ errorReply error ⌝ }
 {
-    match error {
-        Error::FontLength => refused(1, 0),
-        Error::FontHeader => refused(2, 0),
-        Error::FramebufferSize => refused(3, 0),
-        Error::TextEncoding => refused(4, 0),
-        Error::PositionOrLineHeight => refused(5, 0),
-        Error::BackgroundColorNotSupported => refused(6, 0),
-        Error::GlyphNotFound(code_point) => refused(7, code_point),
-        Error::FontEnds(code_point) => refused(8, code_point),
-    }
+    refused(number_of(error), code_point_of(error))
 }
 
 fn boxed(advance: Point, area: Rectangle) -> Reply

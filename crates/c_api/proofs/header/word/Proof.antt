@@ -1,0 +1,19 @@
+-- A u16 fits an i64.
+use mir.Syntax.{w64}
+use mir.Facts.{toZ-pos}
+use borrow.Author.Needs.{needs}
+use Rattle.c_api.proofs.header.word.Statement.{statement}
+use Rattle.c_api.proofs.header.word.Tie as tie
+use Rattle.c_api.proofs.header.word.Reads as reads
+use Rattle.c_api.proofs.header.word.Lts as lts
+
+-- src/header.rt:21:5
+cast-result : tie.Need-cast-result
+cast-result c = search needs
+
+-- src/header.rt:18:1
+returns : tie.Need-returns
+returns c = toZ-pos w64 (search needs)
+
+pub word-spec : {M : Type 1} → statement M
+word-spec = tie.close (tie.spec cast-result returns)
