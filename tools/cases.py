@@ -8,6 +8,7 @@ import sys
 from pathlib import Path
 
 sys.path.insert(0, str(Path(__file__).parent))
+import make_font
 import model as m
 
 OPEN, FONT_BOX, MEASURE, ALIGNED, DRAW = range(5)
@@ -273,6 +274,79 @@ for align, name in enumerate(('Left', 'Center', 'Right')):
 case('-4 centred', ALIGNED, T, '-4', x=10, y=20, align=1, want='ok 8 17 5 3')
 case('-4 from the right', ALIGNED, T, '-4', x=10, y=20, align=2, want='ok 5 17 5 3')
 case('F12 centred', ALIGNED, F12, '-4', y=4, align=1, want='ok -1 3 3 1')
+
+# ---- drawing
+
+
+def draw(label, font, text, want=None, **more):
+    case('draw ' + label, DRAW, font, text, want=want, **more)
+
+
+GROUND = but(T, (1, 1))
+draw('-4', T, '-4', 'ok 6 0 0 0 5 3', y=3)
+draw('-4 with background', GROUND, '-4', 'ok 6 0 0 0 5 3', y=3, ink=(1, 2), fill=5)
+draw('-4 over other contents', T, '-4', None, y=3, fill=7)
+draw('T cut to 33, 4', T[:33], '4', 'ok 3 0 0 2 2 2', y=4)
+draw('F4, cut runs', F4, '-', 'no 8 45', y=4)
+draw('F4 far off the panel', F4, '-', 'no 8 45', x=1000)
+draw('F5, a pair of zeros', F5, '-', 'ok 3 0 0 3 2 1', y=4)
+draw('F5 with background', F5, '-', 'ok 3 0 0 3 2 1', y=4, ink=(1, 2))
+draw('F6, runs without bits', F6, '-', 'no 8 45', y=4)
+look('F6, runs without bits, measured', F6, '-', 'ok 3 0 0 3 2 1', y=4)
+draw('F7, one run not there', F7, '-', 'no 8 45', y=4)
+look('F7, one run not there, measured', F7, '-', None, y=4)
+draw('F9, x of 8 bits', F9, '-', None, y=4)
+draw('F9w, w of 8 bits', F9W, '-', None, y=4)
+draw('the empty glyph', F11, '!-', None, x=3, y=4)
+draw('negative advance', F12, '-4', None, x=2, y=4)
+draw('negative advance with background', but(F12, (1, 1)), '-4', None, x=2, y=4, ink=(1, 2), fill=3)
+draw('glyph count 0', but(T, (0, 0)), '4', None, y=4)
+for x in (-3, -2, -1, 0, 5, 6, 7, 8):
+    for y in (0, 1, 2, 8, 9, 10):
+        draw('4 at %d, %d' % (x, y), GROUND, '4', None, x=x, y=y, ink=(1, 2), fill=5)
+for size in ((1, 1), (1, 9), (9, 1), (256, 1), (1, 256), (256, 256)):
+    draw('-4 on %d x %d' % size, T, '-4', None, y=2, size=size, fill=1)
+    draw('-4 at the far corner of %d x %d' % size, GROUND, '-4', None, x=size[0] - 3, y=size[1], size=size, ink=(9, 8), fill=1)
+for size, length in (((0, 8), 0), ((8, 0), 0), ((257, 1), 257), ((1, 257), 257), ((8, 8), 63), ((8, 8), 65), ((8, 8), 0),
+                     ((2147483648, 2), 0), ((256, 256), 65535)):
+    draw('size %d x %d, %d bytes' % (size + (length,)), T, '-', 'no 3 0', size=size, length=length, fill=4)
+for k in range(5):
+    text = '----'[:k] + 'A' + '--'
+    draw('7 at letter %d' % (k + 1), T, text, 'no 7 65', y=4, size=(16, 8), fill=2)
+    draw('7 at letter %d, skipped' % (k + 1), T, text, None, y=4, size=(16, 8), fill=2, skip=True)
+    draw('8 at letter %d' % (k + 1), T[:33], text, 'no 8 65', y=4, size=(16, 8), fill=2)
+draw('8 of runs at the second letter', T[:32], '-4', 'no 8 52', y=4, fill=2)
+draw('lines', T, '-4\n4-\n\n-', None, y=4, size=(10, 18))
+for anchor, name in enumerate(('Baseline', 'Top', 'Center', 'Bottom')):
+    draw('anchor ' + name, T, '-4\n-', None, x=1, y=9, size=(8, 18), anchor=anchor)
+draw('3 before 4', T, bytes([255]), 'no 3 0', size=(0, 0), x=1048577, line=65536, ink=(1, 2))
+draw('4 before 5', T, bytes([255]), 'no 4 0', x=1048577, line=65536, ink=(1, 2))
+draw('5 before 6', T, 'A', 'no 5 0', x=1048577, ink=(1, 2))
+draw('line height before 6', T, 'A', 'no 5 0', line=65536, ink=(1, 2))
+draw('6 before letters', T, 'A', 'no 6 0', ink=(1, 2))
+draw('2 before 3', but(T, (4, 9)), 'A', 'no 2 0', size=(0, 0))
+draw('1 before 3', T[:22], 'A', 'no 1 0', size=(0, 0))
+draw('empty text', T, '', 'ok 0 0 none', fill=3)
+
+
+def one_glyph(w, h, picture, **fields):
+    """A font whose only glyph is U+002D, w x h pixels, set where `picture` of column and row says."""
+    rows = [''.join('#' if picture(c, r) else '.' for c in range(w)) for r in range(h)]
+    values = {'x': 0, 'y': 0, 'advance': 4}
+    values.update(fields)
+    return make_font.encode({'ascent': 7, 'descent': 0}, [(45, values, rows)], [])
+
+
+WIDE = one_glyph(40, 3, lambda c, r: (c + r) % 3 == 0, x=-5)
+TALL = one_glyph(3, 40, lambda c, r: (c * r) % 4 == 1, y=-6)
+HUGE = one_glyph(255, 255, lambda c, r: False)
+FULL = one_glyph(100, 100, lambda c, r: c == r)
+for x, y in ((-20, 2), (0, 3), (4, 4), (7, 1)):
+    draw('wider than the panel, at %d, %d' % (x, y), WIDE, '-', None, x=x, y=y, ink=(1, 2), fill=5)
+    draw('higher than the panel, at %d, %d' % (x, y), TALL, '-', None, x=x, y=y + 10, ink=(1, 2), fill=5)
+for x, y in ((-1000, 0), (0, -1000), (300, 300), (-100, 100), (0, 255), (1, 256)):
+    draw('255 x 255 pixels at %d, %d' % (x, y), HUGE, '-', None, x=x, y=y, ink=(1, 2), size=(256, 256), fill=5)
+    draw('a diagonal at %d, %d' % (x, y), FULL, '-', None, x=x, y=y, size=(256, 256), fill=5)
 
 if __name__ == '__main__':
     crate = Path(__file__).parent.parent / 'crates' / 'replay'

@@ -16,3 +16,5 @@ pub mod RefusalLaws
 pub mod Agreement
 pub mod AgreementCase
 pub mod RedrawLaws
+pub mod LineCases
+pub mod LineLaws

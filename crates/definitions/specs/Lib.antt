@@ -14,6 +14,7 @@ pub mod Framebuffer
 pub mod TextSteps
 pub mod Limits
 pub mod Calls
+pub mod Line
 pub mod Agreement
 pub mod Redraw
 pub mod FontT

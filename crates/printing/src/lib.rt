@@ -1,42 +1,10 @@
 // What the programs print: numbers, and answers in 01's words (`ok` or `no`, then numbers).
-ghost use mathlib.Core.Path.{_≡_};
-ghost use lib.IntN.{natAbs};
-ghost use Rattle.definitions.specs.Refusals.{number, codePoint};
 use libc::STDOUT_FILENO;
 use types::error::Error;
 use types::geometry::Rectangle;
-
-// 01's number of a refusal.
-pub fn error_number(e: Error) -> u32
-    ensures { λ r. ⌜ r ≡ number e ⌝ }
-{
-    match e {
-        Error::FontLength => 1,
-        Error::FontHeader => 2,
-        Error::FramebufferSize => 3,
-        Error::TextEncoding => 4,
-        Error::PositionOrLineHeight => 5,
-        Error::BackgroundColorNotSupported => 6,
-        Error::GlyphNotFound(_) => 7,
-        Error::FontEnds(_) => 8,
-    }
-}
-
-// The code point that is returned with it.
-pub fn error_code_point(e: Error) -> u32
-    ensures { λ r. ⌜ r ≡ codePoint e ⌝ }
-{
-    match e {
-        Error::FontLength => 0,
-        Error::FontHeader => 0,
-        Error::FramebufferSize => 0,
-        Error::TextEncoding => 0,
-        Error::PositionOrLineHeight => 0,
-        Error::BackgroundColorNotSupported => 0,
-        Error::GlyphNotFound(c) => c,
-        Error::FontEnds(c) => c,
-    }
-}
+use utils::error::error_code_point;
+use utils::error::error_number;
+use utils::number::magnitude;
 
 pub fn text(s: &[u8]) {
     io::write_all(STDOUT_FILENO, s);
@@ -46,16 +14,6 @@ pub fn text(s: &[u8]) {
 pub fn unsigned(n: u32) {
     text(b" ");
     io::print_decimal(STDOUT_FILENO, n as u64);
-}
-
-// A number without its sign.
-fn magnitude(n: i32) -> u32
-    ensures { λ r. ⌜ r ≡ natAbs n ⌝ }
-{
-    if n < 0 {
-        return (0 - (n as i64)) as u32;
-    }
-    n as u32
 }
 
 pub fn signed(n: i32) {

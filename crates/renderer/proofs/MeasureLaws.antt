@@ -21,10 +21,11 @@ use Rattle.definitions.specs.TextSteps.{step, measureFrom, start}
 use Rattle.definitions.specs.Calls.{openFont, origin, measuredLetter, measure}
 use Rattle.definitions.proofs.GlyphLaws.{glyph-range}
 use Rattle.definitions.proofs.TextLaws.{measure-from, measure-next, measure-stops}
-use Rattle.definitions.proofs.Utf8Laws.{position, next, at-end, utf8-characters, character-count}
+use Rattle.definitions.proofs.Utf8Laws.{position, utf8-characters, character-count}
 use Rattle.renderer.specs.Ranges.{HasRoom, Checked}
 use Rattle.renderer.specs.Origins.{checkedOrigin}
 use Rattle.renderer.proofs.OriginLaws.{origin-is, call-refused, call-goes-on}
+use Rattle.renderer.proofs.LoopLaws.{Reached, reached-start, reached-end, reached-next, reached-stops}
 use Rattle.renderer.proofs.RangeLaws.{Small, in-range-small, Within, advanced-start, has-room, within-next}
 
 -- the glyphs that the letters of an opened font show
@@ -43,59 +44,36 @@ measured-small {font} {head} o skip c g e = in-range-small (glyph-range font hea
 pub checked-characters : {text : List ℕ} {origin : Point} {lineHeight : ℕ} → Checked text origin lineHeight → decode text ≡ characters (codePoints (decode text))
 checked-characters {text} k = utf8-characters (decode text) (k .utf8)
 
--- ---- what holds after `at` bytes: the rest of the text leads from here to where the whole text leads from its start
+-- ---- the loop
 
-pub record Reached (letters : ℕ → Letter) (lineHeight : ℕ) (origin : Point) (text : List ℕ) (d : RenderedDimensions) (at : ℕ) : Type 0 where
-  pub rest : List ℕ
-  pub inside : at ≤ length text
-  pub decoded : decode (drop at text) ≡ characters rest
-  pub within : Within lineHeight at rest d
-  pub same : measureFrom letters lineHeight origin start (codePoints (decode text)) ≡ measureFrom letters lineHeight origin d rest
+pub record Measured (letters : ℕ → Letter) (lineHeight : ℕ) (origin : Point) (text : List ℕ) (d : RenderedDimensions) (at : ℕ) : Type 0 where
+  pub reached : Reached (measureFrom letters lineHeight origin) (Within lineHeight) start text d at
 
 module _ {letters : ℕ → Letter} {lineHeight : ℕ} {origin : Point} {text : List ℕ} (k : Checked text origin lineHeight) where
-  pub reached-start : Reached letters lineHeight origin text start 0
-  reached-start =
+  pub measured-start : Measured letters lineHeight origin text start 0
+  measured-start =
       let e = checked-characters k in
-      record {
-        rest = codePoints (decode text);
-        inside = omega arith;
-        decoded = e;
-        within = record { advance = advanced-start _ (omega (arith, character-count text e, k .short)) (k .line); box = tt };
-        same = refl;
-      }
+      record { reached = reached-start e record { advance = advanced-start _ (omega (arith, character-count text e, k .short)) (k .line); box = tt } }
 
-  module _ {d : RenderedDimensions} {at : ℕ} (r : Reached letters lineHeight origin text d at) where
-    pub reached-room : HasRoom origin d
-    reached-room = has-room k (omega (arith, r .inside, k .short)) (r .within)
+  module _ {d : RenderedDimensions} {at : ℕ} (r : Measured letters lineHeight origin text d at) where
+    pub measured-room : HasRoom origin d
+    measured-room = has-room k (omega (arith, r .reached .inside, k .short)) (r .reached .within)
 
-    pub reached-end : length text ≤ at → measureFrom letters lineHeight origin start (codePoints (decode text)) ≡ success d
+    pub measured-end : length text ≤ at → measureFrom letters lineHeight origin start (codePoints (decode text)) ≡ success d
     unfolding measureFrom
-    reached-end h =
-        let e : r .rest ≡ [] = ends (sym (r .decoded) ∙ at-end text at h) in
-        r .same ∙ rw e
-      where
-        ends : {cs : List ℕ} → characters cs ≡ characters [] → cs ≡ []
-        ends e = cc
+    measured-end h = reached-end (r .reached) h
 
-    -- at a character of n bytes
     module _ {c n : ℕ} (first : firstCharacter (drop at text) ≡ character c n) where
-      pub reached-next : (small : (c : ℕ) (g : GlyphReader) → letters c ≡ shows g → Small g) {d′ : RenderedDimensions}
-          → step letters lineHeight origin d c ≡ success d′ → Reached letters lineHeight origin text d′ (at + n)
-      reached-next small {d′} e =
-          let p = position text at first in
-          let q = next text at first (r .decoded) in
+      pub measured-next : (small : (c : ℕ) (g : GlyphReader) → letters c ≡ shows g → Small g) {d′ : RenderedDimensions}
+          → step letters lineHeight origin d c ≡ success d′ → Measured letters lineHeight origin text d′ (at + n)
+      measured-next small e =
           record {
-            rest = q .0;
-            inside = p .within;
-            decoded = q .1 .1;
-            within = within-next small reached-room (subst (λ (cs : List ℕ). Within lineHeight at cs d) (q .1 .0) (r .within)) (p .some) e;
-            same = r .same ∙ ap (measureFrom letters lineHeight origin d) (q .1 .0) ∙ measure-next letters lineHeight origin d c (q .0) e;
+            reached = reached-next (r .reached) first (λ cs. measure-next letters lineHeight origin d c cs e) (λ cs w.
+                within-next small measured-room w (position text at first .some) e);
           }
 
-      pub reached-stops : {m e : ℕ} → step letters lineHeight origin d c ≡ refused m e → measureFrom letters lineHeight origin start (codePoints (decode text)) ≡ refused m e
-      reached-stops e =
-          let q = next text at first (r .decoded) in
-          r .same ∙ ap (measureFrom letters lineHeight origin d) (q .1 .0) ∙ measure-stops letters lineHeight origin d c (q .0) e
+      pub measured-stops : {m e : ℕ} → step letters lineHeight origin d c ≡ refused m e → measureFrom letters lineHeight origin start (codePoints (decode text)) ≡ refused m e
+      measured-stops e = reached-stops (r .reached) first (λ cs. measure-stops letters lineHeight origin d c cs e)
 
 -- ---- the call
 

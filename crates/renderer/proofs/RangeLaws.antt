@@ -6,13 +6,13 @@ use Prim.Native.Nat.{ℕ, _+_, _*_, _≤_}
 use native.Mathlib.Nat.{mul-le-mul, zero-add}
 use native.Mathlib.Omega.{arith}
 use lib.Dec.{eqb}
-use lib.IntN.{ℤ, pos, negsuc, _+ℤ_, _-ℤ_}
+use lib.IntN.{ℤ, pos, negsuc, negℤ, _+ℤ_, _-ℤ_}
 use lib.ListN.{length}
 use lib.Signed.{_≤ℤ_}
 use mir.Syntax.{w8, w32}
 use mir.Val.{SFits}
 use Rattle.integers.specs.Integers.{pick}
-use Rattle.integers.proofs.Laws.{zarith, plus, minus, range}
+use Rattle.integers.proofs.Laws.{zarith, plus, minus, neg, range}
 use Rattle.types.specs.declared.geometry.BoundingBox.{BoundingBox}
 use Rattle.types.specs.declared.geometry.BoundingBox.the-variants.{None, Some}
 use Rattle.types.specs.declared.geometry.Point.{Point}
@@ -34,6 +34,10 @@ near-fits h = omega zarith
 pub signed-byte : {z : ℤ} → SFits w8 z → SignedByte z
 signed-byte {z} f = record { low = omega (zarith, range f); high = omega (zarith, range f) }
 
+-- the code's -z is 0 less z
+pub negated : (z : ℤ) → pos 0 -ℤ z ≡ negℤ z
+negated z = omega (zarith, minus (pos 0) z, neg z)
+
 -- ---- a glyph
 
 -- what the types of the fields say already
@@ -43,6 +47,9 @@ pub record Small (g : GlyphReader) : Type 0 where
   pub x : SignedByte (g .«offset_x»)
   pub y : SignedByte (g .«offset_y»)
   pub advance : SignedByte (g .advance)
+
+pub fits-small : {g : GlyphReader} → g .«glyph_width» ≤ 255 → g .«glyph_height» ≤ 255 → SFits w8 (g .«offset_x») → SFits w8 (g .«offset_y») → SFits w8 (g .advance) → Small g
+fits-small w h x y a = record { width = w; height = h; x = signed-byte x; y = signed-byte y; advance = signed-byte a }
 
 pub in-range-small : {font : List ℕ} {g : GlyphReader} → InRange font g → Small g
 in-range-small r = record { width = r .width; height = r .height; x = r .x; y = r .y; advance = r .advance }

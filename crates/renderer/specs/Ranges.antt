@@ -7,8 +7,12 @@ use lib.IntN.{ℤ, pos, negsuc, _+ℤ_}
 use lib.ListN.{length}
 use lib.Signed.{_≤ℤ_}
 use Rattle.types.specs.declared.geometry.Point.{Point}
+use Rattle.types.specs.declared.geometry.BoundingBox.{BoundingBox}
+use Rattle.types.specs.declared.geometry.BoundingBox.the-variants.{None, Some}
+use Rattle.types.specs.declared.geometry.Rectangle.{Rectangle}
 use Rattle.types.specs.declared.geometry.RenderedDimensions.{RenderedDimensions}
-use Rattle.definitions.specs.Geometry.{InReach}
+use Rattle.definitions.specs.Geometry.{left, top, InReach}
+use Rattle.definitions.specs.TextSteps.{LineState}
 use Rattle.definitions.specs.Utf8.{decode, isUtf8}
 
 -- less than 2 to the power 29: sums of two such numbers fit an i32
@@ -34,3 +38,32 @@ pub record Checked (text : List ℕ) (origin : Point) (lineHeight : ℕ) : Type 
   pub right : origin .x ≤ℤ pos 1048576
   pub top : negsuc 269480063 ≤ℤ origin .y
   pub bottom : origin .y ≤ℤ pos 1048704
+
+-- ---- aligned measuring: a line, counted from its own start
+
+pub record LineSpan (start : ℤ) (len : ℕ) : Type 0 where
+  pub low : negsuc 1048575 ≤ℤ start
+  pub high : (start +ℤ pos len) ≤ℤ pos 1048576
+
+pub record LineRectangle (r : Rectangle) : Type 0 where
+  pub columns : LineSpan (left r) (r .size .width)
+  pub rows : LineSpan (top r) (r .size .height)
+
+abbrev pub LineInReach : BoundingBox → Type 0
+LineInReach None = Unit {0}
+LineInReach (Some r) = LineRectangle r
+
+-- the lines so far leave room for one more letter ..
+pub record LineFits (s : LineState) : Type 0 where
+  pub left : negsuc 1048575 ≤ℤ s .x
+  pub right : s .x ≤ℤ pos 1048575
+  pub line : LineInReach (s .line)
+  pub y : Near (s .y)
+  pub box : InReach (s .box)
+
+-- .. and the line may end here
+pub record LineHasRoom (origin : Point) (s : LineState) : Type 0 where
+  pub fits : LineFits s
+  pub origin-left : negsuc 1048575 ≤ℤ origin .x
+  pub origin-right : origin .x ≤ℤ pos 1048576
+  pub row : Near (origin .y +ℤ s .y)

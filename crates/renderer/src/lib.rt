@@ -4,3 +4,4 @@ mod limits;
 mod origin;
 mod render_actions;
 pub mod rendered_dimensions;
+pub mod rendered_dimensions_aligned;

@@ -6,8 +6,8 @@ ghost use Rattle.definitions.specs.Header.{Opened};
 ghost use Rattle.definitions.specs.Glyph.{glyphOutcome};
 ghost use Rattle.definitions.specs.Text.{letter, boxAt, horizontalOffset};
 ghost use Rattle.definitions.specs.Calls.{measuredLetter};
-ghost use Rattle.renderer.specs.Letters.{asLetter};
-ghost use Rattle.renderer.specs.Ranges.{Near};
+ghost use Rattle.renderer.specs.Letters.{asLetter, centerOffset};
+ghost use Rattle.renderer.specs.Ranges.{Near, LineInReach};
 use font_reader::retrieve_glyph_data;
 use types::error::Error;
 use types::font_reader::FontReader;
@@ -17,6 +17,7 @@ use types::geometry::Rectangle;
 use types::geometry::Size;
 use types::glyph_reader::GlyphReader;
 use types::results::GlyphResult;
+use types::style::HorizontalAlignment;
 
 // A letter shows a glyph, or nothing where it is unknown and skipped, or stops the text.
 pub(crate) enum Letter {
@@ -98,4 +99,33 @@ pub(crate) fn get_glyph_bounding_box(glyph: GlyphReader, x: i32, y: i32) -> Boun
             height: glyph.glyph_height as u32,
         },
     })
+}
+
+// Center halves the width alone, and rounds down.
+fn compute_center_offset(line_box: BoundingBox) -> i32
+    requires { ⌜ LineInReach «line_box» ⌝ }
+    ensures { λ r. ⌜ r ≡ centerOffset «line_box» ⌝ }
+{
+    let BoundingBox::Some(rectangle) = line_box else {
+        return 0;
+    };
+    let top_left = rectangle.top_left;
+    let size = rectangle.size;
+    -(((size.width / 2) as i32) + top_left.x)
+}
+
+// By how much a line is moved to the right, its box and its advance being counted from its start.
+pub(crate) fn compute_horizontal_offset(
+    horizontal_align: HorizontalAlignment,
+    line_box: BoundingBox,
+    advance: i32,
+) -> i32
+    requires { ⌜ LineInReach «line_box» × Near advance ⌝ }
+    ensures { λ r. ⌜ r ≡ horizontalOffset «horizontal_align» «line_box» advance ⌝ }
+{
+    match horizontal_align {
+        HorizontalAlignment::Left => 0,
+        HorizontalAlignment::Center => compute_center_offset(line_box),
+        HorizontalAlignment::Right => -(advance - 1),
+    }
 }

@@ -1,4 +1,8 @@
-// Joining bounding boxes, as 01 has it for the boxes of a text's glyphs.
+// Joining bounding boxes, as 01 has it for the boxes of a text's glyphs; and, in modules of their own,
+// what is printed of refusals and of numbers.
+pub mod error;
+pub mod number;
+
 use types::geometry::BoundingBox;
 use types::geometry::Point;
 use types::geometry::Rectangle;

@@ -1,6 +1,5 @@
 -- Where there is room, the sums fit and the glyph's box lies within the reach of joining.
 use mathlib.Core.Path.{_≡_, sym, subst}
-use Prim.Native.Nat.{_≤_}
 use mir.Syntax.{w8, w32}
 use mir.Val.{SFits, toZ, ofZ}
 use mir.Facts.{toZ-ofZ}
@@ -8,7 +7,7 @@ use borrow.Author.Needs.{needs}
 use Rattle.integers.proofs.Laws.{stored}
 use Rattle.definitions.specs.Geometry.{InReach}
 use Rattle.definitions.specs.TextSteps.{nextBox}
-use Rattle.renderer.proofs.RangeLaws.{Small, near-fits, signed-byte, box-in-reach}
+use Rattle.renderer.proofs.RangeLaws.{Small, near-fits, fits-small, box-in-reach}
 use Rattle.renderer.proofs.rendered_dimensions.add_glyph.Statement.{statement}
 use Rattle.renderer.proofs.rendered_dimensions.add_glyph.Tie as tie
 
@@ -25,29 +24,11 @@ module _ (c : tie.Start) where
   advance-y : SFits w32 (c .args .dimensions .advance .y)
   advance-y = near-fits (c .pre .y)
 
-  width-small : c .args .glyph .«glyph_width» ≤ 255
-  width-small = search needs
-
-  height-small : c .args .glyph .«glyph_height» ≤ 255
-  height-small = search needs
-
-  offset-x : SFits w8 (c .args .glyph .«offset_x»)
-  offset-x = search needs
-
-  offset-y : SFits w8 (c .args .glyph .«offset_y»)
-  offset-y = search needs
-
   glyph-advance : SFits w8 (c .args .glyph .advance)
   glyph-advance = search needs
 
   small : Small (c .args .glyph)
-  small = record {
-    width = width-small;
-    height = height-small;
-    x = signed-byte offset-x;
-    y = signed-byte offset-y;
-    advance = signed-byte glyph-advance;
-  }
+  small = fits-small (search needs) (search needs) (search needs) (search needs) glyph-advance
 
 -- the glyph's box
 module _ (c : tie.After-get-glyph-bounding-box) where

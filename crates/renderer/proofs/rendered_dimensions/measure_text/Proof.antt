@@ -1,5 +1,5 @@
 -- The loop keeps that the rest of the text leads from the dimensions so far to where the whole text leads from its start
--- (`Reached`), and that every number lies near 0.
+-- (`Measured`), and that every number lies near 0.
 use mathlib.Core.Path.{_≡_, sym, ap, _∙_}
 use Prim.Native.Nat.{_-_}
 use native.Mathlib.Omega.{arith}
@@ -11,13 +11,13 @@ use Rattle.definitions.specs.Utf8.{character, firstCharacter}
 use Rattle.definitions.specs.TextSteps.{step}
 use Rattle.definitions.specs.Calls.{measuredLetter, dimensionsOutcome}
 use Rattle.definitions.proofs.Utf8Laws.{Position, position, none-malformed}
-use Rattle.renderer.proofs.MeasureLaws.{measured-small, Reached, reached-start, reached-room, reached-end, reached-next, reached-stops}
+use Rattle.renderer.proofs.MeasureLaws.{measured-small, Measured, measured-start, measured-room, measured-end, measured-next, measured-stops}
 use Rattle.renderer.proofs.rendered_dimensions.measure_text.Statement.{statement}
 use Rattle.renderer.proofs.rendered_dimensions.measure_text.Tie as tie
 
 abbrev Inv-loop : tie.InvT-loop
 Inv-loop font head text origin line-height ignore-unknown-chars dimensions₀ at₀ dimensions at =
-    Reached (measuredLetter font ignore-unknown-chars) line-height origin text dimensions at
+    Measured (measuredLetter font ignore-unknown-chars) line-height origin text dimensions at
 
 abbrev μ-loop : tie.MeasureT-loop
 μ-loop font head text origin line-height ignore-unknown-chars dimensions₀ at₀ dimensions at = length text - at
@@ -37,7 +37,7 @@ here : (c : tie.After-known-told2 Inv-loop μ-loop)
 here c = position _ _ (first (c .before .before .before .before))
 
 loop-holds : tie.Need-loop-holds Inv-loop μ-loop
-loop-holds c = reached-start (c .before .before .pre .1)
+loop-holds c = measured-start (c .before .before .pre .1)
 
 next-char-requires : tie.Need-next-char-requires Inv-loop μ-loop
 next-char-requires c κs = search needs
@@ -52,13 +52,13 @@ enum-told c = search needs
 returns : tie.Need-returns Inv-loop μ-loop
 returns c =
     let l = c .before .before .before .before .loop in
-    absurd (none-malformed _ (l .at) (c .before .before .before .loop-test .taken) (l .inv .decoded) (sym (c .before .before .next-char .ensures) ∙ ap asCharacter (c .enum-told .given .1)))
+    absurd (none-malformed _ (l .at) (c .before .before .before .loop-test .taken) (l .inv .reached .decoded) (sym (c .before .before .next-char .ensures) ∙ ap asCharacter (c .enum-told .given .1)))
 
 add-char-requires : tie.Need-add-char-requires Inv-loop μ-loop
 add-char-requires c κs =
     let l = c .before .before .before .before .before in
     let s = l .before .before .before in
-    (s .pre .0, (reached-room (s .pre .1) (l .loop .inv), s .pre .1 .line))
+    (s .pre .0, (measured-room (s .pre .1) (l .loop .inv), s .pre .1 .line))
 
 enum-known-added : tie.Need-enum-known-added Inv-loop μ-loop
 enum-known-added c = search needs
@@ -71,7 +71,7 @@ returns-2 c =
     let k = c .before .before .before in
     let l = k .before .before .before .before .before in
     let e = ap dimensionsOutcome (c .enum-told2 .given .1) in
-    e ∙ sym (reached-stops (l .before .before .before .pre .1) (l .loop .inv) (first k) (sym (c .before .before .add-char .ensures) ∙ e))
+    e ∙ sym (measured-stops (l .before .before .before .pre .1) (l .loop .inv) (first k) (sym (c .before .before .add-char .ensures) ∙ e))
 
 add-at : tie.Need-add-at Inv-loop μ-loop
 add-at c =
@@ -86,11 +86,11 @@ loop-again c =
     let k = c .before .before .before .before in
     let l = k .before .before .before .before .before in
     let s = l .before .before .before in
-    reached-next (s .pre .1) (l .loop .inv) (first k) (measured-small (s .pre .0) _)
+    measured-next (s .pre .1) (l .loop .inv) (first k) (measured-small (s .pre .0) _)
     (sym (c .before .before .before .add-char .ensures) ∙ ap dimensionsOutcome (c .before .added .given .1))
 
 returns-3 : tie.Need-returns-3 Inv-loop μ-loop
-returns-3 c = sym (reached-end (c .before .before .before .before .pre .1) (c .before .loop .inv) (c .loop-test .left))
+returns-3 c = sym (measured-end (c .before .before .before .before .pre .1) (c .before .loop .inv) (c .loop-test .left))
 
 pub measure-text-spec : {M : Type 1} → statement M
 measure-text-spec =

@@ -8,8 +8,8 @@ use mir.Val.{SFits, Fits}
 use mir.Facts.{toZ-ofZ, sfits-widen}
 use borrow.Author.Needs.{needs}
 use Rattle.integers.proofs.Laws.{zarith, minus, size, range, nonneg, castable}
-use Rattle.printing.proofs.magnitude.Statement.{statement}
-use Rattle.printing.proofs.magnitude.Tie as tie
+use Rattle.utils.proofs.number.magnitude.Statement.{statement}
+use Rattle.utils.proofs.number.magnitude.Tie as tie
 
 module _ (z : ℤ) (f : SFits w32 z) where
   turned-fits : SFits w64 (pos 0 -ℤ z)

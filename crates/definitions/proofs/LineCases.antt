@@ -1,0 +1,37 @@
+-- Document 01, the measuring program's examples: one table of what `measuringLine` gives and what 01 says, computed.
+use mathlib.Core.Path.{_≡_, refl}
+use mathlib.Core.List.{List, [], _∷_, map}
+use Prim.Native.Nat.{ℕ}
+use Rattle.integers.specs.Integers.{signed8}
+use Rattle.definitions.specs.Header.{header, headerOff}
+use Rattle.definitions.specs.Bits.{lowBits, bits, number, readAt}
+use Rattle.definitions.specs.Lookup.{chain, unicodeChain, jumpTable, search}
+use Rattle.definitions.specs.Glyph.{fields, glyph}
+use Rattle.definitions.specs.Utf8.{table, rowOf, firstCharacter, decodeFrom, newlines}
+use Rattle.definitions.specs.Text.{joinAll, layout}
+use Rattle.definitions.specs.Calls.{openFont, measure}
+use Rattle.definitions.specs.Line.{decimalFrom, decimal, measuredByProgram, measuringLine}
+use Rattle.definitions.specs.FontT.{T}
+
+pub record LineCase : Type 0 where
+  pub font : List ℕ
+  pub text : List ℕ
+  pub line : List ℕ
+
+unfoldable pub lineCases : List LineCase
+lineCases =
+    -- "-4": `ok 6 0 0 -3 5 3`
+    record { font = T; text = 45 ∷ 52 ∷ []; line = 111 ∷ 107 ∷ 32 ∷ 54 ∷ 32 ∷ 48 ∷ 32 ∷ 48 ∷ 32 ∷ 45 ∷ 51 ∷ 32 ∷ 53 ∷ 32 ∷ 51 ∷ 10 ∷ [] }
+    -- "A": `no 7 65`
+    ∷ record { font = T; text = 65 ∷ []; line = 110 ∷ 111 ∷ 32 ∷ 55 ∷ 32 ∷ 54 ∷ 53 ∷ 10 ∷ [] }
+    -- the empty text: `ok 0 0 none`
+    ∷ record { font = T; text = []; line = 111 ∷ 107 ∷ 32 ∷ 48 ∷ 32 ∷ 48 ∷ 32 ∷ 110 ∷ 111 ∷ 110 ∷ 101 ∷ 10 ∷ [] }
+    -- "-4" and a newline, which is part of the text: `ok 0 4 0 -3 5 3`
+    ∷ record { font = T; text = 45 ∷ 52 ∷ 10 ∷ []; line = 111 ∷ 107 ∷ 32 ∷ 48 ∷ 32 ∷ 52 ∷ 32 ∷ 48 ∷ 32 ∷ 45 ∷ 51 ∷ 32 ∷ 53 ∷ 32 ∷ 51 ∷ 10 ∷ [] }
+    -- a missing font: `no 1 0`
+    ∷ record { font = []; text = []; line = 110 ∷ 111 ∷ 32 ∷ 49 ∷ 32 ∷ 48 ∷ 10 ∷ [] }
+    ∷ []
+
+pub line-cases-hold : map (λ (c : LineCase). measuringLine (c .font) (c .text)) lineCases ≡ map (λ (c : LineCase). c .line) lineCases
+unfolding lineCases measuringLine measuredByProgram decimal decimalFrom openFont header headerOff signed8 T glyph fields search chain unicodeChain jumpTable readAt bits lowBits number table rowOf firstCharacter decodeFrom newlines joinAll layout measure
+line-cases-hold = refl

@@ -1,0 +1,57 @@
+-- Four words, each after its space.
+use mathlib.Core.List.{_∷_}
+use native.Mathlib.Omega.{arith}
+use lib.ListN.{take}
+use mir.Syntax.{w32}
+use mir.Val.{SFits}
+use mir.Facts.{toZ-ofZ}
+use borrow.Author.Needs.{needs}
+use Rattle.definitions.specs.Geometry.{left, top}
+use Rattle.definitions.specs.Line.{decimal, signedDecimal}
+use Rattle.measure_line.proofs.WriterLaws.{four-words}
+use Rattle.measure_line.proofs.append_rectangle.Statement.{statement}
+use Rattle.measure_line.proofs.append_rectangle.Tie as tie
+
+append-signed-requires : tie.Need-append-signed-requires
+append-signed-requires c κs = search needs
+
+append-signed-requires-2 : tie.Need-append-signed-requires-2
+append-signed-requires-2 c κs = search needs
+
+append-unsigned-requires : tie.Need-append-unsigned-requires
+append-unsigned-requires c κs = search needs
+
+append-unsigned-requires-2 : tie.Need-append-unsigned-requires-2
+append-unsigned-requires-2 c κs = search needs
+
+same-length : tie.Need-same-length
+same-length c = search needs
+
+returns : tie.Need-returns
+returns c =
+    let a = c .before .before .before .before .before .before .before .before .before .before .before .before .before .before .before .before .before .before .before .args in
+    let r = a .r in
+    let fx : SFits w32 (left r) = search needs in
+    let fy : SFits w32 (top r) = search needs in (
+      omega arith,
+      four-words (take (a .at) (a .out .now))
+          (32 ∷ signedDecimal (left r))
+          (32 ∷ signedDecimal (top r))
+          (simp (toZ-ofZ, fx) at (c .before .before .before .before .before .before .before .before .before .before .before .before .before .before .before .append-signed .ensures .1))
+          (simp (toZ-ofZ, fy) at (c .before .before .before .before .before .before .before .before .before .before .append-signed2 .ensures .1))
+          (32 ∷ decimal (r .size .width))
+          (c .before .before .before .before .before .before .append-unsigned .ensures .1)
+          (32 ∷ decimal (r .size .height))
+          (c .before .before .append-unsigned2 .ensures .1),
+    )
+
+pub append-rectangle-spec : {M : Type 1} → statement M
+append-rectangle-spec =
+    tie.close
+    (tie.spec
+    append-signed-requires
+    append-signed-requires-2
+    append-unsigned-requires
+    append-unsigned-requires-2
+    same-length
+    returns)

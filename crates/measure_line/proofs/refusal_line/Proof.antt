@@ -1,0 +1,64 @@
+-- What the pieces write, one after the other; the number and the code point are those of the error.
+use mathlib.Core.List.{[], _∷_}
+use native.Mathlib.Omega.{arith}
+use borrow.Author.Needs.{needs}
+use Rattle.definitions.specs.Refusals.{number, codePoint}
+use Rattle.definitions.specs.Line.{decimal}
+use Rattle.measure_line.proofs.WriterLaws.{refusal-ends}
+use Rattle.measure_line.proofs.refusal_line.Statement.{statement}
+use Rattle.measure_line.proofs.refusal_line.Tie as tie
+
+slice-aggregate-append : tie.Need-slice-aggregate-append
+slice-aggregate-append c = search needs
+
+append-requires : tie.Need-append-requires
+append-requires c κs = search needs
+
+error-number-requires : tie.Need-error-number-requires
+error-number-requires c κs = search needs
+
+append-unsigned-requires : tie.Need-append-unsigned-requires
+append-unsigned-requires c κs = search needs
+
+error-code-point-requires : tie.Need-error-code-point-requires
+error-code-point-requires c κs = search needs
+
+append-unsigned-requires-2 : tie.Need-append-unsigned-requires-2
+append-unsigned-requires-2 c κs = search needs
+
+slice-aggregate-append-2 : tie.Need-slice-aggregate-append-2
+slice-aggregate-append-2 c = search needs
+
+append-requires-2 : tie.Need-append-requires-2
+append-requires-2 c κs = search needs
+
+same-length : tie.Need-same-length
+same-length c = search needs
+
+returns : tie.Need-returns
+returns c =
+    let e = c .before .before .before .before .before .before .before .before .before .before .before .before .before .before .before .before .before .before .before .before .before .args .e in (
+      omega arith,
+      refusal-ends [] (110 ∷ 111 ∷ []) (32 ∷ decimal (number e))
+          (c .before .before .before .before .before .before .before .before .before .before .before .before .before .before .before .before .before .append .ensures .1)
+          (rw (c .before .before .before .before .before .before .before .before .before .before .before .before .before .error-number .ensures) at (c .before .before .before .before .before .before .before .before .before .before .before .before .append-unsigned .ensures .1))
+          (32 ∷ decimal (codePoint e))
+          (rw (c .before .before .before .before .before .before .before .before .error-code-point .ensures) at (c .before .before .before .before .before .before .before .append-unsigned2 .ensures .1))
+          (10 ∷ [])
+          (c .before .before .append2 .ensures .1),
+    )
+
+pub refusal-line-spec : {M : Type 1} → statement M
+refusal-line-spec =
+    tie.close
+    (tie.spec
+    slice-aggregate-append
+    append-requires
+    error-number-requires
+    append-unsigned-requires
+    error-code-point-requires
+    append-unsigned-requires-2
+    slice-aggregate-append-2
+    append-requires-2
+    same-length
+    returns)

@@ -1,0 +1,47 @@
+-- `io::decimal` writes the fewest digits that hold the number: they are the definition's, and ten at most.
+use mathlib.Core.Path.{_≡_, ap, _∙_}
+use mathlib.Core.List.{List, _++_}
+use Prim.Native.Nat.{ℕ}
+use native.Mathlib.Omega.{arith}
+use lib.ListN.{take}
+use borrow.Author.Needs.{needs}
+use Rattle.definitions.specs.Line.{decimal}
+use Rattle.measure_line.proofs.DecimalLaws.{spelled, at-most-ten}
+use Rattle.measure_line.proofs.writer.append_decimal.Statement.{statement}
+use Rattle.measure_line.proofs.writer.append_decimal.Tie as tie
+
+decimal-requires : tie.Need-decimal-requires
+decimal-requires c κs = search needs
+
+array-share-prefix-digits : tie.Need-array-share-prefix-digits
+array-share-prefix-digits c = search needs
+
+slice-aggregate-append : tie.Need-slice-aggregate-append
+slice-aggregate-append c = search needs
+
+append-requires : tie.Need-append-requires
+append-requires c κs = let k = c .before .before .decimal in omega (arith, at-most-ten (k .result) (c .before .before .before .before .before .args .n) (search needs) (k .ensures .1 .0))
+
+same-length : tie.Need-same-length
+same-length c = search needs
+
+returns : tie.Need-returns
+returns c =
+    let a = c .before .before .before .before .before .before .before .before .args in
+    let k = c .before .before .before .before .before .decimal in
+    let w = c .before .before .append in
+    let e : take (k .result) (k .last .1 .0) ≡ decimal (a .n) = k .ensures .1 .1 ∙ spelled (k .result) (a .n) (k .ensures .1 .0) in (
+      omega (arith, w .ensures .0, at-most-ten (k .result) (a .n) (search needs) (k .ensures .1 .0)),
+      w .ensures .1 ∙ ap (λ (l : List ℕ). take (a .at) (a .out .now) ++ l) e,
+    )
+
+pub append-decimal-spec : {M : Type 1} → statement M
+append-decimal-spec =
+    tie.close
+    (tie.spec
+    decimal-requires
+    array-share-prefix-digits
+    slice-aggregate-append
+    append-requires
+    same-length
+    returns)

@@ -1,0 +1,77 @@
+-- A minus sign where the number is negative, then the digits of its size.
+use mathlib.Core.Path.{sym, ap, _∙_}
+use mathlib.Core.List.{List, [], _∷_, _++_}
+use Prim.Native.Nat.{ℕ}
+use native.Mathlib.Omega.{arith}
+use lib.ListN.{take}
+use mir.Facts.{toZ-ofZ}
+use borrow.Author.Needs.{needs}
+use Rattle.definitions.specs.Line.{decimal}
+use Rattle.definitions.proofs.LineLaws.{minus-sign, no-sign}
+use Rattle.measure_line.proofs.WriterLaws.{two-pieces}
+use Rattle.measure_line.proofs.writer.append_signed.Statement.{statement}
+use Rattle.measure_line.proofs.writer.append_signed.Tie as tie
+
+slice-aggregate-append : tie.Need-slice-aggregate-append
+slice-aggregate-append c = search needs
+
+append-requires : tie.Need-append-requires
+append-requires c κs = search needs
+
+magnitude-requires : tie.Need-magnitude-requires
+magnitude-requires c κs = search needs
+
+append-decimal-requires : tie.Need-append-decimal-requires
+append-decimal-requires c κs = search needs
+
+same-length : tie.Need-same-length
+same-length c = search needs
+
+returns : tie.Need-returns
+returns c =
+    let k = c .before .before .before .before .before .before .before .before .before .before .before .before in
+    let a = k .args in
+    let f = k .fits .n in
+    let sign = simp (toZ-ofZ, f) at (c .before .before .before .before .before .before .before .before .before .before .if1 .taken) in
+    let size = simp (toZ-ofZ, f) at (c .before .before .before .magnitude .ensures) in
+    let front = take (a .at) (a .out .now) in (
+      omega arith,
+      two-pieces front (32 ∷ 45 ∷ []) (decimal (c .before .before .before .magnitude .result)) (c .before .before .before .before .before .before .before .append .ensures .1) (c .before .before .append-decimal .ensures .1)
+          ∙ ap (λ (l : List ℕ). front ++ 32 ∷ l) (ap (λ (n : ℕ). 45 ∷ decimal n) size ∙ sym (minus-sign (a .n) sign)),
+    )
+
+magnitude-requires-2 : tie.Need-magnitude-requires-2
+magnitude-requires-2 c κs = search needs
+
+append-unsigned-requires : tie.Need-append-unsigned-requires
+append-unsigned-requires c κs = search needs
+
+same-length-2 : tie.Need-same-length-2
+same-length-2 c = search needs
+
+returns-2 : tie.Need-returns-2
+returns-2 c =
+    let k = c .before .before .before .before .before .before .before in
+    let a = k .args in
+    let f = k .fits .n in
+    let sign = simp (toZ-ofZ, f) at (c .before .before .before .before .before .if1 .left) in
+    let size = simp (toZ-ofZ, f) at (c .before .before .before .magnitude2 .ensures) in (
+      omega arith,
+      c .before .before .append-unsigned .ensures .1
+          ∙ ap (λ (l : List ℕ). take (a .at) (a .out .now) ++ 32 ∷ l) (ap decimal size ∙ sym (no-sign (a .n) sign)),
+    )
+
+pub append-signed-spec : {M : Type 1} → statement M
+append-signed-spec =
+    tie.close
+    (tie.spec
+    slice-aggregate-append
+    append-requires
+    magnitude-requires
+    append-decimal-requires
+    same-length
+    returns
+    magnitude-requires-2
+    append-unsigned-requires
+    same-length-2
+    returns-2)

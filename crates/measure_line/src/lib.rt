@@ -1,0 +1,111 @@
+// The line that the measuring program prints (01, the end of "Font T and its readings").
+pub mod writer;
+
+ghost use mathlib.Core.Path.{_≡_};
+ghost use mathlib.Core.List.{_++_};
+ghost use Prim.Native.Nat.{_+_, _≤_};
+ghost use lib.ListN.{length, take};
+ghost use Rattle.io.specs.Counts.{Counts};
+ghost use Rattle.definitions.specs.Refusals.{success, refusal};
+ghost use Rattle.definitions.specs.Calls.{dimensionsOutcome};
+ghost use Rattle.definitions.specs.Line.{spaced, boxWords, outcomeLine, measuredByProgram, measuringLine};
+use font_reader::new_from_raw_data;
+use renderer::rendered_dimensions::get_rendered_dimensions;
+use types::error::Error;
+use types::geometry::BoundingBox;
+use types::geometry::Point;
+use types::geometry::Rectangle;
+use types::geometry::RenderedDimensions;
+use types::results::DimensionsResult;
+use types::results::FontReaderResult;
+use types::style::VerticalPosition;
+use utils::error::error_code_point;
+use utils::error::error_number;
+use writer::append;
+use writer::append_signed;
+use writer::append_unsigned;
+
+// Left, top, width and height.
+fn append_rectangle(out: &mut [u8], at: usize, r: Rectangle) -> usize
+    requires { ⌜ at + 46 ≤ length (now out) ⌝ }
+    ensures { λ n. ⌜ (n ≤ at + 46) × (take n (now (out .exit)) ≡ take at (now (out .entry)) ++ spaced (boxWords (BoundingBox.Some r))) ⌝ }
+{
+    let left = append_signed(out, at, r.top_left.x);
+    let top = append_signed(out, left, r.top_left.y);
+    let width = append_unsigned(out, top, r.size.width);
+    append_unsigned(out, width, r.size.height)
+}
+
+fn append_bounding_box(out: &mut [u8], at: usize, b: BoundingBox) -> usize
+    requires { ⌜ at + 46 ≤ length (now out) ⌝ }
+    ensures { λ n. ⌜ (n ≤ at + 46) × (take n (now (out .exit)) ≡ take at (now (out .entry)) ++ spaced (boxWords b)) ⌝ }
+{
+    match b {
+        BoundingBox::None => append(out, at, b" none"),
+        BoundingBox::Some(r) => append_rectangle(out, at, r),
+    }
+}
+
+fn success_line(out: &mut [u8], d: RenderedDimensions) -> usize
+    requires { ⌜ 73 ≤ length (now out) ⌝ }
+    ensures { λ n. ⌜ (n ≤ 73) × (take n (now (out .exit)) ≡ outcomeLine (success d)) ⌝ }
+{
+    let ok = append(out, 0, b"ok");
+    let x = append_signed(out, ok, d.advance.x);
+    let y = append_signed(out, x, d.advance.y);
+    let bounding_box = d.bounding_box;
+    let end = append_bounding_box(out, y, bounding_box);
+    append(out, end, b"\n")
+}
+
+fn refusal_line(out: &mut [u8], e: Error) -> usize
+    requires { ⌜ 73 ≤ length (now out) ⌝ }
+    ensures { λ n. ⌜ (n ≤ 73) × (take n (now (out .exit)) ≡ outcomeLine (refusal e)) ⌝ }
+{
+    let no = append(out, 0, b"no");
+    let number = append_unsigned(out, no, error_number(e));
+    let end = append_unsigned(out, number, error_code_point(e));
+    append(out, end, b"\n")
+}
+
+fn result_line(out: &mut [u8], result: DimensionsResult) -> usize
+    requires { ⌜ 73 ≤ length (now out) ⌝ }
+    ensures { λ n. ⌜ (n ≤ 73) × (take n (now (out .exit)) ≡ outcomeLine (dimensionsOutcome result)) ⌝ }
+{
+    match result {
+        DimensionsResult::Ok(d) => success_line(out, d),
+        DimensionsResult::Err(e) => refusal_line(out, e),
+    }
+}
+
+// The longest font that the program takes; the calls take longer ones.
+const MAX_FONT_SIZE: usize = 65_536;
+
+fn measured(font: &[u8], text: &[u8]) -> DimensionsResult
+    ensures { λ r. ⌜ dimensionsOutcome r ≡ measuredByProgram (now (font .entry)) (now (text .entry)) ⌝ }
+{
+    if MAX_FONT_SIZE < font.len() {
+        return DimensionsResult::Err(Error::FontLength);
+    }
+    match new_from_raw_data(font) {
+        FontReaderResult::Err(error) => DimensionsResult::Err(error),
+        FontReaderResult::Ok(head) => get_rendered_dimensions(
+            font,
+            text,
+            Point { x: 0, y: 0 },
+            VerticalPosition::Baseline,
+            head.line_height,
+            false,
+        ),
+    }
+}
+
+// Writes the line to the start of `out` and answers its length. The longest line has 73 bytes: `ok`,
+// four signed numbers, two unsigned ones, a space before each, and the newline.
+pub fn measure_line(font: &[u8], text: &[u8], out: &mut [u8]) -> usize
+    requires { ⌜ 73 ≤ length (now out) ⌝ }
+    ensures { λ n. ⌜ Counts n (now (out .exit)) × (take n (now (out .exit)) ≡ measuringLine (now (font .entry)) (now (text .entry))) ⌝ }
+{
+    let result = measured(font, text);
+    result_line(out, result)
+}

@@ -1,0 +1,49 @@
+// A line is written piece by piece: what stood before the position, then the piece.
+ghost use mathlib.Core.Path.{_≡_};
+ghost use mathlib.Core.List.{_∷_, _++_};
+ghost use Prim.Native.Nat.{_+_, _≤_};
+ghost use lib.ListN.{length, take};
+ghost use Rattle.definitions.specs.Line.{decimal, signedDecimal};
+use utils::number::magnitude;
+
+pub fn append(out: &mut [u8], at: usize, s: &[u8]) -> usize
+    requires { ⌜ at + length (now s) ≤ length (now out) ⌝ }
+    ensures { λ r. ⌜ (r ≡ at + length (now (s .entry))) × (take r (now (out .exit)) ≡ take at (now (out .entry)) ++ now (s .entry)) ⌝ }
+{
+    let mut i = 0;
+    while i < s.len() {
+        out[at + i] = s[i];
+        i += 1;
+    }
+    at + i
+}
+
+// The digits of a number, of which a u32 has at most ten.
+fn append_decimal(out: &mut [u8], at: usize, n: u32) -> usize
+    requires { ⌜ at + 10 ≤ length (now out) ⌝ }
+    ensures { λ r. ⌜ (r ≤ at + 10) × (take r (now (out .exit)) ≡ take at (now (out .entry)) ++ decimal n) ⌝ }
+{
+    let mut digits = [0u8; 20];
+    let k = io::decimal(n as u64, &mut digits);
+    append(out, at, &digits[..k])
+}
+
+// A number after a space.
+pub fn append_unsigned(out: &mut [u8], at: usize, n: u32) -> usize
+    requires { ⌜ at + 11 ≤ length (now out) ⌝ }
+    ensures { λ r. ⌜ (r ≤ at + 11) × (take r (now (out .exit)) ≡ take at (now (out .entry)) ++ 32 ∷ decimal n) ⌝ }
+{
+    let next = append(out, at, b" ");
+    append_decimal(out, next, n)
+}
+
+pub fn append_signed(out: &mut [u8], at: usize, n: i32) -> usize
+    requires { ⌜ at + 12 ≤ length (now out) ⌝ }
+    ensures { λ r. ⌜ (r ≤ at + 12) × (take r (now (out .exit)) ≡ take at (now (out .entry)) ++ 32 ∷ signedDecimal n) ⌝ }
+{
+    if n < 0 {
+        let next = append(out, at, b" -");
+        return append_decimal(out, next, magnitude(n));
+    }
+    append_unsigned(out, at, magnitude(n))
+}

@@ -1,0 +1,183 @@
+-- The ranges of aligned measuring: a line, counted from its own start, stays near 0, and so does the place to which it is moved.
+-- Assumes nothing.
+use mathlib.Core.Path.{_≡_, refl, subst}
+use mathlib.Core.Bool.{Bool, true, false, _||_}
+use mathlib.Core.List.{List, _∷_}
+use Prim.Native.Nat.{ℕ, _+_, _/_, _≤_}
+use native.Mathlib.Omega.{arith}
+use lib.Dec.{eqb}
+use lib.IntN.{ℤ, pos, negsuc, _+ℤ_, _-ℤ_}
+use lib.Signed.{_≤ℤ_}
+use mir.Syntax.{w32}
+use mir.Val.{SFits}
+use Rattle.integers.specs.Integers.{pick, minZ}
+use Rattle.integers.proofs.Laws.{zarith, plus, minus, neg, min-is, max-is}
+use Rattle.types.specs.declared.geometry.BoundingBox.{BoundingBox}
+use Rattle.types.specs.declared.geometry.BoundingBox.the-variants.{None, Some}
+use Rattle.types.specs.declared.geometry.Point.{Point}
+use Rattle.types.specs.declared.glyph_reader.GlyphReader.{GlyphReader}
+use Rattle.types.specs.declared.style.HorizontalAlignment.{HorizontalAlignment}
+use Rattle.types.specs.declared.style.HorizontalAlignment.the-variants.{Left, Center, Right}
+use Rattle.definitions.specs.Refusals.{success}
+use Rattle.definitions.specs.Geometry.{left, spanLength, join, SpanInReach, InReach}
+use Rattle.definitions.specs.Text.{Letter, shows, nothing, stops, boxAt, horizontalOffset}
+use Rattle.definitions.specs.TextSteps.{movedBox, LineState, withLine, newlineAligned, glyphAligned, letterAligned, stepAligned}
+use Rattle.definitions.proofs.JoinLaws.{end, join-end, reach-join}
+use Rattle.renderer.specs.Ranges.{Near, Checked, LineSpan, LineInReach, LineFits, LineHasRoom}
+use Rattle.renderer.proofs.RangeLaws.{Small, Advanced, advanced-x, advanced-y, near-row, advanced-newline, advanced-letter, advanced-nothing}
+
+-- ---- boxes
+
+span-in-reach : {a : ℤ} {m : ℕ} → LineSpan a m → SpanInReach a m
+span-in-reach h = record { low = omega zarith; high = omega zarith }
+
+pub line-in-reach : (b : BoundingBox) → LineInReach b → InReach b
+line-in-reach None h = tt
+line-in-reach (Some r) h = record { columns = span-in-reach (h .columns); rows = span-in-reach (h .rows) }
+
+join-span : {a b : ℤ} {m n : ℕ} → LineSpan a m → LineSpan b n → LineSpan (minZ a b) (spanLength a b m n)
+join-span {a} {b} {m} {n} h k =
+    let e = join-end a b m n in
+    record { low = omega (zarith, min-is a b); high = omega (zarith, max-is (end a m) (end b n)) }
+
+pub line-join : (a b : BoundingBox) → LineInReach a → LineInReach b → LineInReach (join a b)
+line-join None b h k = k
+line-join (Some p) None h k = h
+line-join (Some p) (Some q) h k = record { columns = join-span (h .columns) (k .columns); rows = join-span (h .rows) (k .rows) }
+
+pub start-fits : {a : ℤ} {m : ℕ} → LineSpan a m → SFits w32 a
+start-fits {a} {m} h = omega (zarith, plus a (pos m))
+
+pub moved-fits : {x a : ℤ} {m : ℕ} → Near x → LineSpan a m → SFits w32 (x +ℤ a)
+moved-fits {x} {a} {m} n h = omega (zarith, plus a (pos m), plus x a)
+
+moved-span : {x a : ℤ} {m : ℕ} → Near x → LineSpan a m → SpanInReach (x +ℤ a) m
+moved-span {x} {a} {m} n h = record {
+  low = omega (zarith, plus x a);
+  high = omega (zarith, plus a (pos m), plus x a, plus (x +ℤ a) (pos m));
+}
+
+pub moved-in-reach : {x y : ℤ} (b : BoundingBox) → Near x → Near y → LineInReach b → InReach (movedBox x y b)
+moved-in-reach None p q h = tt
+moved-in-reach (Some r) p q h = record { columns = moved-span p (h .columns); rows = moved-span q (h .rows) }
+
+-- a glyph of the line, at the line's advance
+pub line-box : {x : ℤ} (g : GlyphReader) → negsuc 524288 ≤ℤ x → x ≤ℤ pos 524288 → Small g → LineInReach (boxAt x (pos 0) g)
+line-box {x} g h k s = by (eqb (g .«glyph_width») 0 || eqb (g .«glyph_height») 0)
+  where
+    columns : LineSpan (x +ℤ g .«offset_x») (g .«glyph_width»)
+    columns =
+        let a = s .x in
+        let w = s .width in
+        let l = x +ℤ g .«offset_x» in
+        record { low = omega (zarith, plus x (g .«offset_x»)); high = omega (zarith, plus x (g .«offset_x»), plus l (pos (g .«glyph_width»))) }
+
+    rows : LineSpan (pos 0 -ℤ (pos (g .«glyph_height») +ℤ g .«offset_y»)) (g .«glyph_height»)
+    rows =
+        let b = s .y in
+        let h = s .height in
+        let e = pos (g .«glyph_height») +ℤ g .«offset_y» in
+        record {
+          low = omega (zarith, plus (pos (g .«glyph_height»)) (g .«offset_y»), minus (pos 0) e);
+          high = omega (zarith, plus (pos (g .«glyph_height»)) (g .«offset_y»), minus (pos 0) e, plus (pos 0 -ℤ e) (pos (g .«glyph_height»)));
+        }
+
+    by : (t : Bool)
+        → LineInReach
+        (pick t None
+        (Some record {
+          «top_left» = record { x = x +ℤ g .«offset_x»; y = pos 0 -ℤ (pos (g .«glyph_height») +ℤ g .«offset_y») };
+          size = record { width = g .«glyph_width»; height = g .«glyph_height» };
+        }))
+    by true = tt
+    by false = record { columns = columns; rows = rows }
+
+-- ---- where a line is moved
+
+offset-bounds : (a : HorizontalAlignment) (b : BoundingBox) (x : ℤ) → negsuc 1048575 ≤ℤ x → x ≤ℤ pos 1048575 → LineInReach b
+    → (negsuc 1048576 ≤ℤ horizontalOffset a b x) × (horizontalOffset a b x ≤ℤ pos 1048577)
+offset-bounds Left b x p q h = omega zarith
+offset-bounds Center None x p q h = omega zarith
+offset-bounds Center (Some r) x p q h =
+    let k = h .columns in
+    let m = pos (r .size .width / 2) +ℤ left r in
+    omega (zarith, plus (left r) (pos (r .size .width)), plus (pos (r .size .width / 2)) (left r), neg m)
+offset-bounds Right b x p q h = omega (zarith, minus x (pos 1), neg (x -ℤ pos 1))
+
+pub x-near : {s : LineState} → LineFits s → Near (s .x)
+x-near f = let l = f .left in let r = f .right in record { low = omega zarith; high = omega zarith }
+
+module _ {origin : Point} {s : LineState} (room : LineHasRoom origin s) where
+  pub offset-near : (a : HorizontalAlignment) → Near (horizontalOffset a (s .line) (s .x))
+  offset-near a =
+      let o = offset-bounds a (s .line) (s .x) (room .fits .left) (room .fits .right) (room .fits .line) in
+      record { low = omega zarith; high = omega zarith }
+
+  pub column-near : (a : HorizontalAlignment) → Near (origin .x +ℤ horizontalOffset a (s .line) (s .x))
+  column-near a =
+      let o = offset-bounds a (s .line) (s .x) (room .fits .left) (room .fits .right) (room .fits .line) in
+      let l = room .origin-left in
+      let r = room .origin-right in
+      let z = horizontalOffset a (s .line) (s .x) in
+      record { low = omega (zarith, plus (origin .x) z); high = omega (zarith, plus (origin .x) z) }
+
+  pub with-line-in-reach : (a : HorizontalAlignment) → InReach (withLine a origin s)
+  with-line-in-reach a = reach-join (s .box) _ (room .fits .box) (moved-in-reach (s .line) (column-near a) (room .row) (room .fits .line))
+
+-- ---- the lines after `at` bytes
+
+pub record InLines (lineHeight at : ℕ) (rest : List ℕ) (s : LineState) : Type 0 where
+  pub advance : Advanced lineHeight at rest (s .x) (s .y)
+  pub line : LineInReach (s .line)
+  pub box : InReach (s .box)
+
+module _ {lineHeight at : ℕ} {rest : List ℕ} {s : LineState} (h : at ≤ 4096) (w : InLines lineHeight at rest s) where
+  x-left : negsuc 524288 ≤ℤ s .x
+  x-left = let l = w .advance .left in omega zarith
+
+  x-right : s .x ≤ℤ pos 524288
+  x-right = let r = w .advance .right in omega zarith
+
+  pub line-has-room : {text : List ℕ} {origin : Point} → Checked text origin lineHeight → LineHasRoom origin s
+  line-has-room k =
+      let l = x-left in
+      let r = x-right in
+      let y = advanced-y h (w .advance) in
+      record {
+        fits = record {
+          left = omega zarith;
+          right = omega zarith;
+          line = w .line;
+          y = record { low = omega zarith; high = omega zarith };
+          box = w .box;
+        };
+        origin-left = k .left;
+        origin-right = k .right;
+        row = near-row h (w .advance) k;
+      }
+
+module _ {letters : ℕ → Letter} (small : (c : ℕ) (g : GlyphReader) → letters c ≡ shows g → Small g) (a : HorizontalAlignment) where
+  module _ {lineHeight at c : ℕ} {cs : List ℕ} {s next : LineState} {origin : Point} {n : ℕ} (h : at ≤ 4096) (room : LineHasRoom origin s) (w : InLines lineHeight at (c ∷ cs) s) (some : 1 ≤ n) where
+    pub lines-next : stepAligned letters a lineHeight origin s c ≡ success next → InLines lineHeight (at + n) cs next
+    lines-next e = by (eqb c 10) refl (letters c) refl e
+      where
+        by : (t : Bool) → eqb c 10 ≡ t → (l : Letter) → letters c ≡ l
+            → pick t (success (newlineAligned a lineHeight origin s)) (letterAligned s l) ≡ success next
+            → InLines lineHeight (at + n) cs next
+        by true p l f e =
+            let same : newlineAligned a lineHeight origin s ≡ next = cc in
+            subst (InLines lineHeight (at + n) cs) same
+            record { advance = advanced-newline some (w .advance) p; line = tt; box = with-line-in-reach room a }
+        by false p (shows g) f e =
+            let q = small c g f in
+            let same : glyphAligned s g ≡ next = cc in
+            subst (InLines lineHeight (at + n) cs) same
+            record {
+              advance = advanced-letter some (w .advance) p (q .advance);
+              line = line-join (s .line) (boxAt (s .x) (pos 0) g) (w .line) (line-box g (x-left h w) (x-right h w) q);
+              box = w .box;
+            }
+        by false p nothing f e =
+            let same : s ≡ next = cc in
+            subst (InLines lineHeight (at + n) cs) same record { advance = advanced-nothing some (w .advance) p; line = w .line; box = w .box }
+        by false p (stops m k) f e = let z : _≡_ {A = ℕ} 0 1 = cc in absurd (omega arith)
