@@ -20,8 +20,10 @@ use font_reader::new_from_raw_data;
 use header::store_header;
 use renderer::font_bounding_box::get_font_bounding_box;
 use renderer::rendered_dimensions::get_rendered_dimensions;
+use renderer::rendered_dimensions_aligned::get_rendered_dimensions_aligned;
 use reply::BAD_ARGUMENT;
 use reply::number_of;
+use reply::of_bounding_box;
 use reply::of_dimensions;
 use reply::of_rectangle;
 use reply::store;
@@ -78,4 +80,37 @@ pub extern "C" fn papayahelm_measure(
     let position = Point { x, y };
     let result = get_rendered_dimensions(font, text, position, vertical_pos, line_height, m.skip);
     store(out, of_dimensions(result))
+}
+
+// The bounding box of a text whose lines are aligned.
+#[no_mangle]
+pub extern "C" fn papayahelm_measure_aligned(
+    font: &[u8],
+    text: &[u8],
+    x: i32,
+    y: i32,
+    anchor: u32,
+    align: u32,
+    line_height: u32,
+    skip: u32,
+    out: &mut [i64],
+) -> u32
+    ensures { λ r. ⌜ Answers (meaningOf anchor align skip 0 (length (now (out .entry)))) (λ m. alignedReply (measureAligned (now (font .entry)) (now (text .entry)) (point x y) (m .«vertical_pos») (m .«horizontal_align») «line_height» (m .skip))) r (now (out .entry)) (now (out .exit)) ⌝ }
+{
+    let Codes::Known(m) = known_codes(anchor, align, skip, 0, out.len()) else {
+        return BAD_ARGUMENT;
+    };
+    let vertical_pos = m.vertical_pos;
+    let horizontal_align = m.horizontal_align;
+    let position = Point { x, y };
+    let result = get_rendered_dimensions_aligned(
+        font,
+        text,
+        position,
+        vertical_pos,
+        horizontal_align,
+        line_height,
+        m.skip,
+    );
+    store(out, of_bounding_box(result))
 }
