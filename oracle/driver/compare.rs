@@ -33,6 +33,22 @@ fn outcome_name(answer: &Answer) -> &'static str {
     }
 }
 
+/// A panic's message with N for each number that is not the line.
+fn without_numbers(site: &str) -> String {
+    let (place, message) = site.split_once(": ").unwrap_or((site, ""));
+    let mut out = format!("{place}: ");
+    let mut digits = false;
+    for ch in message.chars() {
+        if !ch.is_ascii_digit() {
+            out.push(ch);
+        } else if !digits {
+            out.push('N');
+        }
+        digits = ch.is_ascii_digit();
+    }
+    out
+}
+
 pub fn verdict(case: &Case, call: Call, ours: &Outcome) -> Verdict {
     if let Some(number) = case.off_limits(call) {
         let expected = Answer::Refused { number, code_point: 0 };
@@ -53,7 +69,7 @@ pub fn verdict(case: &Case, call: Call, ours: &Outcome) -> Verdict {
         Answer::Panicked { code_point, site } => {
             let eight = Answer::Refused { number: 8, code_point: *code_point };
             if ours.answer == eight && ours.buffer == rust.buffer {
-                Verdict::Eight(site.clone())
+                Verdict::Eight(without_numbers(site))
             } else if ours.answer == eight {
                 Verdict::Different("number 8: the framebuffers differ".to_string())
             } else if LISTED.contains(&site.as_str()) {

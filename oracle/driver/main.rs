@@ -1,12 +1,16 @@
 //! Runs the Rust beside ours.
-//!   driver model SCRIPT SEED COUNT     against tools/model.py
+//!   driver compare SEED COUNT          with the static library
+//!   driver model SCRIPT SEED COUNT     with tools/model.py
 
 mod case;
 mod compare;
 mod display;
 mod fonts;
 mod generate;
+mod linked;
 mod model_side;
+#[path = "../papayahelm.rs"]
+mod papayahelm;
 mod random;
 mod rust_side;
 mod shrink;
@@ -34,12 +38,13 @@ fn main() {
     let args: Vec<String> = std::env::args().skip(1).collect();
     let number = |i: usize, or: u64| args.get(i).map_or(or, |a| a.parse().expect("a number"));
     let good = match args.first().map(String::as_str) {
+        Some("compare") => run(number(1, 1), number(2, 1_000_000), linked::call),
         Some("model") => {
             let mut model = model_side::Model::start(&args[1]);
             run(number(2, 1), number(3, 1000), |case, call| model.call(case, call))
         }
         _ => {
-            eprintln!("usage: driver model SCRIPT SEED COUNT");
+            eprintln!("usage: driver compare SEED COUNT, or driver model SCRIPT SEED COUNT");
             false
         }
     };
