@@ -67,8 +67,8 @@ def show_panel(panel, before, width, height):
         rows = [' '.join('%d' % v for v in panel[r * width:(r + 1) * width]) for r in range(height)]
         return ['  ' + row for row in rows]
     total = 0
-    for i, v in enumerate(panel):
-        total = (total + (i + 1) * v) % 2 ** 32
+    for v in panel:
+        total = (total * 31 + v) % 65521
     return ['  changed %d sum %d' % (sum(a != b for a, b in zip(panel, before)), total)]
 
 

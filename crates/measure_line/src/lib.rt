@@ -62,9 +62,11 @@ fn refusal_line(out: &mut [u8], e: Error) -> usize
     requires { ⌜ 73 ≤ length (now out) ⌝ }
     ensures { λ n. ⌜ (n ≤ 73) × (take n (now (out .exit)) ≡ outcomeLine (refusal e)) ⌝ }
 {
+    let number = error_number(e);
+    let code_point = error_code_point(e);
     let no = append(out, 0, b"no");
-    let number = append_unsigned(out, no, error_number(e));
-    let end = append_unsigned(out, number, error_code_point(e));
+    let middle = append_unsigned(out, no, number);
+    let end = append_unsigned(out, middle, code_point);
     append(out, end, b"\n")
 }
 

@@ -4,3 +4,5 @@ pub mod OriginLaws
 pub mod LoopLaws
 pub mod MeasureLaws
 pub mod AlignedLaws
+pub mod SizeLaws
+pub mod DrawLaws

@@ -18,19 +18,23 @@ pub record Reached {S R : Type 0} (from : S → List ℕ → R) (fits : ℕ → 
   pub same : from start (codePoints (decode text)) ≡ from s rest
 
 module _ {S R : Type 0} {from : S → List ℕ → R} {fits : ℕ → List ℕ → S → Type 0} {start : S} {text : List ℕ} where
-  pub reached-start : decode text ≡ characters (codePoints (decode text)) → fits 0 (codePoints (decode text)) start → Reached from fits start text start 0
+  unfoldable pub reached-start : decode text ≡ characters (codePoints (decode text)) → fits 0 (codePoints (decode text)) start → Reached from fits start text start 0
   reached-start e f = record { rest = codePoints (decode text); inside = omega arith; decoded = e; within = f; same = refl }
 
   module _ {s : S} {at : ℕ} (r : Reached from fits start text s at) where
-    pub reached-end : length text ≤ at → from start (codePoints (decode text)) ≡ from s []
-    reached-end h = r .same ∙ ap (from s) (ends (sym (r .decoded) ∙ at-end text at h))
+    -- at the end nothing is left
+    pub reached-last : length text ≤ at → r .rest ≡ []
+    reached-last h = ends (sym (r .decoded) ∙ at-end text at h)
       where
         ends : {cs : List ℕ} → characters cs ≡ characters [] → cs ≡ []
         ends e = cc
 
+    pub reached-end : length text ≤ at → from start (codePoints (decode text)) ≡ from s []
+    reached-end h = r .same ∙ ap (from s) (reached-last h)
+
     -- at a character of n bytes
     module _ {c n : ℕ} (first : firstCharacter (drop at text) ≡ character c n) where
-      pub reached-next : {s′ : S} → ((cs : List ℕ) → from s (c ∷ cs) ≡ from s′ cs) → ((cs : List ℕ) → fits at (c ∷ cs) s → fits (at + n) cs s′)
+      unfoldable pub reached-next : {s′ : S} → ((cs : List ℕ) → from s (c ∷ cs) ≡ from s′ cs) → ((cs : List ℕ) → fits at (c ∷ cs) s → fits (at + n) cs s′)
           → Reached from fits start text s′ (at + n)
       reached-next {s′} turn keeps =
           let q = next text at first (r .decoded) in

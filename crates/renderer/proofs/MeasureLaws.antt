@@ -29,7 +29,7 @@ use Rattle.renderer.proofs.LoopLaws.{Reached, reached-start, reached-en
 use Rattle.renderer.proofs.RangeLaws.{Small, in-range-small, Within, advanced-start, has-room, within-next}
 
 -- the glyphs that the letters of an opened font show
-shown-glyph : (skip : Bool) (o : Outcome GlyphReader) (g : GlyphReader) → letter skip o ≡ shows g → o ≡ success g
+pub shown-glyph : (skip : Bool) (o : Outcome GlyphReader) (g : GlyphReader) → letter skip o ≡ shows g → o ≡ success g
 shown-glyph skip (success h) g e = cc
 shown-glyph skip (refused n c) g e = by (skip && eqb n 7) e
   where
@@ -50,7 +50,7 @@ pub record Measured (letters : ℕ → Letter) (lineHeight : ℕ) (origin : Poin
   pub reached : Reached (measureFrom letters lineHeight origin) (Within lineHeight) start text d at
 
 module _ {letters : ℕ → Letter} {lineHeight : ℕ} {origin : Point} {text : List ℕ} (k : Checked text origin lineHeight) where
-  pub measured-start : Measured letters lineHeight origin text start 0
+  unfoldable pub measured-start : Measured letters lineHeight origin text start 0
   measured-start =
       let e = checked-characters k in
       record { reached = reached-start e record { advance = advanced-start _ (omega (arith, character-count text e, k .short)) (k .line); box = tt } }
@@ -64,7 +64,7 @@ module _ {letters : ℕ → Letter} {lineHeight : ℕ} {origin : Point} {text : 
     measured-end h = reached-end (r .reached) h
 
     module _ {c n : ℕ} (first : firstCharacter (drop at text) ≡ character c n) where
-      pub measured-next : (small : (c : ℕ) (g : GlyphReader) → letters c ≡ shows g → Small g) {d′ : RenderedDimensions}
+      unfoldable pub measured-next : (small : (c : ℕ) (g : GlyphReader) → letters c ≡ shows g → Small g) {d′ : RenderedDimensions}
           → step letters lineHeight origin d c ≡ success d′ → Measured letters lineHeight origin text d′ (at + n)
       measured-next small e =
           record {

@@ -2,3 +2,4 @@ pub mod Letters
 pub mod Ranges
 pub mod Origins
 pub mod Lines
+pub mod Sizes

@@ -2,6 +2,7 @@
 pub mod font_bounding_box;
 mod limits;
 mod origin;
+pub mod render;
 mod render_actions;
 pub mod rendered_dimensions;
 pub mod rendered_dimensions_aligned;

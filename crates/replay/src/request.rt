@@ -1,14 +1,21 @@
 // A case's numbers, and the call that they ask for.
 use crate::case_file::number;
 use crate::case_file::signed_number;
+use crate::panels;
 use font_reader::new_from_raw_data;
 use renderer::font_bounding_box::get_font_bounding_box;
+use renderer::render::render;
 use renderer::rendered_dimensions::get_rendered_dimensions;
+use renderer::rendered_dimensions_aligned::get_rendered_dimensions_aligned;
 use types::geometry::BoundingBox;
 use types::geometry::Point;
+use types::results::BoundingBoxResult;
 use types::results::DimensionsResult;
 use types::results::FontReaderResult;
 use types::results::RectangleResult;
+use types::style::FontColor;
+use types::style::FontStyle;
+use types::style::HorizontalAlignment;
 use types::style::VerticalPosition;
 ghost use Prim.Native.Nat.{_≤_};
 
@@ -26,6 +33,23 @@ fn vertical_pos(code: u32) -> VerticalPosition {
         return VerticalPosition::Center;
     }
     VerticalPosition::Bottom
+}
+
+fn horizontal_align(code: u32) -> HorizontalAlignment {
+    if code == 0 {
+        return HorizontalAlignment::Left;
+    }
+    if code == 1 {
+        return HorizontalAlignment::Center;
+    }
+    HorizontalAlignment::Right
+}
+
+fn font_color(code: u32, fg: u8, bg: u8) -> FontColor {
+    if code == 0 {
+        return FontColor::Transparent(fg);
+    }
+    FontColor::WithBackground { fg, bg }
 }
 
 fn answer_open(font: &[u8]) {
@@ -68,8 +92,61 @@ fn print_dimensions(result: DimensionsResult) {
     }
 }
 
+fn print_aligned(result: BoundingBoxResult) {
+    match result {
+        BoundingBoxResult::Ok(b) => {
+            printing::text(b"ok");
+            print_box(b);
+        }
+        BoundingBoxResult::Err(e) => printing::refusal(e),
+    }
+}
+
+// A small number of the case.
+fn byte(file: &[u8], at: usize) -> u8 {
+    (number(file, at) % 256) as u8
+}
+
+// Draws on a framebuffer with the contents that the case asks for, and prints the answer and the framebuffer.
+fn answer_draw(file: &[u8], at: usize, font: &[u8], text: &[u8], position: Point, panel: &mut [u8])
+    requires { ⌜ at ≤ 1048576 ⌝ }
+{
+    let style = FontStyle {
+        color: font_color(
+            number(file, at + 28),
+            byte(file, at + 32),
+            byte(file, at + 36),
+        ),
+        vertical_pos: vertical_pos(number(file, at + 12)),
+    };
+    let line_height = number(file, at + 20);
+    let skip = number(file, at + 24) == 1;
+    let width = number(file, at + 40) as usize;
+    let height = number(file, at + 44) as usize;
+    let fill = byte(file, at + 48);
+    let length = number(file, at + 52) as usize;
+    if panel.len() < length {
+        printing::text(b"no room for the framebuffer");
+        return;
+    }
+    panels::fill(&mut panel[..length], fill);
+    let result = render(
+        font,
+        text,
+        position,
+        style,
+        line_height,
+        skip,
+        width,
+        height,
+        &mut panel[..length],
+    );
+    print_dimensions(result);
+    panels::print(&panel[..length], fill, width, height);
+}
+
 // Makes the call whose numbers stand at `at` and prints its answer.
-pub fn answer(file: &[u8], at: usize, font: &[u8], text: &[u8])
+pub fn answer(file: &[u8], at: usize, font: &[u8], text: &[u8], panel: &mut [u8])
     requires { ⌜ at ≤ 1048576 ⌝ }
 {
     let kind = number(file, at);
@@ -78,19 +155,22 @@ pub fn answer(file: &[u8], at: usize, font: &[u8], text: &[u8])
         y: signed_number(file, at + 8),
     };
     let anchor = vertical_pos(number(file, at + 12));
-    let line_height = number(file, at + 20);
+    let align = horizontal_align(number(file, at + 16));
+    let line = number(file, at + 20);
     let skip = number(file, at + 24) == 1;
     match kind {
         0 => answer_open(font),
         1 => answer_font_box(font, anchor),
-        2 => print_dimensions(get_rendered_dimensions(
+        2 => print_dimensions(get_rendered_dimensions(font, text, position, anchor, line, skip)),
+        3 => print_aligned(get_rendered_dimensions_aligned(
             font,
             text,
             position,
             anchor,
-            line_height,
+            align,
+            line,
             skip,
         )),
-        _ => printing::text(b"no such call"),
+        _ => answer_draw(file, at, font, text, position, panel),
     }
 }

@@ -3,7 +3,7 @@ use mathlib.Core.List.{_∷_}
 use native.Mathlib.Omega.{arith}
 use lib.ListN.{take}
 use mir.Syntax.{w32}
-use mir.Val.{SFits}
+use mir.Val.{SFits, toZ, ofZ}
 use mir.Facts.{toZ-ofZ}
 use borrow.Author.Needs.{needs}
 use Rattle.definitions.specs.Geometry.{left, top}
@@ -34,15 +34,16 @@ returns c =
     let fx : SFits w32 (left r) = search needs in
     let fy : SFits w32 (top r) = search needs in (
       omega arith,
-      four-words (take (a .at) (a .out .now))
-          (32 ∷ signedDecimal (left r))
-          (32 ∷ signedDecimal (top r))
-          (simp (toZ-ofZ, fx) at (c .before .before .before .before .before .before .before .before .before .before .before .before .before .before .before .append-signed .ensures .1))
-          (simp (toZ-ofZ, fy) at (c .before .before .before .before .before .before .before .before .before .before .append-signed2 .ensures .1))
+      simp (toZ-ofZ, fx, fy) at
+          (four-words (take (a .at) (a .out .now))
+          (32 ∷ signedDecimal (toZ w32 (ofZ w32 (left r))))
+          (32 ∷ signedDecimal (toZ w32 (ofZ w32 (top r))))
+          (c .before .before .before .before .before .before .before .before .before .before .before .before .before .before .before .append-signed .ensures .1)
+          (c .before .before .before .before .before .before .before .before .before .before .append-signed2 .ensures .1)
           (32 ∷ decimal (r .size .width))
           (c .before .before .before .before .before .before .append-unsigned .ensures .1)
           (32 ∷ decimal (r .size .height))
-          (c .before .before .append-unsigned2 .ensures .1),
+          (c .before .before .append-unsigned2 .ensures .1)),
     )
 
 pub append-rectangle-spec : {M : Type 1} → statement M

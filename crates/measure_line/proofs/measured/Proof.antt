@@ -1,5 +1,6 @@
 -- A font of more than 65,536 bytes, one that does not open, or what measuring answers.
 use mathlib.Core.Path.{sym, ap, _∙_}
+use native.Mathlib.Omega.{arith}
 use borrow.Author.Needs.{needs}
 use Rattle.definitions.specs.Refusals.{number, codePoint}
 use Rattle.definitions.specs.Calls.{fontReaderOutcome}
@@ -8,7 +9,7 @@ use Rattle.measure_line.proofs.measured.Statement.{statement}
 use Rattle.measure_line.proofs.measured.Tie as tie
 
 returns : tie.Need-returns
-returns c = let a = c .before .before .before .args in sym (font-too-long (a .font .now) (a .text .now) (c .if1 .taken))
+returns c = let a = c .before .before .before .args in sym (font-too-long (a .font .now) (a .text .now) (omega arith))
 
 new-from-raw-data-requires : tie.Need-new-from-raw-data-requires
 new-from-raw-data-requires c κs = search needs
@@ -27,7 +28,7 @@ returns-2 c =
     let a = c .before .before .before .before .before .before .before .args in
     let e = c .before .error .given .0 .0 in
     sym
-    (font-refused (a .font .now) (a .text .now) (c .before .before .before .before .if1 .left) (number e) (codePoint e)
+    (font-refused (a .font .now) (a .text .now) (omega arith) (number e) (codePoint e)
     (sym (c .before .before .before .new-from-raw-data .ensures) ∙ ap fontReaderOutcome (c .before .error .given .1)))
 
 returns-3 : tie.Need-returns-3
@@ -35,7 +36,7 @@ returns-3 c =
     let a = c .before .before .before .before .before .before .before .before .args in
     c .get-rendered-dimensions .ensures
     ∙ sym
-    (font-opens (a .font .now) (a .text .now) (c .before .before .before .before .before .if1 .left) (c .before .before .head .given .0 .0)
+    (font-opens (a .font .now) (a .text .now) (omega arith) (c .before .before .head .given .0 .0)
     (sym (c .before .before .before .before .new-from-raw-data .ensures) ∙ ap fontReaderOutcome (c .before .before .head .given .1)))
 
 pub measured-spec : {M : Type 1} → statement M

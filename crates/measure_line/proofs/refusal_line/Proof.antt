@@ -2,11 +2,16 @@
 use mathlib.Core.List.{[], _∷_}
 use native.Mathlib.Omega.{arith}
 use borrow.Author.Needs.{needs}
-use Rattle.definitions.specs.Refusals.{number, codePoint}
 use Rattle.definitions.specs.Line.{decimal}
 use Rattle.measure_line.proofs.WriterLaws.{refusal-ends}
 use Rattle.measure_line.proofs.refusal_line.Statement.{statement}
 use Rattle.measure_line.proofs.refusal_line.Tie as tie
+
+error-number-requires : tie.Need-error-number-requires
+error-number-requires c κs = search needs
+
+error-code-point-requires : tie.Need-error-code-point-requires
+error-code-point-requires c κs = search needs
 
 slice-aggregate-append : tie.Need-slice-aggregate-append
 slice-aggregate-append c = search needs
@@ -14,14 +19,8 @@ slice-aggregate-append c = search needs
 append-requires : tie.Need-append-requires
 append-requires c κs = search needs
 
-error-number-requires : tie.Need-error-number-requires
-error-number-requires c κs = search needs
-
 append-unsigned-requires : tie.Need-append-unsigned-requires
 append-unsigned-requires c κs = search needs
-
-error-code-point-requires : tie.Need-error-code-point-requires
-error-code-point-requires c κs = search needs
 
 append-unsigned-requires-2 : tie.Need-append-unsigned-requires-2
 append-unsigned-requires-2 c κs = search needs
@@ -37,26 +36,28 @@ same-length c = search needs
 
 returns : tie.Need-returns
 returns c =
-    let e = c .before .before .before .before .before .before .before .before .before .before .before .before .before .before .before .before .before .before .before .before .before .args .e in (
+    let n = c .before .before .before .before .before .before .before .before .before .before .before .before .before .before .before .before .before .before .before .error-number in
+    let k = c .before .before .before .before .before .before .before .before .before .before .before .before .before .before .before .before .before .before .error-code-point in (
       omega arith,
-      refusal-ends [] (110 ∷ 111 ∷ []) (32 ∷ decimal (number e))
-          (c .before .before .before .before .before .before .before .before .before .before .before .before .before .before .before .before .before .append .ensures .1)
-          (rw (c .before .before .before .before .before .before .before .before .before .before .before .before .before .error-number .ensures) at (c .before .before .before .before .before .before .before .before .before .before .before .before .append-unsigned .ensures .1))
-          (32 ∷ decimal (codePoint e))
-          (rw (c .before .before .before .before .before .before .before .before .error-code-point .ensures) at (c .before .before .before .before .before .before .before .append-unsigned2 .ensures .1))
+      simp (n .ensures, k .ensures) at
+          (refusal-ends [] (110 ∷ 111 ∷ []) (32 ∷ decimal (n .result))
+          (c .before .before .before .before .before .before .before .before .before .before .before .before .before .before .before .append .ensures .1)
+          (c .before .before .before .before .before .before .before .before .before .before .before .append-unsigned .ensures .1)
+          (32 ∷ decimal (k .result))
+          (c .before .before .before .before .before .before .before .append-unsigned2 .ensures .1)
           (10 ∷ [])
-          (c .before .before .append2 .ensures .1),
+          (c .before .before .append2 .ensures .1)),
     )
 
 pub refusal-line-spec : {M : Type 1} → statement M
 refusal-line-spec =
     tie.close
     (tie.spec
+    error-number-requires
+    error-code-point-requires
     slice-aggregate-append
     append-requires
-    error-number-requires
     append-unsigned-requires
-    error-code-point-requires
     append-unsigned-requires-2
     slice-aggregate-append-2
     append-requires-2

@@ -2,7 +2,7 @@
 use mathlib.Core.List.{[], _∷_}
 use native.Mathlib.Omega.{arith}
 use mir.Syntax.{w32}
-use mir.Val.{SFits}
+use mir.Val.{SFits, toZ, ofZ}
 use mir.Facts.{toZ-ofZ}
 use borrow.Author.Needs.{needs}
 use Rattle.definitions.specs.Line.{signedDecimal, spaced, boxWords}
@@ -40,15 +40,16 @@ returns c =
     let fx : SFits w32 (d .advance .x) = search needs in
     let fy : SFits w32 (d .advance .y) = search needs in (
       omega arith,
-      success-ends [] (111 ∷ 107 ∷ []) (32 ∷ signedDecimal (d .advance .x))
+      simp (toZ-ofZ, fx, fy) at
+          (success-ends [] (111 ∷ 107 ∷ []) (32 ∷ signedDecimal (toZ w32 (ofZ w32 (d .advance .x))))
           (c .before .before .before .before .before .before .before .before .before .before .before .before .before .before .before .before .before .before .before .before .before .append .ensures .1)
-          (simp (toZ-ofZ, fx) at (c .before .before .before .before .before .before .before .before .before .before .before .before .before .before .before .before .append-signed .ensures .1))
-          (32 ∷ signedDecimal (d .advance .y))
-          (simp (toZ-ofZ, fy) at (c .before .before .before .before .before .before .before .before .before .before .before .append-signed2 .ensures .1))
+          (c .before .before .before .before .before .before .before .before .before .before .before .before .before .before .before .before .append-signed .ensures .1)
+          (32 ∷ signedDecimal (toZ w32 (ofZ w32 (d .advance .y))))
+          (c .before .before .before .before .before .before .before .before .before .before .before .append-signed2 .ensures .1)
           (spaced (boxWords (d .«bounding_box»)))
           (c .before .before .before .before .before .before .before .append-bounding-box .ensures .1)
           (10 ∷ [])
-          (c .before .before .append2 .ensures .1),
+          (c .before .before .append2 .ensures .1)),
     )
 
 pub success-line-spec : {M : Type 1} → statement M
