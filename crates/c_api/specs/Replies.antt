@@ -1,6 +1,7 @@
 -- How a call's outcome reaches a caller in C: a status, and eight numbers stored in the slice `out`.
 use mathlib.Core.Path.{_≡_}
 use mathlib.Core.List.{List, [], _∷_}
+use mathlib.Core.Bool.{Bool, true, false}
 use Prim.Native.Nat.{ℕ, suc}
 use lib.IntN.{ℤ, pos}
 use lib.ListN.{set}
@@ -10,6 +11,10 @@ use Rattle.types.specs.declared.geometry.BoundingBox.the-variants.{None, Some}
 use Rattle.types.specs.declared.geometry.Point.{Point}
 use Rattle.types.specs.declared.geometry.Rectangle.{Rectangle}
 use Rattle.types.specs.declared.geometry.RenderedDimensions.{RenderedDimensions}
+use Rattle.types.specs.declared.style.FontColor.{FontColor}
+use Rattle.types.specs.declared.style.FontColor.the-variants.{Transparent, WithBackground}
+use Rattle.types.specs.declared.style.FontStyle.{FontStyle}
+use Rattle.types.specs.declared.style.VerticalPosition.{VerticalPosition}
 use Rattle.definitions.specs.Refusals.{Outcome, success, refused, number, codePoint}
 use Rattle.definitions.specs.Text.{point}
 use Rattle.c_api.specs.declared.reply.Reply.{Reply}
@@ -74,3 +79,16 @@ storedReply (Known m) reply out = stored (reply m) out
 
 abbrev pub Answers : Codes → (Meaning → Reply) → ℕ → List ℤ → List ℤ → Type 0
 Answers codes reply r before after = (r ≡ status codes reply) × (after ≡ storedReply codes reply before)
+
+-- What the framebuffer holds after drawing: as it was where a code has no meaning.
+abbrev pub drawnBy : Codes → (Meaning → List ℕ) → List ℕ → List ℕ
+drawnBy Unknown drawn buffer = buffer
+drawnBy (Known m) drawn buffer = drawn m
+
+-- The style of a drawing: with a background colour or transparent.
+abbrev pub inkOf : Bool → ℕ → ℕ → FontColor
+inkOf true fg bg = WithBackground fg bg
+inkOf false fg bg = Transparent fg
+
+abbrev pub styleOf : VerticalPosition → Bool → ℕ → ℕ → FontStyle
+styleOf v background fg bg = record { color = inkOf background fg bg; «vertical_pos» = v }

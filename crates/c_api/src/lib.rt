@@ -9,16 +9,17 @@ mod reply;
 
 ghost use mathlib.Core.Path.{_≡_};
 ghost use lib.ListN.{length};
-ghost use Rattle.definitions.specs.Calls.{openFont, fontBoundingBox, measure, measureAligned};
+ghost use Rattle.definitions.specs.Calls.{openFont, fontBoundingBox, measure, measureAligned, draw, drawBuffer};
 ghost use Rattle.definitions.specs.Text.{point};
 ghost use Rattle.c_api.specs.Codes.{meaningOf};
-ghost use Rattle.c_api.specs.Replies.{Answers, boxReply, textReply, alignedReply};
+ghost use Rattle.c_api.specs.Replies.{Answers, styleOf, drawnBy, boxReply, textReply, alignedReply};
 ghost use Rattle.c_api.specs.Headers.{Opens};
 use codes::Codes;
 use codes::known_codes;
 use font_reader::new_from_raw_data;
 use header::store_header;
 use renderer::font_bounding_box::get_font_bounding_box;
+use renderer::render::render;
 use renderer::rendered_dimensions::get_rendered_dimensions;
 use renderer::rendered_dimensions_aligned::get_rendered_dimensions_aligned;
 use reply::BAD_ARGUMENT;
@@ -29,6 +30,9 @@ use reply::of_rectangle;
 use reply::store;
 use types::geometry::Point;
 use types::results::FontReaderResult;
+use types::style::FontColor;
+use types::style::FontStyle;
+use types::style::VerticalPosition;
 
 // The header's values and the default line height.
 #[no_mangle]
@@ -113,4 +117,60 @@ pub extern "C" fn papayahelm_measure_aligned(
         m.skip,
     );
     store(out, of_bounding_box(result))
+}
+
+fn style_of(vertical_pos: VerticalPosition, background: bool, fg: u8, bg: u8) -> FontStyle
+    ensures { λ r. ⌜ r ≡ styleOf «vertical_pos» background fg bg ⌝ }
+{
+    if background {
+        return FontStyle {
+            color: FontColor::WithBackground { fg, bg },
+            vertical_pos,
+        };
+    }
+    FontStyle {
+        color: FontColor::Transparent(fg),
+        vertical_pos,
+    }
+}
+
+// Draws a text into the buffer, one byte a pixel.
+#[no_mangle]
+pub extern "C" fn papayahelm_draw(
+    font: &[u8],
+    text: &[u8],
+    x: i32,
+    y: i32,
+    anchor: u32,
+    line_height: u32,
+    skip: u32,
+    background: u32,
+    fg: u8,
+    bg: u8,
+    width: usize,
+    height: usize,
+    buffer: &mut [u8],
+    out: &mut [i64],
+) -> u32
+    ensures answered { λ r. ⌜ Answers (meaningOf anchor 0 skip background (length (now (out .entry)))) (λ m. textReply (draw (now (font .entry)) (now (text .entry)) (point x y) (styleOf (m .«vertical_pos») (m .background) fg bg) «line_height» (m .skip) width height (now (buffer .entry)))) r (now (out .entry)) (now (out .exit)) ⌝ }
+    ensures shown { λ r. ⌜ now (buffer .exit) ≡ drawnBy (meaningOf anchor 0 skip background (length (now (out .entry)))) (λ m. drawBuffer (now (font .entry)) (now (text .entry)) (point x y) (styleOf (m .«vertical_pos») (m .background) fg bg) «line_height» (m .skip) width height (now (buffer .entry))) (now (buffer .entry)) ⌝ }
+{
+    let Codes::Known(m) = known_codes(anchor, 0, skip, background, out.len()) else {
+        return BAD_ARGUMENT;
+    };
+    let vertical_pos = m.vertical_pos;
+    let style = style_of(vertical_pos, m.background, fg, bg);
+    let position = Point { x, y };
+    let result = render(
+        font,
+        text,
+        position,
+        style,
+        line_height,
+        m.skip,
+        width,
+        height,
+        buffer,
+    );
+    store(out, of_dimensions(result))
 }

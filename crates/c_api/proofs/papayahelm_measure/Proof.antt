@@ -1,6 +1,4 @@
 use mathlib.Core.Path.{sym, ap, _∙_}
-use mir.Syntax.{w32}
-use mir.Val.{SFits}
 use mir.Facts.{toZ-ofZ}
 use Rattle.c_api.specs.Replies.{textReply}
 use Rattle.c_api.proofs.CodesLaws.{has-room}
@@ -51,8 +49,8 @@ same-length c = search needs
 -- src/lib.rt:38:1
 returns-2 : tie.Need-returns-2
 returns-2 c =
-    let a : SFits w32 (c .before .before .before .before .before .before .before .before .before .before .before .args .x) = search needs in
-    let b : SFits w32 (c .before .before .before .before .before .before .before .before .before .before .before .args .y) = search needs in
+    let a = c .before .before .before .before .before .before .before .before .before .before .before .fits .x in
+    let b = c .before .before .before .before .before .before .before .before .before .before .before .fits .y in
     answers _ _ _ _ _ _ _
     (sym (c .before .before .before .before .before .before .before .before .known-codes .ensures) ∙ c .before .before .before .before .before .before .m .given .1)
     (c .before .before .of-dimensions .ensures ∙ ap textReply (simp (toZ-ofZ, a, b) at (c .before .before .before .before .get-rendered-dimensions .ensures)))
