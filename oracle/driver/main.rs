@@ -1,5 +1,6 @@
 //! Runs the Rust beside ours.
 //!   driver compare SEED COUNT          with the static library
+//!   driver record SEED COUNT           prints answers of the Rust to be stored
 //!   driver model SCRIPT SEED COUNT     with tools/model.py
 
 mod case;
@@ -12,6 +13,7 @@ mod model_side;
 #[path = "../papayahelm.rs"]
 mod papayahelm;
 mod random;
+mod record;
 mod rust_side;
 mod shrink;
 
@@ -39,12 +41,16 @@ fn main() {
     let number = |i: usize, or: u64| args.get(i).map_or(or, |a| a.parse().expect("a number"));
     let good = match args.first().map(String::as_str) {
         Some("compare") => run(number(1, 1), number(2, 1_000_000), linked::call),
+        Some("record") => {
+            record::record(number(1, 1), number(2, 100_000));
+            true
+        }
         Some("model") => {
             let mut model = model_side::Model::start(&args[1]);
             run(number(2, 1), number(3, 1000), |case, call| model.call(case, call))
         }
         _ => {
-            eprintln!("usage: driver compare SEED COUNT, or driver model SCRIPT SEED COUNT");
+            eprintln!("usage: driver compare SEED COUNT, driver record SEED COUNT, or driver model SCRIPT SEED COUNT");
             false
         }
     };
