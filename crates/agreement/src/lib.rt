@@ -31,13 +31,14 @@ pub fn draw_twice_and_measure(
 ) -> Answers
     ensures { λ r. ⌜ ThirdDemand (now («first_font» .entry)) (now («second_font» .entry)) (request (now (text .entry)) position style «line_height») (panel «first_width» «first_height» (now («first_buffer» .entry))) (panel «second_width» «second_height» (now («second_buffer» .entry))) r (now («first_buffer» .exit)) (now («second_buffer» .exit)) ⌝ }
 {
+    let ignore_unknown_chars = false;
     let first = render(
         first_font,
         text,
         position,
         style,
         line_height,
-        false,
+        ignore_unknown_chars,
         first_width,
         first_height,
         &mut first_buffer[..],
@@ -48,7 +49,7 @@ pub fn draw_twice_and_measure(
         position,
         style,
         line_height,
-        false,
+        ignore_unknown_chars,
         second_width,
         second_height,
         &mut second_buffer[..],
@@ -60,7 +61,7 @@ pub fn draw_twice_and_measure(
         position,
         vertical_pos,
         line_height,
-        false,
+        ignore_unknown_chars,
     );
     let second_measured = get_rendered_dimensions(
         second_font,
@@ -68,7 +69,7 @@ pub fn draw_twice_and_measure(
         position,
         vertical_pos,
         line_height,
-        false,
+        ignore_unknown_chars,
     );
     Answers {
         first,

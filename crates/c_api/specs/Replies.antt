@@ -25,7 +25,15 @@ use Rattle.c_api.specs.declared.codes.Meaning.{Meaning}
 -- A refusal: 01's number as the status, the code point, and zeros.
 abbrev pub refusedReply : ℕ → ℕ → Reply
 refusedReply n c = record {
-  status = n; «code_point» = pos c; x = pos 0; y = pos 0; boxed = pos 0; left = pos 0; top = pos 0; width = pos 0; height = pos 0;
+  status = n;
+  «code_point» = pos c;
+  x = pos 0;
+  y = pos 0;
+  boxed = pos 0;
+  left = pos 0;
+  top = pos 0;
+  width = pos 0;
+  height = pos 0;
 }
 
 abbrev pub errorReply : Error → Reply
@@ -33,14 +41,29 @@ errorReply e = refusedReply (number e) (codePoint e)
 
 abbrev pub boxedReply : Point → Rectangle → Reply
 boxedReply advance r = record {
-  status = 0; «code_point» = pos 0; x = advance .x; y = advance .y; boxed = pos 1;
-  left = r .«top_left» .x; top = r .«top_left» .y; width = pos (r .size .width); height = pos (r .size .height);
+  status = 0;
+  «code_point» = pos 0;
+  x = advance .x;
+  y = advance .y;
+  boxed = pos 1;
+  left = r .«top_left» .x;
+  top = r .«top_left» .y;
+  width = pos (r .size .width);
+  height = pos (r .size .height);
 }
 
 abbrev pub boundsReply : Point → BoundingBox → Reply
 boundsReply advance (Some r) = boxedReply advance r
 boundsReply advance None = record {
-  status = 0; «code_point» = pos 0; x = advance .x; y = advance .y; boxed = pos 0; left = pos 0; top = pos 0; width = pos 0; height = pos 0;
+  status = 0;
+  «code_point» = pos 0;
+  x = advance .x;
+  y = advance .y;
+  boxed = pos 0;
+  left = pos 0;
+  top = pos 0;
+  width = pos 0;
+  height = pos 0;
 }
 
 abbrev pub boxReply : Outcome Rectangle → Reply

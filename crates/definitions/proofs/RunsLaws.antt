@@ -4,13 +4,11 @@ use mathlib.Core.Path.{_≡_, refl, sym, ap, subst, _∙_}
 use mathlib.Core.Bool.{Bool, true, false}
 use mathlib.Core.List.{List, [], _∷_, _++_}
 use Prim.Native.Nat.{ℕ, zero, suc, _+_, _-_, _*_, _≤_, _<_}
-use native.Mathlib.Nat.{add-zero, add-assoc}
-use native.Mathlib.Numerals.{add-one, one-add}
 use native.Mathlib.Omega.{arith}
 use native.Mathlib.Decide.{decLt}
 use lib.Dec.{ltb, leb, eqb}
-use lib.ListN.{length, take, drop, getD, replicate, length-append, length-drop, length-replicate, getD-replicate, drop-of-length-le, List·getD-append}
-use lib.Seq.{take-append-le, drop-append-le, length-take-le, drop-drop, drop-at, getD-append-add, getD-take, drop-nil}
+use lib.ListN.{length, take, drop, getD, replicate, length-append, length-drop, length-replicate, getD-replicate, List·getD-append}
+use lib.Seq.{take-append-le, drop-append-le, length-take-le, drop-drop, drop-at, getD-append-add, getD-take}
 use borrow.Author.Tests.{ltb-true, leb-true, leb-false, eqb-true, lt-ltb, le-ltb, lt-leb}
 use Rattle.integers.specs.Integers.{pick}
 use Rattle.types.specs.declared.font_reader.FontReader.{FontReader}

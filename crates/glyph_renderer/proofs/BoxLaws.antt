@@ -1,5 +1,5 @@
 -- A glyph's box on the framebuffer: its visible rows show all that it shows. Assumes nothing.
-use mathlib.Core.Path.{_≡_, refl, sym, ap, subst, _∙_}
+use mathlib.Core.Path.{_≡_, refl, sym, ap, _∙_}
 use mathlib.Core.Bool.{Bool, true, false, _&&_, _||_}
 use mathlib.Core.List.{List}
 use Prim.Native.Nat.{ℕ, _+_, _*_, _≤_, _<_}
@@ -9,24 +9,22 @@ use native.Mathlib.Omega.{arith}
 use lib.Dec.{eqb}
 use lib.IntN.{ℤ, pos, natAbs, _+ℤ_, _-ℤ_}
 use lib.ListN.{length, getD}
-use lib.Signed.{ltZ, leZ, _<ℤ_}
+use lib.Signed.{ltZ, leZ}
 use borrow.Author.Tests.{eqb-false}
 use Rattle.integers.specs.Integers.{pick}
-use Rattle.integers.proofs.Laws.{zarith, plus, ltZ-yes, ltZ-no}
-use Rattle.types.specs.declared.geometry.BoundingBox.{BoundingBox}
+use Rattle.integers.proofs.Laws.{zarith, plus}
 use Rattle.types.specs.declared.geometry.BoundingBox.the-variants.{None, Some}
 use Rattle.types.specs.declared.geometry.Rectangle.{Rectangle}
 use Rattle.types.specs.declared.glyph_reader.GlyphReader.{GlyphReader}
 use Rattle.types.specs.declared.style.FontColor.{FontColor}
-use Rattle.definitions.specs.Geometry.{left, top, right, bottom, RectangleInReach, InReach}
-use Rattle.definitions.specs.Text.{boxAt}
-use Rattle.definitions.specs.Picture.{Paint, keep, paintOf, rectanglePicture}
+use Rattle.definitions.specs.Geometry.{left, top, right, bottom}
+use Rattle.definitions.specs.Picture.{keep, paintOf, rectanglePicture}
 use Rattle.definitions.specs.Framebuffer.{shown}
 use Rattle.definitions.proofs.PictureLaws.{rectangle-outside}
 use Rattle.definitions.proofs.FramebufferLaws.{same-picture, blank, shown-blank}
 use Rattle.framebuffer.specs.Rows.{firstRows}
 use Rattle.glyph_renderer.specs.declared.geometry.Rows.{Rows}
-use Rattle.glyph_renderer.specs.Visible.{Near, clamped, visibleRows}
+use Rattle.glyph_renderer.specs.Visible.{clamped, visibleRows}
 use Rattle.glyph_renderer.specs.Drawing.{BufferFits, GlyphBox, GlyphArea}
 use Rattle.glyph_renderer.proofs.VisibleLaws.{rows-within, row-from-first, row-to-past}
 

@@ -27,10 +27,9 @@ use Rattle.framebuffer.proofs.RowLaws.{next-row-shown}
 use Rattle.glyph_renderer.specs.declared.geometry.Rows.{Rows}
 use Rattle.glyph_renderer.specs.declared.runs.Place.{Place}
 use Rattle.glyph_renderer.specs.declared.runs.Runs.{Runs}
-use Rattle.glyph_renderer.specs.declared.runs.RunsRead.{RunsRead}
 use Rattle.glyph_renderer.specs.declared.runs.RunsRead.the-variants.{Pair, Ends}
 use Rattle.glyph_renderer.specs.RunReads.{nextPair}
-use Rattle.glyph_renderer.specs.Stands.{Stands, StandsAt}
+use Rattle.glyph_renderer.specs.Stands.{StandsAt}
 use Rattle.glyph_renderer.specs.Drawing.{RowsFit}
 use Rattle.glyph_renderer.proofs.VisibleLaws.{near-fits}
 use Rattle.glyph_renderer.proofs.StandsLaws.{stands-pixel, stands-on, next-known, stands-next}

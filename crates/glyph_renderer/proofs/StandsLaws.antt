@@ -1,18 +1,18 @@
 -- A reader of runs that stands at a pixel of a glyph whose runs the font has: which pixel that is, and that the reader goes
 -- on to the next pixel and to the next pair. Assumes nothing.
 use mathlib.Core.Path.{_≡_, refl, sym, ap, subst, _∙_}
-use mathlib.Core.Bool.{Bool, true, false}
+use mathlib.Core.Bool.{true}
 use mathlib.Core.List.{List}
 use Prim.Native.Nat.{ℕ, _+_, _-_, _*_, _≤_, _<_}
-use native.Mathlib.Nat.{sub-zero, zero-add}
+use native.Mathlib.Nat.{sub-zero}
 use native.Mathlib.Omega.{arith}
 use lib.Dec.{ltb}
-use lib.ListN.{length, getD, drop}
+use lib.ListN.{getD, drop}
 use lib.Seq.{getD-drop, drop-drop}
 use Rattle.integers.specs.Integers.{pick}
 use Rattle.types.specs.declared.font_reader.FontReader.{FontReader}
 use Rattle.types.specs.declared.glyph_reader.GlyphReader.{GlyphReader}
-use Rattle.definitions.specs.Header.{Opened, header}
+use Rattle.definitions.specs.Header.{header}
 use Rattle.definitions.specs.Runs.{Pixels, pixels, cut, glyphPixels}
 use Rattle.definitions.specs.Calls.{pixelList, pixelsOf}
 use Rattle.definitions.proofs.RunsLaws.{pixel-in-pair, pixels-after-pair}
@@ -21,7 +21,7 @@ use Rattle.glyph_renderer.specs.declared.runs.RunsRead.{RunsRead}
 use Rattle.glyph_renderer.specs.declared.runs.RunsRead.the-variants.{Pair, Ends}
 use Rattle.glyph_renderer.specs.RunReads.{isWhole, onPair, pairAt, nextPair}
 use Rattle.glyph_renderer.specs.Stands.{Stands, StandsAt}
-use Rattle.glyph_renderer.proofs.RunReadsLaws.{given, first-place, next-place, next-gives, glyph-gives}
+use Rattle.glyph_renderer.proofs.RunReadsLaws.{first-place, next-place, next-gives, glyph-gives}
 
 -- a pair that leads to pixels
 paired : (r : RunsRead) (rest : Runs → Pixels) (ps : List ℕ) → onPair rest r ≡ pixels ps → (q : Runs) × ((r ≡ Pair q) × (rest q ≡ pixels ps))

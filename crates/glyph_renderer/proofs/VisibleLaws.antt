@@ -1,7 +1,7 @@
 -- The visible rows of a glyph: no row before the first and none from `past` on lies on the framebuffer. Assumes nothing.
 use mathlib.Core.Path.{_≡_, refl, _∙_}
 use mathlib.Core.Bool.{Bool, true, false}
-use Prim.Native.Nat.{ℕ, _+_, _-_, _≤_, _<_, min}
+use Prim.Native.Nat.{ℕ, _-_, _≤_, _<_, min}
 use native.Mathlib.Omega.{arith}
 use lib.Dec.{ltb}
 use lib.IntN.{ℤ, pos, negsuc, _+ℤ_, _-ℤ_}
@@ -11,8 +11,7 @@ use mir.Val.{SFits}
 use borrow.Author.Tests.{ltb-true, ltb-false, le-ltb}
 use Rattle.integers.specs.Integers.{pick}
 use Rattle.integers.proofs.Laws.{zarith, up, down, plus, minus}
-use Rattle.glyph_renderer.specs.declared.geometry.Rows.{Rows}
-use Rattle.glyph_renderer.specs.Visible.{Near, clamped, visibleRows}
+use Rattle.glyph_renderer.specs.Visible.{Near, clamped}
 
 lesser : (limit n : ℕ) (t : Bool) → ltb limit n ≡ t → pick t limit n ≡ min n limit
 lesser limit n true e = omega (arith, ltb-true limit n e)

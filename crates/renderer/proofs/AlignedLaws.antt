@@ -1,7 +1,7 @@
 -- The loop that measures an aligned text, and the call. Assumes nothing.
-use mathlib.Core.Path.{_≡_, refl, sym, ap, _∙_}
+use mathlib.Core.Path.{_≡_, sym, ap, _∙_}
 use mathlib.Core.Bool.{Bool}
-use mathlib.Core.List.{List, [], _∷_}
+use mathlib.Core.List.{List}
 use Prim.Native.Nat.{ℕ, _+_, _≤_}
 use native.Mathlib.Omega.{arith}
 use lib.ListN.{length, drop}
@@ -10,7 +10,7 @@ use Rattle.types.specs.declared.geometry.Point.{Point}
 use Rattle.types.specs.declared.glyph_reader.GlyphReader.{GlyphReader}
 use Rattle.types.specs.declared.style.HorizontalAlignment.{HorizontalAlignment}
 use Rattle.types.specs.declared.style.VerticalPosition.{VerticalPosition}
-use Rattle.definitions.specs.Refusals.{Outcome, success, refused}
+use Rattle.definitions.specs.Refusals.{success, refused}
 use Rattle.definitions.specs.Utf8.{character, firstCharacter, decode, codePoints}
 use Rattle.definitions.specs.Text.{Letter, shows}
 use Rattle.definitions.specs.TextSteps.{LineState, withLine, stepAligned, measureAlignedFrom, startAligned}

@@ -24,7 +24,7 @@ use Rattle.definitions.specs.Text.{Letter, shows, nothing, stops, boxAt, horizo
 use Rattle.definitions.specs.TextSteps.{movedBox, LineState, withLine, newlineAligned, glyphAligned, letterAligned, stepAligned}
 use Rattle.definitions.proofs.JoinLaws.{end, join-end, reach-join}
 use Rattle.renderer.specs.Ranges.{Near, Checked, LineSpan, LineInReach, LineFits, LineHasRoom}
-use Rattle.renderer.proofs.RangeLaws.{Small, Advanced, advanced-x, advanced-y, near-row, advanced-newline, advanced-letter, advanced-nothing}
+use Rattle.renderer.proofs.RangeLaws.{Small, Advanced, advanced-y, near-row, advanced-newline, advanced-letter, advanced-nothing}
 
 -- ---- boxes
 

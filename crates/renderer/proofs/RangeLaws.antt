@@ -1,5 +1,5 @@
 -- The ranges of measuring: every number of a checked text stays near 0. Assumes nothing.
-use mathlib.Core.Path.{_≡_, refl, sym, subst, _∙_}
+use mathlib.Core.Path.{_≡_, refl, subst}
 use mathlib.Core.Bool.{Bool, true, false, _||_}
 use mathlib.Core.List.{List, [], _∷_}
 use Prim.Native.Nat.{ℕ, _+_, _*_, _≤_}
@@ -13,16 +13,15 @@ use mir.Syntax.{w8, w32}
 use mir.Val.{SFits}
 use Rattle.integers.specs.Integers.{pick}
 use Rattle.integers.proofs.Laws.{zarith, plus, minus, neg, range}
-use Rattle.types.specs.declared.geometry.BoundingBox.{BoundingBox}
 use Rattle.types.specs.declared.geometry.BoundingBox.the-variants.{None, Some}
 use Rattle.types.specs.declared.geometry.Point.{Point}
 use Rattle.types.specs.declared.geometry.RenderedDimensions.{RenderedDimensions}
 use Rattle.types.specs.declared.glyph_reader.GlyphReader.{GlyphReader}
-use Rattle.definitions.specs.Refusals.{Outcome, success, refused}
-use Rattle.definitions.specs.Geometry.{join, SpanInReach, InReach}
+use Rattle.definitions.specs.Refusals.{success}
+use Rattle.definitions.specs.Geometry.{SpanInReach, InReach}
 use Rattle.definitions.specs.Utf8.{newlines}
 use Rattle.definitions.specs.Text.{Letter, shows, nothing, stops, boxAt}
-use Rattle.definitions.specs.TextSteps.{newlineStep, nextBox, glyphStep, letterStep, step, start}
+use Rattle.definitions.specs.TextSteps.{newlineStep, nextBox, glyphStep, letterStep, step}
 use Rattle.definitions.proofs.BitsLaws.{SignedByte}
 use Rattle.definitions.proofs.JoinLaws.{reach-join}
 use Rattle.definitions.proofs.GlyphLaws.{InRange}

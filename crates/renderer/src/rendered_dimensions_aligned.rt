@@ -98,9 +98,11 @@ fn add_glyph(state: LineState, glyph: GlyphReader) -> LineState
 {
     let line_box = state.line_box;
     let bounding_box = state.bounding_box;
-    let glyph_box = get_glyph_bounding_box(glyph, state.line_advance, 0);
+    let x = state.line_advance;
+    let next_x = moved(x, glyph.advance);
+    let glyph_box = get_glyph_bounding_box(glyph, x, 0);
     LineState {
-        line_advance: moved(state.line_advance, glyph.advance),
+        line_advance: next_x,
         line_box: combine_bounding_boxes(line_box, glyph_box),
         advance_y: state.advance_y,
         bounding_box,

@@ -9,7 +9,7 @@ pub struct Unpacked {
     pub len: usize,
 }
 
-fn wide(b: u8) -> u32
+pub fn wide(b: u8) -> u32
     ensures { λ r. ⌜ r ≤ 255 ⌝ }
 {
     b as u32

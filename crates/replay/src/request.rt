@@ -124,12 +124,7 @@ fn answer_draw(file: &[u8], at: usize, font: &[u8], text: &[u8], position: Point
     let width = number(file, at + 40) as usize;
     let height = number(file, at + 44) as usize;
     let fill = byte(file, at + 48);
-    let length = number(file, at + 52) as usize;
-    if panel.len() < length {
-        printing::text(b"no room for the framebuffer");
-        return;
-    }
-    panels::fill(&mut panel[..length], fill);
+    panels::fill(&mut panel[..], fill);
     let result = render(
         font,
         text,
@@ -139,10 +134,29 @@ fn answer_draw(file: &[u8], at: usize, font: &[u8], text: &[u8], position: Point
         skip,
         width,
         height,
-        &mut panel[..length],
+        &mut panel[..],
     );
     print_dimensions(result);
-    panels::print(&panel[..length], fill, width, height);
+    panels::print(&panel[..], fill, width, height);
+}
+
+// The framebuffer of the case's length.
+fn answer_draw_on_part(
+    file: &[u8],
+    at: usize,
+    font: &[u8],
+    text: &[u8],
+    position: Point,
+    panel: &mut [u8],
+)
+    requires { ⌜ at ≤ 1048576 ⌝ }
+{
+    let length = number(file, at + 52) as usize;
+    if panel.len() < length {
+        printing::text(b"no room for the framebuffer");
+        return;
+    }
+    answer_draw(file, at, font, text, position, &mut panel[..length]);
 }
 
 // Makes the call whose numbers stand at `at` and prints its answer.
@@ -171,6 +185,6 @@ pub fn answer(file: &[u8], at: usize, font: &[u8], text: &[u8], panel: &mut [u8]
             line,
             skip,
         )),
-        _ => answer_draw(file, at, font, text, position, panel),
+        _ => answer_draw_on_part(file, at, font, text, position, panel),
     }
 }

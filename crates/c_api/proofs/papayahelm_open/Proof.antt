@@ -5,48 +5,34 @@ use Rattle.definitions.specs.Calls.{fontReaderOutcome}
 use borrow.Author.Needs.{needs}
 use Rattle.c_api.proofs.papayahelm_open.Statement.{statement}
 use Rattle.c_api.proofs.papayahelm_open.Tie as tie
-use Rattle.c_api.proofs.papayahelm_open.Reads as reads
-use Rattle.c_api.proofs.papayahelm_open.Lts as lts
-use Rattle.c_api.proofs.header.store_header.Reads as store-header-reads
-use Rattle.c_api.proofs.reply.number_of.Reads as number-of-reads
-use Rattle.font_reader.proofs.new_from_raw_data.Reads as new-from-raw-data-reads
 
--- src/lib.rt:37:9
 returns : tie.Need-returns
 returns c = let h = lt-ltb _ _ (c .if1 .taken) in (simp h, simp h)
 
--- src/lib.rt:39:11
 new-from-raw-data-requires : tie.Need-new-from-raw-data-requires
 new-from-raw-data-requires c κs = search needs
 
--- src/lib.rt:40:31
 enum-known-error : tie.Need-enum-known-error
 enum-known-error c = search needs
 
--- src/lib.rt:40:41
 number-of-requires : tie.Need-number-of-requires
 number-of-requires c κs = search needs
 
--- src/lib.rt:41:30
 enum-known-head : tie.Need-enum-known-head
 enum-known-head c = search needs
 
--- src/lib.rt:42:13
 store-header-requires : tie.Need-store-header-requires
 store-header-requires c κs = search needs
 
--- src/lib.rt:32:1
 returns-2 : tie.Need-returns-2
 returns-2 c =
     let h = le-ltb _ _ (c .before .before .before .before .before .if1 .left) in
     let e = sym (c .before .before .before .before .new-from-raw-data .ensures) ∙ ap fontReaderOutcome (c .before .before .error .given .1) in
     (simp (h, e) (c .number-of .ensures), simp (h, e))
 
--- src/lib.rt:32:1
 same-length : tie.Need-same-length
 same-length c = search needs
 
--- src/lib.rt:32:1
 returns-3 : tie.Need-returns-3
 returns-3 c =
     let h = le-ltb _ _ (c .before .before .before .before .before .before .before .if1 .left) in

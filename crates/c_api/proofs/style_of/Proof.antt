@@ -1,14 +1,10 @@
 -- One case each.
 use Rattle.c_api.proofs.style_of.Statement.{statement}
 use Rattle.c_api.proofs.style_of.Tie as tie
-use Rattle.c_api.proofs.style_of.Reads as reads
-use Rattle.c_api.proofs.style_of.Lts as lts
 
--- src/lib.rt:126:9
 returns : tie.Need-returns
 returns c = simp (c .if1 .taken)
 
--- src/lib.rt:122:1
 returns-2 : tie.Need-returns-2
 returns-2 c = simp (c .if1 .left)
 

@@ -1,7 +1,7 @@
 -- The invariant: whether the font has the runs is whether it has those from the pair on. Each round reads at least one bit, so
 -- what is left of the font's bits is the measure.
 use mathlib.Core.Path.{_≡_, refl, sym, ap, _∙_}
-use Prim.Native.Nat.{ℕ, _+_, _-_, _*_, _≤_, _<_}
+use Prim.Native.Nat.{_-_, _*_, _≤_, _<_}
 use native.Mathlib.Nat.{mul-le-mul}
 use native.Mathlib.Omega.{arith}
 use lib.ListN.{length}

@@ -7,7 +7,6 @@ use lib.IntN.{ℤ}
 use mir.Facts.{toZ-ofZ}
 use borrow.Author.Needs.{needs}
 use Rattle.types.specs.declared.geometry.BoundingBox.{BoundingBox}
-use Rattle.types.specs.declared.geometry.BoundingBox.the-variants.{Some}
 use Rattle.types.specs.declared.geometry.Rectangle.{Rectangle}
 use Rattle.definitions.specs.Geometry.{top}
 use Rattle.definitions.specs.Calls.{pixelsOf}

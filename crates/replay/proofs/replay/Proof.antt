@@ -81,13 +81,16 @@ add-result : tie.Need-add-result
 add-result c = search needs
 
 same-length-7 : tie.Need-same-length-7
-same-length-7 c = search needs
+same-length-7 c = c .before .before .before .before .before .before .before .before .before .before .before .before .before .before .before .before .before .before .before .before .before .before .before .before .before .before .before .before .label .given
 
 same-length-8 : tie.Need-same-length-8
 same-length-8 c = search needs
 
 same-length-9 : tie.Need-same-length-9
 same-length-9 c = search needs
+
+same-length-10 : tie.Need-same-length-10
+same-length-10 c = search needs
 
 returns-4 : tie.Need-returns-4
 returns-4 c = search needs
@@ -124,4 +127,5 @@ replay-spec =
     same-length-7
     same-length-8
     same-length-9
+    same-length-10
     returns-4)

@@ -7,10 +7,10 @@ use Rattle.replay.proofs.replay_all.Statement.{statement}
 use Rattle.replay.proofs.replay_all.Tie as tie
 
 abbrev Inv-loop : tie.InvT-loop
-Inv-loop file label₀ font₀ text₀ count at₀ i₀ t8 label font text at i = (length label ≡ length label₀) × ((length font ≡ length font₀) × ((length text ≡ length text₀) × (at ≤ 1048576)))
+Inv-loop file label₀ font₀ text₀ panel₀ count at₀ i₀ t9 label font text panel at i = (length label ≡ length label₀) × ((length font ≡ length font₀) × ((length text ≡ length text₀) × ((length panel ≡ length panel₀) × (at ≤ 1048576))))
 
 abbrev μ-loop : tie.MeasureT-loop
-μ-loop file label₀ font₀ text₀ count at₀ i₀ t8 label font text at i = count - i
+μ-loop file label₀ font₀ text₀ panel₀ count at₀ i₀ t9 label font text panel at i = count - i
 
 number-requires : tie.Need-number-requires Inv-loop μ-loop
 number-requires c κs = search needs
@@ -36,6 +36,9 @@ same-length-2 c = search needs
 same-length-3 : tie.Need-same-length-3 Inv-loop μ-loop
 same-length-3 c = search needs
 
+same-length-4 : tie.Need-same-length-4 Inv-loop μ-loop
+same-length-4 c = search needs
+
 returns : tie.Need-returns Inv-loop μ-loop
 returns c = search needs
 
@@ -48,14 +51,17 @@ loop-less c = search needs
 loop-again : tie.Need-loop-again Inv-loop μ-loop
 loop-again c = search needs
 
-same-length-4 : tie.Need-same-length-4 Inv-loop μ-loop
-same-length-4 c = search needs
-
 same-length-5 : tie.Need-same-length-5 Inv-loop μ-loop
 same-length-5 c = search needs
 
 same-length-6 : tie.Need-same-length-6 Inv-loop μ-loop
 same-length-6 c = search needs
+
+same-length-7 : tie.Need-same-length-7 Inv-loop μ-loop
+same-length-7 c = search needs
+
+same-length-8 : tie.Need-same-length-8 Inv-loop μ-loop
+same-length-8 c = search needs
 
 returns-2 : tie.Need-returns-2 Inv-loop μ-loop
 returns-2 c = search needs
@@ -74,11 +80,13 @@ replay-all-spec =
     same-length
     same-length-2
     same-length-3
+    same-length-4
     returns
     add-i
     loop-less
     loop-again
-    same-length-4
     same-length-5
     same-length-6
+    same-length-7
+    same-length-8
     returns-2)

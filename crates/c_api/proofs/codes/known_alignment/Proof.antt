@@ -1,26 +1,21 @@
+-- One code for each variant, in their order, and none of the others.
 use borrow.Author.Tests.{ne-eqb}
 use Rattle.c_api.specs.Codes.{alignmentOf}
 use Rattle.c_api.proofs.codes.known_alignment.Statement.{statement}
 use Rattle.c_api.proofs.codes.known_alignment.Tie as tie
-use Rattle.c_api.proofs.codes.known_alignment.Reads as reads
-use Rattle.c_api.proofs.codes.known_alignment.Lts as lts
 
--- src/codes.rt:46:1
 returns : tie.Need-returns
 unfolding alignmentOf
 returns c = simp (c .match .keys1)
 
--- src/codes.rt:46:1
 returns-2 : tie.Need-returns-2
 unfolding alignmentOf
 returns-2 c = simp (c .match .keys2)
 
--- src/codes.rt:46:1
 returns-3 : tie.Need-returns-3
 unfolding alignmentOf
 returns-3 c = simp (c .match .keys3)
 
--- src/codes.rt:46:1
 returns-4 : tie.Need-returns-4
 unfolding alignmentOf
 returns-4 c = let n = c .before .args .code in simp (ne-eqb n 0 (c .match .rest .0 .0 .1), ne-eqb n 1 (c .match .rest .0 .1), ne-eqb n 2 (c .match .rest .1))

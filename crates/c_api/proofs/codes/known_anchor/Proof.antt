@@ -1,31 +1,25 @@
+-- One code for each variant, in their order, and none of the others.
 use Rattle.c_api.specs.Codes.{anchorOf}
 use borrow.Author.Tests.{ne-eqb}
 use Rattle.c_api.proofs.codes.known_anchor.Statement.{statement}
 use Rattle.c_api.proofs.codes.known_anchor.Tie as tie
-use Rattle.c_api.proofs.codes.known_anchor.Reads as reads
-use Rattle.c_api.proofs.codes.known_anchor.Lts as lts
 
--- src/codes.rt:11:1
 returns : tie.Need-returns
 unfolding anchorOf
 returns c = simp (c .match .keys1)
 
--- src/codes.rt:11:1
 returns-2 : tie.Need-returns-2
 unfolding anchorOf
 returns-2 c = simp (c .match .keys2)
 
--- src/codes.rt:11:1
 returns-3 : tie.Need-returns-3
 unfolding anchorOf
 returns-3 c = simp (c .match .keys3)
 
--- src/codes.rt:11:1
 returns-4 : tie.Need-returns-4
 unfolding anchorOf
 returns-4 c = simp (c .match .keys4)
 
--- src/codes.rt:11:1
 returns-5 : tie.Need-returns-5
 unfolding anchorOf
 returns-5 c =

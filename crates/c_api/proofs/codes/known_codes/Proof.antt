@@ -1,94 +1,72 @@
+-- Each code is known as its function says, and the room is tested last.
 use mathlib.Core.Path.{sym, _∙_}
 use borrow.Author.Tests.{lt-ltb, le-ltb}
 use Rattle.c_api.specs.Codes.{meaningOf}
 use borrow.Author.Needs.{needs}
 use Rattle.c_api.proofs.codes.known_codes.Statement.{statement}
 use Rattle.c_api.proofs.codes.known_codes.Tie as tie
-use Rattle.c_api.proofs.codes.known_codes.Reads as reads
-use Rattle.c_api.proofs.codes.known_codes.Lts as lts
-use Rattle.c_api.proofs.codes.known_alignment.Reads as known-alignment-reads
-use Rattle.c_api.proofs.codes.known_anchor.Reads as known-anchor-reads
-use Rattle.c_api.proofs.codes.known_flag.Reads as known-flag-reads
 
--- src/codes.rt:71:39
 known-anchor-requires : tie.Need-known-anchor-requires
 known-anchor-requires c κs = search needs
 
--- src/codes.rt:71:23
 enum-known-vertical-pos : tie.Need-enum-known-vertical-pos
 enum-known-vertical-pos c = search needs
 
--- src/codes.rt:72:9
 enum-told : tie.Need-enum-told
 enum-told c = search needs
 
--- src/codes.rt:72:9
 returns : tie.Need-returns
 unfolding meaningOf
 returns c =
     simp (sym (c .before .before .known-anchor .ensures) ∙ c .enum-told .given .1)
 
--- src/codes.rt:74:46
 known-alignment-requires : tie.Need-known-alignment-requires
 known-alignment-requires c κs = search needs
 
--- src/codes.rt:74:26
 enum-known-horizontal-align : tie.Need-enum-known-horizontal-align
 enum-known-horizontal-align c = search needs
 
--- src/codes.rt:75:9
 enum-told-2 : tie.Need-enum-told-2
 enum-told-2 c = search needs
 
--- src/codes.rt:75:9
 returns-2 : tie.Need-returns-2
 unfolding meaningOf
 returns-2 c =
     simp (sym (c .before .before .before .before .before .before .known-anchor .ensures) ∙ c .before .before .before .before .vertical-pos .given .1, sym (c .before .before .known-alignment .ensures) ∙ c .enum-told2 .given .1)
 
--- src/codes.rt:77:30
 known-flag-requires : tie.Need-known-flag-requires
 known-flag-requires c κs = search needs
 
--- src/codes.rt:77:21
 enum-known-skips : tie.Need-enum-known-skips
 enum-known-skips c = search needs
 
--- src/codes.rt:78:9
 enum-told-3 : tie.Need-enum-told-3
 enum-told-3 c = search needs
 
--- src/codes.rt:78:9
 returns-3 : tie.Need-returns-3
 unfolding meaningOf
 returns-3 c =
     simp (sym (c .before .before .before .before .before .before .before .before .before .before .known-anchor .ensures) ∙ c .before .before .before .before .before .before .before .before .vertical-pos .given .1, sym (c .before .before .before .before .before .before .known-alignment .ensures) ∙ c .before .before .before .before .horizontal-align .given .1, sym (c .before .before .known-flag .ensures) ∙ c .enum-told3 .given .1)
 
--- src/codes.rt:80:30
 known-flag-requires-2 : tie.Need-known-flag-requires-2
 known-flag-requires-2 c κs = search needs
 
--- src/codes.rt:80:21
 enum-known-fills : tie.Need-enum-known-fills
 enum-known-fills c = search needs
 
--- src/codes.rt:81:9
 enum-told-4 : tie.Need-enum-told-4
 enum-told-4 c = search needs
 
--- src/codes.rt:81:9
 returns-4 : tie.Need-returns-4
 unfolding meaningOf
 returns-4 c =
     simp (sym (c .before .before .before .before .before .before .before .before .before .before .before .before .before .before .known-anchor .ensures) ∙ c .before .before .before .before .before .before .before .before .before .before .before .before .vertical-pos .given .1, sym (c .before .before .before .before .before .before .before .before .before .before .known-alignment .ensures) ∙ c .before .before .before .before .before .before .before .before .horizontal-align .given .1, sym (c .before .before .before .before .before .before .known-flag .ensures) ∙ c .before .before .before .before .skips .given .1, sym (c .before .before .known-flag2 .ensures) ∙ c .enum-told4 .given .1)
 
--- src/codes.rt:84:9
 returns-5 : tie.Need-returns-5
 unfolding meaningOf
 returns-5 c =
     simp (sym (c .before .before .before .before .before .before .before .before .before .before .before .before .before .before .before .before .known-anchor .ensures) ∙ c .before .before .before .before .before .before .before .before .before .before .before .before .before .before .vertical-pos .given .1, sym (c .before .before .before .before .before .before .before .before .before .before .before .before .known-alignment .ensures) ∙ c .before .before .before .before .before .before .before .before .before .before .horizontal-align .given .1, sym (c .before .before .before .before .before .before .before .before .known-flag .ensures) ∙ c .before .before .before .before .before .before .skips .given .1, sym (c .before .before .before .before .known-flag2 .ensures) ∙ c .before .before .fills .given .1, lt-ltb _ _ (c .if1 .taken))
 
--- src/codes.rt:68:1
 returns-6 : tie.Need-returns-6
 unfolding meaningOf
 returns-6 c =

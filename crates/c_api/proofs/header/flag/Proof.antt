@@ -1,14 +1,10 @@
 -- One case each.
 use Rattle.c_api.proofs.header.flag.Statement.{statement}
 use Rattle.c_api.proofs.header.flag.Tie as tie
-use Rattle.c_api.proofs.header.flag.Reads as reads
-use Rattle.c_api.proofs.header.flag.Lts as lts
 
--- src/header.rt:30:1
 returns : tie.Need-returns
 returns c = simp (c .if1 .taken)
 
--- src/header.rt:30:1
 returns-2 : tie.Need-returns-2
 returns-2 c = simp (c .if1 .left)
 

@@ -8,47 +8,34 @@ use Rattle.integers.proofs.Laws.{stored}
 use borrow.Author.Needs.{needs}
 use Rattle.c_api.proofs.header.store_box.Statement.{statement}
 use Rattle.c_api.proofs.header.store_box.Tie as tie
-use Rattle.c_api.proofs.header.store_box.Reads as reads
-use Rattle.c_api.proofs.header.store_box.Lts as lts
-use Rattle.c_api.proofs.header.small.Reads as small-reads
 
--- src/header.rt:64:9
 small-requires : tie.Need-small-requires
 small-requires c κs = search needs
 
--- src/header.rt:65:9
 small-requires-2 : tie.Need-small-requires-2
 small-requires-2 c κs = search needs
 
--- src/header.rt:66:9
 small-requires-3 : tie.Need-small-requires-3
 small-requires-3 c κs = search needs
 
--- src/header.rt:67:9
 small-requires-4 : tie.Need-small-requires-4
 small-requires-4 c κs = search needs
 
--- src/header.rt:68:5
 slice-set-from-font-bounding-box-width : tie.Need-slice-set-from-font-bounding-box-width
 slice-set-from-font-bounding-box-width c = search needs
 
--- src/header.rt:69:5
 slice-set-from-font-bounding-box-height : tie.Need-slice-set-from-font-bounding-box-height
 slice-set-from-font-bounding-box-height c = simp length-set (omega (arith, c .before .before .before .before .before .before .before .before .pre))
 
--- src/header.rt:70:5
 slice-set-from-font-bounding-box-x-offset : tie.Need-slice-set-from-font-bounding-box-x-offset
 slice-set-from-font-bounding-box-x-offset c = simp length-set (omega (arith, c .before .before .before .before .before .before .before .before .pre))
 
--- src/header.rt:71:5
 slice-set-from-font-bounding-box-y-offset : tie.Need-slice-set-from-font-bounding-box-y-offset
 slice-set-from-font-bounding-box-y-offset c = simp length-set (omega (arith, c .before .before .before .before .before .before .before .before .pre))
 
--- src/header.rt:60:1
 same-length : tie.Need-same-length
 same-length c = search needs
 
--- src/header.rt:60:1
 returns : tie.Need-returns
 returns c =
     let f0 : SFits w8 (c .before .before .before .before .before .before .before .before .args .head .«font_bounding_box_width») = search needs in

@@ -8,9 +8,6 @@ use Rattle.integers.proofs.Laws.{stored}
 use borrow.Author.Needs.{needs}
 use Rattle.c_api.proofs.header.store_heights.Statement.{statement}
 use Rattle.c_api.proofs.header.store_heights.Tie as tie
-use Rattle.c_api.proofs.header.store_heights.Reads as reads
-use Rattle.c_api.proofs.header.store_heights.Lts as lts
-use Rattle.c_api.proofs.header.small.Reads as small-reads
 
 ascent-fits : (c : tie.Start) → SFits w8 (c .args .head .ascent)
 ascent-fits c = search needs
@@ -24,43 +21,33 @@ ascent-of-parentheses-fits c = search needs
 descent-of-parentheses-fits : (c : tie.Start) → SFits w8 (c .args .head .«descent_of_parentheses»)
 descent-of-parentheses-fits c = search needs
 
--- src/header.rt:78:9
 small-requires : tie.Need-small-requires
 small-requires c κs = search needs
 
--- src/header.rt:79:9
 small-requires-2 : tie.Need-small-requires-2
 small-requires-2 c κs = search needs
 
--- src/header.rt:80:9
 small-requires-3 : tie.Need-small-requires-3
 small-requires-3 c κs = search needs
 
--- src/header.rt:81:9
 small-requires-4 : tie.Need-small-requires-4
 small-requires-4 c κs = search needs
 
--- src/header.rt:82:5
 slice-set-from-ascent : tie.Need-slice-set-from-ascent
 slice-set-from-ascent c = search needs
 
--- src/header.rt:83:5
 slice-set-from-descent : tie.Need-slice-set-from-descent
 slice-set-from-descent c = simp length-set (omega (arith, c .before .before .before .before .before .before .before .before .pre))
 
--- src/header.rt:84:5
 slice-set-from-ascent-of-parentheses : tie.Need-slice-set-from-ascent-of-parentheses
 slice-set-from-ascent-of-parentheses c = simp length-set (omega (arith, c .before .before .before .before .before .before .before .before .pre))
 
--- src/header.rt:85:5
 slice-set-from-descent-of-parentheses : tie.Need-slice-set-from-descent-of-parentheses
 slice-set-from-descent-of-parentheses c = simp length-set (omega (arith, c .before .before .before .before .before .before .before .before .pre))
 
--- src/header.rt:74:1
 same-length : tie.Need-same-length
 same-length c = search needs
 
--- src/header.rt:74:1
 returns : tie.Need-returns
 returns c =
     let f0 = ascent-fits (c .before .before .before .before .before .before .before .before) in

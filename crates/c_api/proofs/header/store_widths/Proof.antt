@@ -6,88 +6,64 @@ use Rattle.integers.proofs.Laws.{stored}
 use borrow.Author.Needs.{needs}
 use Rattle.c_api.proofs.header.store_widths.Statement.{statement}
 use Rattle.c_api.proofs.header.store_widths.Tie as tie
-use Rattle.c_api.proofs.header.store_widths.Reads as reads
-use Rattle.c_api.proofs.header.store_widths.Lts as lts
-use Rattle.c_api.proofs.header.byte.Reads as byte-reads
-use Rattle.c_api.proofs.header.flag.Reads as flag-reads
 
--- src/header.rt:40:9
 byte-requires : tie.Need-byte-requires
 byte-requires c κs = search needs
 
--- src/header.rt:41:9
 flag-requires : tie.Need-flag-requires
 flag-requires c κs = search needs
 
--- src/header.rt:42:9
 byte-requires-2 : tie.Need-byte-requires-2
 byte-requires-2 c κs = search needs
 
--- src/header.rt:43:9
 byte-requires-3 : tie.Need-byte-requires-3
 byte-requires-3 c κs = search needs
 
--- src/header.rt:44:9
 byte-requires-4 : tie.Need-byte-requires-4
 byte-requires-4 c κs = search needs
 
--- src/header.rt:45:9
 byte-requires-5 : tie.Need-byte-requires-5
 byte-requires-5 c κs = search needs
 
--- src/header.rt:46:9
 byte-requires-6 : tie.Need-byte-requires-6
 byte-requires-6 c κs = search needs
 
--- src/header.rt:47:9
 byte-requires-7 : tie.Need-byte-requires-7
 byte-requires-7 c κs = search needs
 
--- src/header.rt:48:9
 byte-requires-8 : tie.Need-byte-requires-8
 byte-requires-8 c κs = search needs
 
--- src/header.rt:49:5
 slice-set-from-glyph-count : tie.Need-slice-set-from-glyph-count
 slice-set-from-glyph-count c = search needs
 
--- src/header.rt:50:5
 slice-set-from-supports-background-color : tie.Need-slice-set-from-supports-background-color
 slice-set-from-supports-background-color c = simp length-set (omega arith)
 
--- src/header.rt:51:5
 slice-set-from-m0 : tie.Need-slice-set-from-m0
 slice-set-from-m0 c = simp length-set (omega arith)
 
--- src/header.rt:52:5
 slice-set-from-m1 : tie.Need-slice-set-from-m1
 slice-set-from-m1 c = simp length-set (omega arith)
 
--- src/header.rt:53:5
 slice-set-from-bitcnt-w : tie.Need-slice-set-from-bitcnt-w
 slice-set-from-bitcnt-w c = simp length-set (omega arith)
 
--- src/header.rt:54:5
 slice-set-from-bitcnt-h : tie.Need-slice-set-from-bitcnt-h
 slice-set-from-bitcnt-h c = simp length-set (omega arith)
 
--- src/header.rt:55:5
 slice-set-from-bitcnt-x : tie.Need-slice-set-from-bitcnt-x
 slice-set-from-bitcnt-x c = simp length-set (omega arith)
 
--- src/header.rt:56:5
 slice-set-from-bitcnt-y : tie.Need-slice-set-from-bitcnt-y
 slice-set-from-bitcnt-y c = simp length-set (omega arith)
 
--- src/header.rt:57:5
 slice-set-from-bitcnt-d : tie.Need-slice-set-from-bitcnt-d
 slice-set-from-bitcnt-d c = simp length-set (omega arith)
 
--- src/header.rt:36:1
 same-length : tie.Need-same-length
 same-length c = simp length-set
 
--- src/header.rt:36:1
 returns : tie.Need-returns
 returns c =
     simp

@@ -4,14 +4,10 @@ use mir.Facts.{toZ-pos}
 use borrow.Author.Needs.{needs}
 use Rattle.c_api.proofs.header.word.Statement.{statement}
 use Rattle.c_api.proofs.header.word.Tie as tie
-use Rattle.c_api.proofs.header.word.Reads as reads
-use Rattle.c_api.proofs.header.word.Lts as lts
 
--- src/header.rt:21:5
 cast-result : tie.Need-cast-result
 cast-result c = search needs
 
--- src/header.rt:18:1
 returns : tie.Need-returns
 returns c = toZ-pos w64 (search needs)
 

@@ -6,36 +6,25 @@ use Rattle.integers.proofs.Laws.{stored}
 use borrow.Author.Needs.{needs}
 use Rattle.c_api.proofs.reply.boxed.Statement.{statement}
 use Rattle.c_api.proofs.reply.boxed.Tie as tie
-use Rattle.c_api.proofs.reply.boxed.Reads as reads
-use Rattle.c_api.proofs.reply.boxed.Lts as lts
-use Rattle.c_api.proofs.reply.signed.Reads as signed-reads
-use Rattle.c_api.proofs.reply.unsigned.Reads as unsigned-reads
 
--- src/reply.rt:82:12
 signed-requires : tie.Need-signed-requires
 signed-requires c κs = search needs
 
--- src/reply.rt:83:12
 signed-requires-2 : tie.Need-signed-requires-2
 signed-requires-2 c κs = search needs
 
--- src/reply.rt:85:15
 signed-requires-3 : tie.Need-signed-requires-3
 signed-requires-3 c κs = search needs
 
--- src/reply.rt:86:14
 signed-requires-4 : tie.Need-signed-requires-4
 signed-requires-4 c κs = search needs
 
--- src/reply.rt:87:16
 unsigned-requires : tie.Need-unsigned-requires
 unsigned-requires c κs = search needs
 
--- src/reply.rt:88:17
 unsigned-requires-2 : tie.Need-unsigned-requires-2
 unsigned-requires-2 c κs = search needs
 
--- src/reply.rt:76:1
 returns : tie.Need-returns
 returns c =
     let a : SFits w32 (c .before .before .before .before .before .before .before .before .before .before .args .advance .x) = search needs in

@@ -1,35 +1,26 @@
+-- Success and refusal, each by its function.
 use mathlib.Core.Path.{sym, _∙_, ap}
 use Rattle.definitions.specs.Calls.{boundingBoxOutcome}
 use Rattle.c_api.specs.Replies.{alignedReply}
 use borrow.Author.Needs.{needs}
 use Rattle.c_api.proofs.reply.of_bounding_box.Statement.{statement}
 use Rattle.c_api.proofs.reply.of_bounding_box.Tie as tie
-use Rattle.c_api.proofs.reply.of_bounding_box.Reads as reads
-use Rattle.c_api.proofs.reply.of_bounding_box.Lts as lts
-use Rattle.c_api.proofs.reply.of_bounds.Reads as of-bounds-reads
-use Rattle.c_api.proofs.reply.of_error.Reads as of-error-reads
 
--- src/reply.rt:124:31
 enum-known-result : tie.Need-enum-known-result
 enum-known-result c = search needs
 
--- src/reply.rt:124:48
 of-bounds-requires : tie.Need-of-bounds-requires
 of-bounds-requires c κs = search needs
 
--- src/reply.rt:125:32
 enum-known-result-2 : tie.Need-enum-known-result-2
 enum-known-result-2 c = search needs
 
--- src/reply.rt:125:42
 of-error-requires : tie.Need-of-error-requires
 of-error-requires c κs = search needs
 
--- src/reply.rt:120:1
 returns : tie.Need-returns
 returns c = c .of-bounds .ensures ∙ ap (λ r. alignedReply (boundingBoxOutcome r)) (sym (c .before .before .result .given .1))
 
--- src/reply.rt:120:1
 returns-2 : tie.Need-returns-2
 returns-2 c = c .of-error .ensures ∙ ap (λ r. alignedReply (boundingBoxOutcome r)) (sym (c .before .before .result2 .given .1))
 

@@ -1,3 +1,4 @@
+-- With a box and without one.
 use mir.Syntax.{w32, w64}
 use mir.Val.{SFits}
 use mir.Facts.{toZ-ofZ}
@@ -6,27 +7,19 @@ use mathlib.Core.Path.{sym, _∙_, ap}
 use borrow.Author.Needs.{needs}
 use Rattle.c_api.proofs.reply.of_bounds.Statement.{statement}
 use Rattle.c_api.proofs.reply.of_bounds.Tie as tie
-use Rattle.c_api.proofs.reply.of_bounds.Reads as reads
-use Rattle.c_api.proofs.reply.of_bounds.Lts as lts
-use Rattle.c_api.proofs.reply.boxed.Reads as boxed-reads
 
--- src/reply.rt:83:27
 enum-known-bounding-box : tie.Need-enum-known-bounding-box
 enum-known-bounding-box c = search needs
 
--- src/reply.rt:83:36
 boxed-requires : tie.Need-boxed-requires
 boxed-requires c κs = search needs
 
--- src/reply.rt:84:30
 enum-told : tie.Need-enum-told
 enum-told c = search needs
 
--- src/reply.rt:79:1
 returns : tie.Need-returns
 returns c = c .boxed .ensures ∙ simp (c .before .before .bounding-box .given .1)
 
--- src/reply.rt:79:1
 returns-2 : tie.Need-returns-2
 returns-2 c =
     let a : SFits w32 (c .before .before .before .before .before .before .args .advance .x) = search needs in

@@ -1,35 +1,26 @@
+-- Success and refusal, each by its function.
 use mathlib.Core.Path.{sym, _∙_, ap}
 use Rattle.definitions.specs.Calls.{dimensionsOutcome}
 use Rattle.c_api.specs.Replies.{textReply}
 use borrow.Author.Needs.{needs}
 use Rattle.c_api.proofs.reply.of_dimensions.Statement.{statement}
 use Rattle.c_api.proofs.reply.of_dimensions.Tie as tie
-use Rattle.c_api.proofs.reply.of_dimensions.Reads as reads
-use Rattle.c_api.proofs.reply.of_dimensions.Lts as lts
-use Rattle.c_api.proofs.reply.of_bounds.Reads as of-bounds-reads
-use Rattle.c_api.proofs.reply.of_error.Reads as of-error-reads
 
--- src/reply.rt:111:30
 enum-known-result : tie.Need-enum-known-result
 enum-known-result c = search needs
 
--- src/reply.rt:114:13
 of-bounds-requires : tie.Need-of-bounds-requires
 of-bounds-requires c κs = search needs
 
--- src/reply.rt:116:31
 enum-known-result-2 : tie.Need-enum-known-result-2
 enum-known-result-2 c = search needs
 
--- src/reply.rt:116:41
 of-error-requires : tie.Need-of-error-requires
 of-error-requires c κs = search needs
 
--- src/reply.rt:107:1
 returns : tie.Need-returns
 returns c = c .of-bounds .ensures ∙ ap (λ r. textReply (dimensionsOutcome r)) (sym (c .before .before .before .result .given .1))
 
--- src/reply.rt:107:1
 returns-2 : tie.Need-returns-2
 returns-2 c = c .of-error .ensures ∙ ap (λ r. textReply (dimensionsOutcome r)) (sym (c .before .before .result2 .given .1))
 

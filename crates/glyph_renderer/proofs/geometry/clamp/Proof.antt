@@ -1,5 +1,4 @@
 -- `clamped` makes the same two tests.
-use native.Mathlib.Omega.{arith}
 use borrow.Author.Tests.{lt-ltb, le-ltb}
 use mir.Facts.{toZ-ofZ}
 use Rattle.integers.proofs.Laws.{zarith, castable}

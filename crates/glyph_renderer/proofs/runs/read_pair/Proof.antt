@@ -1,5 +1,5 @@
 -- Each read answers what `readAt` says of it (ReadLaws of the bit reader), and `pairAt` goes by the same two reads.
-use mathlib.Core.Path.{_≡_, sym}
+use mathlib.Core.Path.{_≡_}
 use Prim.Native.Nat.{_+_}
 use native.Mathlib.Omega.{arith}
 use Rattle.definitions.specs.Bits.{got, readAt}

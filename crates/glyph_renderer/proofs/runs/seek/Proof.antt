@@ -1,5 +1,5 @@
 -- The invariant: where the first pair leads to a glyph's pixel, the pair and the offset do. Each round reads at least one bit.
-use mathlib.Core.Path.{_≡_, sym, _∙_}
+use mathlib.Core.Path.{sym, _∙_}
 use mathlib.Core.List.{List}
 use Prim.Native.Nat.{ℕ, _-_, _*_, _<_}
 use native.Mathlib.Omega.{arith}

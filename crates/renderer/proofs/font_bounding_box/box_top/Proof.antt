@@ -1,9 +1,7 @@
 -- Every value on the way is near 0.
-use mathlib.Core.Path.{_≡_}
-use lib.IntN.{ℤ, pos, negsuc, _+ℤ_, _-ℤ_}
-use lib.Signed.{_≤ℤ_}
-use mir.Syntax.{w8, w32}
-use mir.Val.{SFits, toZ, ofZ}
+use lib.IntN.{ℤ, _+ℤ_, _-ℤ_}
+use mir.Syntax.{w32}
+use mir.Val.{SFits}
 use mir.Facts.{toZ-ofZ}
 use Rattle.integers.proofs.Laws.{zarith, plus, minus, range, widens, widened}
 use Rattle.renderer.proofs.font_bounding_box.box_top.Statement.{statement}

@@ -1,5 +1,5 @@
 -- The tests are those of the causes, in order.
-use mathlib.Core.Path.{_≡_, sym, _∙_}
+use mathlib.Core.Path.{sym, _∙_}
 use borrow.Author.Needs.{needs}
 use Rattle.renderer.proofs.origin.checked_origin.Statement.{statement}
 use Rattle.renderer.proofs.origin.checked_origin.Tie as tie

@@ -38,6 +38,11 @@ module _ (c : tie.Start) where
       let o = offset-near (c .args .head) (c .args .text .now) (c .args .position) (c .args .vertical-pos) (c .args .line-height) ascent-fits descent-fits text-in b in
       omega (zarith, plus (c .args .position .y) moved-by)
 
+compute-vertical-offset-requires : tie.Need-compute-vertical-offset-requires
+compute-vertical-offset-requires c κs =
+    let s = c .before .before .before .before in
+    simp (c .before .before .get-newline-count .ensures) (text-in s .count, place-in s .line)
+
 -- the anchor's number
 module _ (c : tie.After-compute-vertical-offset) where
   abbrev entry : tie.Start
@@ -50,11 +55,6 @@ module _ (c : tie.After-compute-vertical-offset) where
 
 get-newline-count-requires : tie.Need-get-newline-count-requires
 get-newline-count-requires c κs = let t = text-in (c .before) in (t .short, t .utf8)
-
-compute-vertical-offset-requires : tie.Need-compute-vertical-offset-requires
-compute-vertical-offset-requires c κs =
-    let s = c .before .before .before .before in
-    simp (c .before .before .get-newline-count .ensures) (text-in s .count, place-in s .line)
 
 add-t8 : tie.Need-add-t8
 add-t8 c =

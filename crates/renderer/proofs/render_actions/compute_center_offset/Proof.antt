@@ -1,12 +1,12 @@
 -- Every value on the way is near 0.
 use mathlib.Core.Path.{_≡_}
 use Prim.Native.Nat.{_/_, _<_, _^_}
-use lib.IntN.{ℤ, pos, negℤ, _+ℤ_, _-ℤ_}
+use lib.IntN.{ℤ, pos, negℤ, _+ℤ_}
 use mir.Syntax.{w32}
-use mir.Val.{SFits, toZ, ofZ}
+use mir.Val.{SFits, toZ}
 use mir.Facts.{toZ-ofZ, toZ-pos}
 use borrow.Author.Needs.{needs}
-use Rattle.integers.proofs.Laws.{zarith, plus, minus, neg}
+use Rattle.integers.proofs.Laws.{zarith, plus, neg}
 use Rattle.types.specs.declared.geometry.Rectangle.{Rectangle}
 use Rattle.definitions.specs.Geometry.{left}
 use Rattle.renderer.specs.Ranges.{LineSpan, LineRectangle}

@@ -1,5 +1,4 @@
 -- The tests are the definition's, and each edge is what its function ensures.
-use mathlib.Core.Path.{_≡_}
 use mir.Syntax.{w8, w32}
 use mir.Val.{SFits}
 use mir.Facts.{toZ-ofZ}

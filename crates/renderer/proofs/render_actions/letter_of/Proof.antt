@@ -1,5 +1,5 @@
 -- The lookup's answer is a glyph or an error.
-use mathlib.Core.Path.{_≡_, sym, ap, _∙_}
+use mathlib.Core.Path.{sym, ap, _∙_}
 use borrow.Author.Needs.{needs}
 use Rattle.definitions.specs.Glyph.{glyphOutcome}
 use Rattle.definitions.specs.Text.{letter}

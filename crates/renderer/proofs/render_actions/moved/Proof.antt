@@ -1,8 +1,7 @@
 -- The sum of a near number and a byte fits.
-use mathlib.Core.Path.{_≡_}
 use lib.IntN.{_+ℤ_}
-use mir.Syntax.{w8, w32}
-use mir.Val.{SFits, toZ, ofZ}
+use mir.Syntax.{w32}
+use mir.Val.{SFits}
 use mir.Facts.{toZ-ofZ}
 use Rattle.integers.proofs.Laws.{zarith, plus, range, widens, widened}
 use Rattle.renderer.proofs.render_actions.moved.Statement.{statement}

@@ -1,10 +1,8 @@
 -- Every value on the way is near 0.
 use mathlib.Core.Path.{_≡_}
-use Prim.Native.Nat.{_<_, _^_}
-use native.Mathlib.Omega.{arith}
 use lib.IntN.{pos, _+ℤ_, _-ℤ_}
-use mir.Syntax.{w8, w32}
-use mir.Val.{SFits, toZ, ofZ}
+use mir.Syntax.{w32}
+use mir.Val.{SFits, toZ}
 use mir.Facts.{toZ-ofZ, toZ-pos}
 use borrow.Author.Needs.{needs}
 use Rattle.integers.proofs.Laws.{zarith, plus, minus, range, widens, widened}

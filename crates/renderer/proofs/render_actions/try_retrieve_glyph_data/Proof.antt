@@ -1,5 +1,5 @@
 -- The letter of what the lookup answers.
-use mathlib.Core.Path.{_≡_, ap, _∙_}
+use mathlib.Core.Path.{ap, _∙_}
 use borrow.Author.Needs.{needs}
 use Rattle.definitions.specs.Text.{letter}
 use Rattle.renderer.proofs.render_actions.try_retrieve_glyph_data.Statement.{statement}

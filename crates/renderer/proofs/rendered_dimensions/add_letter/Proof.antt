@@ -1,5 +1,4 @@
 -- `letterStep` goes by the same cases.
-use mathlib.Core.Path.{_≡_}
 use borrow.Author.Needs.{needs}
 use Rattle.renderer.proofs.rendered_dimensions.add_letter.Statement.{statement}
 use Rattle.renderer.proofs.rendered_dimensions.add_letter.Tie as tie

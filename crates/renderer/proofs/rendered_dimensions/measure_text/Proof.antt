@@ -6,9 +6,7 @@ use native.Mathlib.Omega.{arith}
 use lib.ListN.{length, drop}
 use borrow.Author.Needs.{needs}
 use Rattle.content.specs.Text.{asCharacter}
-use Rattle.definitions.specs.Refusals.{success, refusal}
 use Rattle.definitions.specs.Utf8.{character, firstCharacter}
-use Rattle.definitions.specs.TextSteps.{step}
 use Rattle.definitions.specs.Calls.{measuredLetter, dimensionsOutcome}
 use Rattle.definitions.proofs.Utf8Laws.{Position, position, none-malformed}
 use Rattle.renderer.proofs.MeasureLaws.{measured-small, Measured, measured-start, measured-room, measured-end, measured-next, measured-stops}

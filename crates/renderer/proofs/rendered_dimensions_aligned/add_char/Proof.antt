@@ -1,5 +1,4 @@
 -- A newline is code point 10; any other is looked up.
-use mathlib.Core.Path.{_≡_, ap}
 use borrow.Author.Needs.{needs}
 use borrow.Author.Tests.{eq-eqb, ne-eqb}
 use Rattle.renderer.proofs.rendered_dimensions_aligned.add_char.Statement.{statement}

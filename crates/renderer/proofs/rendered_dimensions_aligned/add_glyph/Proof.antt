@@ -30,10 +30,20 @@ module _ (c : tie.Start) where
   small : Small (c .args .glyph)
   small = fits-small (search needs) (search needs) (search needs) (search needs) glyph-advance
 
+moved-requires : tie.Need-moved-requires
+moved-requires c κs =
+    let s = c .before .before in
+    simp (toZ-ofZ, advance-x s) (x-near (s .pre))
+
+get-glyph-bounding-box-requires : tie.Need-get-glyph-bounding-box-requires
+get-glyph-bounding-box-requires c κs =
+    let s = c .before .before .before in
+    simp (toZ-ofZ, advance-x s) (x-near (s .pre), zero-near)
+
 -- the glyph's box
 module _ (c : tie.After-get-glyph-bounding-box) where
   abbrev entry : tie.Start
-  entry = c .before .before
+  entry = c .before .before .before .before
 
   box-is : c .get-glyph-bounding-box .result ≡ boxAt (entry .args .state .«line_advance») (pos 0) (entry .args .glyph)
   box-is = simp (toZ-ofZ, advance-x entry) at (c .get-glyph-bounding-box .ensures)
@@ -41,25 +51,13 @@ module _ (c : tie.After-get-glyph-bounding-box) where
   in-reach : InReach (c .get-glyph-bounding-box .result)
   in-reach = subst InReach (sym box-is) (box-in-reach (entry .args .glyph) (x-near (entry .pre)) zero-near (small entry))
 
-get-glyph-bounding-box-requires : tie.Need-get-glyph-bounding-box-requires
-get-glyph-bounding-box-requires c κs =
-    let s = c .before in
-    simp (toZ-ofZ, advance-x s) (x-near (s .pre), zero-near)
-
-moved-requires : tie.Need-moved-requires
-moved-requires c κs =
-    let s = c .before .before .before .before in
-    simp (toZ-ofZ, advance-x s) (x-near (s .pre))
-
 combine-bounding-boxes-requires : tie.Need-combine-bounding-boxes-requires
-combine-bounding-boxes-requires c κs =
-    let k = c .before .before .before in
-    (line-in-reach (entry k .args .state .«line_box») (entry k .pre .line), in-reach k)
+combine-bounding-boxes-requires c κs = (line-in-reach (entry c .args .state .«line_box») (entry c .pre .line), in-reach c)
 
 returns : tie.Need-returns
 returns c =
-    let m = c .before .before in
-    let k = m .before .before .before in
+    let k = c .before .before in
+    let m = k .before in
     let s = entry k in
     simp (stored w32 (m .moved .ok) (m .moved .ensures), c .before .combine-bounding-boxes .ensures, box-is k)
     (simp (toZ-ofZ, advance-x s, advance-y s, glyph-advance s))
@@ -68,7 +66,7 @@ pub add-glyph-spec : {M : Type 1} → statement M
 add-glyph-spec =
     tie.close
     (tie.spec
-    get-glyph-bounding-box-requires
     moved-requires
+    get-glyph-bounding-box-requires
     combine-bounding-boxes-requires
     returns)

@@ -36,6 +36,11 @@ module _ (c : tie.Start) where
   row-fits : SFits w32 (c .args .origin .y +ℤ c .args .state .«advance_y»)
   row-fits = near-fits (c .pre .row)
 
+compute-horizontal-offset-requires : tie.Need-compute-horizontal-offset-requires
+compute-horizontal-offset-requires c κs =
+    let s = c .before in
+    simp (toZ-ofZ, advance-x s) (s .pre .fits .line, x-near (s .pre .fits))
+
 -- by how much the line is moved
 module _ (c : tie.After-compute-horizontal-offset) where
   abbrev entry : tie.Start
@@ -53,11 +58,6 @@ module _ (c : tie.After-move-box) where
   line-is =
       let s = entry offset-known in
       simp (toZ-ofZ, column-fits s, row-fits s) at (simp (offset-is offset-known, toZ-ofZ, origin-x s, origin-y s, advance-y s) at (c .move-box .ensures))
-
-compute-horizontal-offset-requires : tie.Need-compute-horizontal-offset-requires
-compute-horizontal-offset-requires c κs =
-    let s = c .before in
-    simp (toZ-ofZ, advance-x s) (s .pre .fits .line, x-near (s .pre .fits))
 
 add-move-box : tie.Need-add-move-box
 add-move-box c =
@@ -79,7 +79,9 @@ move-box-requires c κs =
 combine-bounding-boxes-requires : tie.Need-combine-bounding-boxes-requires
 combine-bounding-boxes-requires c κs =
     let s = entry (offset-known c) in
-    (s .pre .fits .box, subst InReach (sym (line-is c)) (moved-in-reach (s .args .state .«line_box») (column-near (s .pre) (s .args .horizontal-align)) (s .pre .row) (s .pre .fits .line)))
+    let ended : InReach (s .args .state .«bounding_box») = s .pre .fits .box in
+    let line : InReach (c .move-box .result) = subst InReach (sym (line-is c)) (moved-in-reach (s .args .state .«line_box») (column-near (s .pre) (s .args .horizontal-align)) (s .pre .row) (s .pre .fits .line)) in
+    search needs
 
 returns : tie.Need-returns
 returns c = simp (c .combine-bounding-boxes .ensures, line-is (c .before))

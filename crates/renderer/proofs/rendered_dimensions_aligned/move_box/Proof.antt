@@ -1,7 +1,4 @@
 -- The sums of a near number and an edge of a line's box fit.
-use mathlib.Core.Path.{_≡_}
-use mir.Syntax.{w32}
-use mir.Val.{SFits}
 use mir.Facts.{toZ-ofZ}
 use borrow.Author.Needs.{needs}
 use Rattle.types.specs.declared.geometry.Rectangle.{Rectangle}

@@ -1,0 +1,52 @@
+-- The length stays.
+use mathlib.Core.Path.{_≡_}
+use Prim.Native.Nat.{_-_, _≤_, _<_}
+use lib.ListN.{length}
+use borrow.Author.Needs.{needs}
+use Rattle.replay.proofs.panels.fill.Statement.{statement}
+use Rattle.replay.proofs.panels.fill.Tie as tie
+
+abbrev Inv-loop : tie.InvT-loop
+Inv-loop panel₀ fill n i₀ panel i = (length panel ≡ length panel₀) × (n ≡ length panel₀)
+
+abbrev μ-loop : tie.MeasureT-loop
+μ-loop panel₀ fill n i₀ panel i = n - i
+
+loop-holds : tie.Need-loop-holds Inv-loop μ-loop
+loop-holds c = search needs
+
+pattern-requires : tie.Need-pattern-requires Inv-loop μ-loop
+pattern-requires c κs = search needs
+
+slice-write-panel : tie.Need-slice-write-panel Inv-loop μ-loop
+slice-write-panel c = search needs
+
+add-i : tie.Need-add-i Inv-loop μ-loop
+add-i c = search needs
+
+loop-less : tie.Need-loop-less Inv-loop μ-loop
+loop-less c = search needs
+
+loop-again : tie.Need-loop-again Inv-loop μ-loop
+loop-again c = search needs
+
+same-length : tie.Need-same-length Inv-loop μ-loop
+same-length c = search needs
+
+returns : tie.Need-returns Inv-loop μ-loop
+returns c = search needs
+
+pub fill-spec : {M : Type 1} → statement M
+fill-spec =
+    tie.close
+    (tie.spec
+    Inv-loop
+    μ-loop
+    loop-holds
+    pattern-requires
+    slice-write-panel
+    add-i
+    loop-less
+    loop-again
+    same-length
+    returns)
