@@ -4,4 +4,5 @@
 set -eu
 here=$(cd "$(dirname "$0")" && pwd)
 "$here/build.sh" ${ORACLE_RUST:+"$ORACLE_RUST"}
+"$(dirname "$here")/target/oracle/boundary" || { echo "oracle: the boundary is not as papayahelm.h says" >&2; exit 1; }
 "$(dirname "$here")/target/oracle/driver" compare "${1:-1}" "${2:-1000000}"

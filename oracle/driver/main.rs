@@ -1,7 +1,8 @@
 //! Runs the Rust beside ours.
 //!   driver compare SEED COUNT          with the static library
 //!   driver record SEED COUNT           prints answers of the Rust to be stored
-//!   driver model SCRIPT SEED COUNT     with tools/model.py
+//!   driver model SCRIPT SEED COUNT     the Rust with tools/model.py
+//!   driver own SCRIPT SEED COUNT       the static library with tools/model.py, also where the Rust is no judge
 
 mod case;
 mod compare;
@@ -35,6 +36,23 @@ fn run(seed: u64, count: u64, mut ours: impl FnMut(&Case, Call) -> Outcome) -> b
     tally.different.is_empty()
 }
 
+/// Compares the library with the model on every case.
+fn own(seed: u64, count: u64, mut model: model_side::Model) -> bool {
+    let mut cases = generate::Cases::new(seed);
+    let mut different = 0;
+    for _ in 0..count {
+        let case = cases.next();
+        for call in Call::ALL {
+            if linked::call(&case, call) != model.call(&case, call) {
+                different += 1;
+                println!("{call:?}\n{case}");
+            }
+        }
+    }
+    println!("seed {seed}, {count} cases, {} calls, {different} differences", count * Call::ALL.len() as u64);
+    different == 0
+}
+
 fn main() {
     rust_side::silence_panics();
     let args: Vec<String> = std::env::args().skip(1).collect();
@@ -45,12 +63,13 @@ fn main() {
             record::record(number(1, 1), number(2, 100_000));
             true
         }
+        Some("own") => own(number(2, 1), number(3, 1000), model_side::Model::start(&args[1])),
         Some("model") => {
             let mut model = model_side::Model::start(&args[1]);
             run(number(2, 1), number(3, 1000), |case, call| model.call(case, call))
         }
         _ => {
-            eprintln!("usage: driver compare SEED COUNT, driver record SEED COUNT, or driver model SCRIPT SEED COUNT");
+            eprintln!("usage: driver compare SEED COUNT, driver record SEED COUNT, or driver model|own SCRIPT SEED COUNT");
             false
         }
     };
