@@ -1,0 +1,33 @@
+-- Codes that have a meaning leave room for the answer.
+use mathlib.Core.Path.{_≡_, refl}
+use mathlib.Core.Bool.{Bool, true, false}
+use Prim.Native.Nat.{ℕ, _≤_}
+use native.Mathlib.Omega.{arith}
+use borrow.Author.Tests.{ltb-false}
+use lib.Dec.{ltb}
+use Rattle.c_api.specs.declared.codes.Anchor.{Anchor}
+use Rattle.c_api.specs.declared.codes.Anchor.the-variants.{Known as Anchor·Known, Unknown as Anchor·Unknown}
+use Rattle.c_api.specs.declared.codes.Alignment.{Alignment}
+use Rattle.c_api.specs.declared.codes.Alignment.the-variants.{Known as Alignment·Known, Unknown as Alignment·Unknown}
+use Rattle.c_api.specs.declared.codes.Flag.{Flag}
+use Rattle.c_api.specs.declared.codes.Flag.the-variants.{Known as Flag·Known, Unknown as Flag·Unknown}
+use Rattle.c_api.specs.declared.codes.Meaning.{Meaning}
+use Rattle.c_api.specs.declared.codes.Codes.the-variants.{Known, Unknown}
+use Rattle.c_api.specs.Codes.{allKnown, anchorOf, alignmentOf, flagOf, meaningOf}
+
+never : (m : Meaning) → Unknown ≡ Known m → ⊥
+never m e = let z : _≡_ {A = ℕ} 0 1 = cc in absurd (omega arith)
+
+wide : (v : Anchor) (h : Alignment) (s b : Flag) (narrow : Bool) (m : Meaning) → allKnown v h s b narrow ≡ Known m → narrow ≡ false
+wide (Anchor·Known v) (Alignment·Known h) (Flag·Known s) (Flag·Known b) true m e = absurd (never m e)
+wide (Anchor·Known v) (Alignment·Known h) (Flag·Known s) (Flag·Known b) false m e = refl
+wide (Anchor·Known v) (Alignment·Known h) (Flag·Known s) Flag·Unknown narrow m e = absurd (never m e)
+wide (Anchor·Known v) (Alignment·Known h) Flag·Unknown b narrow m e = absurd (never m e)
+wide (Anchor·Known v) Alignment·Unknown s b narrow m e = absurd (never m e)
+wide Anchor·Unknown h s b narrow m e = absurd (never m e)
+
+pub has-room : (anchor align skip background room : ℕ) (m : Meaning) → meaningOf anchor align skip background room ≡ Known m → 8 ≤ room
+unfolding meaningOf
+has-room anchor align skip background room m e =
+    let h = wide (anchorOf anchor) (alignmentOf align) (flagOf skip) (flagOf background) (ltb room 8) m e in
+    omega (arith, ltb-false room 8 h)

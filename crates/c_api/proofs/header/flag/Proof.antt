@@ -1,0 +1,12 @@
+-- One case each.
+use Rattle.c_api.proofs.header.flag.Statement.{statement}
+use Rattle.c_api.proofs.header.flag.Tie as tie
+
+returns : tie.Need-returns
+returns c = simp (c .if1 .taken)
+
+returns-2 : tie.Need-returns-2
+returns-2 c = simp (c .if1 .left)
+
+pub flag-spec : {M : Type 1} → statement M
+flag-spec = tie.close (tie.spec returns returns-2)

@@ -1,0 +1,15 @@
+-- A u16 fits an i64.
+use mir.Syntax.{w64}
+use mir.Facts.{toZ-pos}
+use borrow.Author.Needs.{needs}
+use Rattle.c_api.proofs.header.word.Statement.{statement}
+use Rattle.c_api.proofs.header.word.Tie as tie
+
+cast-result : tie.Need-cast-result
+cast-result c = search needs
+
+returns : tie.Need-returns
+returns c = toZ-pos w64 (search needs)
+
+pub word-spec : {M : Type 1} → statement M
+word-spec = tie.close (tie.spec cast-result returns)

@@ -1,0 +1,54 @@
+-- The font opens as new_from_raw_data says, once there is room for its values.
+use mathlib.Core.Path.{sym, ap, _∙_}
+use borrow.Author.Tests.{lt-ltb, le-ltb}
+use Rattle.definitions.specs.Calls.{fontReaderOutcome}
+use borrow.Author.Needs.{needs}
+use Rattle.c_api.proofs.papayahelm_open.Statement.{statement}
+use Rattle.c_api.proofs.papayahelm_open.Tie as tie
+
+returns : tie.Need-returns
+returns c = let h = lt-ltb _ _ (c .if1 .taken) in (simp h, simp h)
+
+new-from-raw-data-requires : tie.Need-new-from-raw-data-requires
+new-from-raw-data-requires c κs = search needs
+
+enum-known-error : tie.Need-enum-known-error
+enum-known-error c = search needs
+
+number-of-requires : tie.Need-number-of-requires
+number-of-requires c κs = search needs
+
+enum-known-head : tie.Need-enum-known-head
+enum-known-head c = search needs
+
+store-header-requires : tie.Need-store-header-requires
+store-header-requires c κs = search needs
+
+returns-2 : tie.Need-returns-2
+returns-2 c =
+    let h = le-ltb _ _ (c .before .before .before .before .before .if1 .left) in
+    let e = sym (c .before .before .before .before .new-from-raw-data .ensures) ∙ ap fontReaderOutcome (c .before .before .error .given .1) in
+    (simp (h, e) (c .number-of .ensures), simp (h, e))
+
+same-length : tie.Need-same-length
+same-length c = search needs
+
+returns-3 : tie.Need-returns-3
+returns-3 c =
+    let h = le-ltb _ _ (c .before .before .before .before .before .before .before .if1 .left) in
+    let e = sym (c .before .before .before .before .before .before .new-from-raw-data .ensures) ∙ ap fontReaderOutcome (c .before .before .before .before .head .given .1) in
+    (simp (h, e), simp (h, e) (c .before .store-header .ensures))
+
+pub papayahelm-open-spec : {M : Type 1} → statement M
+papayahelm-open-spec =
+    tie.close
+    (tie.spec
+    returns
+    new-from-raw-data-requires
+    enum-known-error
+    number-of-requires
+    enum-known-head
+    store-header-requires
+    returns-2
+    same-length
+    returns-3)

@@ -1,0 +1,37 @@
+-- With a box and without one.
+use mir.Syntax.{w32, w64}
+use mir.Val.{SFits}
+use mir.Facts.{toZ-ofZ}
+use Rattle.integers.proofs.Laws.{stored}
+use mathlib.Core.Path.{sym, _∙_, ap}
+use borrow.Author.Needs.{needs}
+use Rattle.c_api.proofs.reply.of_bounds.Statement.{statement}
+use Rattle.c_api.proofs.reply.of_bounds.Tie as tie
+
+enum-known-bounding-box : tie.Need-enum-known-bounding-box
+enum-known-bounding-box c = search needs
+
+boxed-requires : tie.Need-boxed-requires
+boxed-requires c κs = search needs
+
+enum-told : tie.Need-enum-told
+enum-told c = search needs
+
+returns : tie.Need-returns
+returns c = c .boxed .ensures ∙ simp (c .before .before .bounding-box .given .1)
+
+returns-2 : tie.Need-returns-2
+returns-2 c =
+    let a : SFits w32 (c .before .before .before .before .before .before .args .advance .x) = search needs in
+    let b : SFits w32 (c .before .before .before .before .before .before .args .advance .y) = search needs in
+    simp (stored w64 (c .before .before .signed .ok) (c .before .before .signed .ensures), stored w64 (c .signed2 .ok) (c .signed2 .ensures), c .before .before .before .before .enum-told .given .1) (simp (toZ-ofZ, a, b))
+
+signed-requires : tie.Need-signed-requires
+signed-requires c κs = search needs
+
+signed-requires-2 : tie.Need-signed-requires-2
+signed-requires-2 c κs = search needs
+
+pub of-bounds-spec : {M : Type 1} → statement M
+of-bounds-spec =
+    tie.close (tie.spec enum-known-bounding-box boxed-requires enum-told signed-requires signed-requires-2 returns returns-2)

@@ -1,0 +1,117 @@
+-- How a call's outcome reaches a caller in C: a status, and eight numbers stored in the slice `out`.
+use mathlib.Core.Path.{_≡_}
+use mathlib.Core.List.{List, [], _∷_}
+use mathlib.Core.Bool.{Bool, true, false}
+use Prim.Native.Nat.{ℕ, suc}
+use lib.IntN.{ℤ, pos}
+use lib.ListN.{set}
+use Rattle.types.specs.declared.error.Error.{Error}
+use Rattle.types.specs.declared.geometry.BoundingBox.{BoundingBox}
+use Rattle.types.specs.declared.geometry.BoundingBox.the-variants.{None, Some}
+use Rattle.types.specs.declared.geometry.Point.{Point}
+use Rattle.types.specs.declared.geometry.Rectangle.{Rectangle}
+use Rattle.types.specs.declared.geometry.RenderedDimensions.{RenderedDimensions}
+use Rattle.types.specs.declared.style.FontColor.{FontColor}
+use Rattle.types.specs.declared.style.FontColor.the-variants.{Transparent, WithBackground}
+use Rattle.types.specs.declared.style.FontStyle.{FontStyle}
+use Rattle.types.specs.declared.style.VerticalPosition.{VerticalPosition}
+use Rattle.definitions.specs.Refusals.{Outcome, success, refused, number, codePoint}
+use Rattle.definitions.specs.Text.{point}
+use Rattle.c_api.specs.declared.reply.Reply.{Reply}
+use Rattle.c_api.specs.declared.codes.Codes.{Codes}
+use Rattle.c_api.specs.declared.codes.Codes.the-variants.{Known, Unknown}
+use Rattle.c_api.specs.declared.codes.Meaning.{Meaning}
+
+-- A refusal: 01's number as the status, the code point, and zeros.
+abbrev pub refusedReply : ℕ → ℕ → Reply
+refusedReply n c = record {
+  status = n;
+  «code_point» = pos c;
+  x = pos 0;
+  y = pos 0;
+  boxed = pos 0;
+  left = pos 0;
+  top = pos 0;
+  width = pos 0;
+  height = pos 0;
+}
+
+abbrev pub errorReply : Error → Reply
+errorReply e = refusedReply (number e) (codePoint e)
+
+abbrev pub boxedReply : Point → Rectangle → Reply
+boxedReply advance r = record {
+  status = 0;
+  «code_point» = pos 0;
+  x = advance .x;
+  y = advance .y;
+  boxed = pos 1;
+  left = r .«top_left» .x;
+  top = r .«top_left» .y;
+  width = pos (r .size .width);
+  height = pos (r .size .height);
+}
+
+abbrev pub boundsReply : Point → BoundingBox → Reply
+boundsReply advance (Some r) = boxedReply advance r
+boundsReply advance None = record {
+  status = 0;
+  «code_point» = pos 0;
+  x = advance .x;
+  y = advance .y;
+  boxed = pos 0;
+  left = pos 0;
+  top = pos 0;
+  width = pos 0;
+  height = pos 0;
+}
+
+abbrev pub boxReply : Outcome Rectangle → Reply
+boxReply (success r) = boxedReply (point (pos 0) (pos 0)) r
+boxReply (refused n c) = refusedReply n c
+
+abbrev pub textReply : Outcome RenderedDimensions → Reply
+textReply (success d) = boundsReply (d .advance) (d .«bounding_box»)
+textReply (refused n c) = refusedReply n c
+
+abbrev pub alignedReply : Outcome BoundingBox → Reply
+alignedReply (success b) = boundsReply (point (pos 0) (pos 0)) b
+alignedReply (refused n c) = refusedReply n c
+
+-- The eight numbers of a reply.
+abbrev pub values : Reply → List ℤ
+values r =
+    r .«code_point» ∷ r .x ∷ r .y ∷ r .boxed ∷ r .left ∷ r .top ∷ r .width ∷ r .height ∷ []
+
+-- A list with other numbers from place i on.
+abbrev pub storedAt : ℕ → List ℤ → List ℤ → List ℤ
+storedAt i [] out = out
+storedAt i (v ∷ vs) out = storedAt (suc i) vs (set out i v)
+
+abbrev pub stored : Reply → List ℤ → List ℤ
+stored r out = storedAt 0 (values r) out
+
+-- What a call comes to by its codes: status 255 and nothing stored where one has no meaning.
+abbrev pub status : Codes → (Meaning → Reply) → ℕ
+status Unknown reply = 255
+status (Known m) reply = reply m .status
+
+abbrev pub storedReply : Codes → (Meaning → Reply) → List ℤ → List ℤ
+storedReply Unknown reply out = out
+storedReply (Known m) reply out = stored (reply m) out
+
+abbrev pub Answers : Codes → (Meaning → Reply) → ℕ → List ℤ → List ℤ → Type 0
+Answers codes reply r before after = (r ≡ status codes reply) × (after ≡ storedReply codes reply before)
+
+-- What the framebuffer holds after drawing: as it was where a code has no meaning.
+abbrev pub drawnBy : Codes → (Meaning → List ℕ) → List ℕ → List ℕ
+drawnBy Unknown drawn buffer = buffer
+drawnBy (Known m) drawn buffer = drawn m
+
+-- The style of a drawing: with a background colour or transparent.
+abbrev pub inkOf : Bool → ℕ → ℕ → FontColor
+inkOf true fg bg = WithBackground fg bg
+inkOf false fg bg = Transparent fg
+
+abbrev pub styleOf : VerticalPosition → Bool → ℕ → ℕ → FontStyle
+styleOf v background fg bg = record { color = inkOf background fg bg; «vertical_pos» = v }

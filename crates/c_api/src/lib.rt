@@ -1,0 +1,176 @@
+// The calls for programs in C or Rust, which link the static library (`rt staticlib c_api`). Numbers
+// and slices go in; a slice is a pointer and a length. Each call answers with a status: 0 for
+// success, 01's number for a refusal, 255 where a code has no meaning or `out` is too short. The
+// answer's values are stored in `out`: specs/Replies.antt says which. oracle/papayahelm.h declares
+// the calls.
+mod codes;
+mod header;
+mod reply;
+
+ghost use mathlib.Core.Path.{_≡_};
+ghost use lib.ListN.{length};
+ghost use Rattle.definitions.specs.Calls.{openFont, fontBoundingBox, measure, measureAligned, draw, drawBuffer};
+ghost use Rattle.definitions.specs.Text.{point};
+ghost use Rattle.c_api.specs.Codes.{meaningOf};
+ghost use Rattle.c_api.specs.Replies.{Answers, styleOf, drawnBy, boxReply, textReply, alignedReply};
+ghost use Rattle.c_api.specs.Headers.{Opens};
+use codes::Codes;
+use codes::known_codes;
+use font_reader::new_from_raw_data;
+use header::store_header;
+use renderer::font_bounding_box::get_font_bounding_box;
+use renderer::render::render;
+use renderer::rendered_dimensions::get_rendered_dimensions;
+use renderer::rendered_dimensions_aligned::get_rendered_dimensions_aligned;
+use reply::BAD_ARGUMENT;
+use reply::number_of;
+use reply::of_bounding_box;
+use reply::of_dimensions;
+use reply::of_rectangle;
+use reply::store;
+use types::geometry::Point;
+use types::results::FontReaderResult;
+use types::style::FontColor;
+use types::style::FontStyle;
+use types::style::VerticalPosition;
+
+// The header's values and the default line height.
+#[no_mangle]
+pub extern "C" fn papayahelm_open(font: &[u8], out: &mut [i64]) -> u32
+    ensures { λ r. ⌜ Opens (length (now (out .entry))) (openFont (now (font .entry))) r (now (out .entry)) (now (out .exit)) ⌝ }
+{
+    if out.len() < 21 {
+        return BAD_ARGUMENT;
+    }
+    match new_from_raw_data(font) {
+        FontReaderResult::Err(error) => number_of(error),
+        FontReaderResult::Ok(head) => {
+            store_header(out, head);
+            0
+        }
+    }
+}
+
+// The bounding box of all of the font's glyphs.
+#[no_mangle]
+pub extern "C" fn papayahelm_font_box(font: &[u8], anchor: u32, out: &mut [i64]) -> u32
+    ensures { λ r. ⌜ Answers (meaningOf anchor 0 0 0 (length (now (out .entry)))) (λ m. boxReply (fontBoundingBox (now (font .entry)) (m .«vertical_pos»))) r (now (out .entry)) (now (out .exit)) ⌝ }
+{
+    let Codes::Known(m) = known_codes(anchor, 0, 0, 0, out.len()) else {
+        return BAD_ARGUMENT;
+    };
+    let vertical_pos = m.vertical_pos;
+    store(out, of_rectangle(get_font_bounding_box(font, vertical_pos)))
+}
+
+// The dimensions that a text has when it is drawn.
+#[no_mangle]
+pub extern "C" fn papayahelm_measure(
+    font: &[u8],
+    text: &[u8],
+    x: i32,
+    y: i32,
+    anchor: u32,
+    line_height: u32,
+    skip: u32,
+    out: &mut [i64],
+) -> u32
+    ensures { λ r. ⌜ Answers (meaningOf anchor 0 skip 0 (length (now (out .entry)))) (λ m. textReply (measure (now (font .entry)) (now (text .entry)) (point x y) (m .«vertical_pos») «line_height» (m .skip))) r (now (out .entry)) (now (out .exit)) ⌝ }
+{
+    let Codes::Known(m) = known_codes(anchor, 0, skip, 0, out.len()) else {
+        return BAD_ARGUMENT;
+    };
+    let vertical_pos = m.vertical_pos;
+    let position = Point { x, y };
+    let result = get_rendered_dimensions(font, text, position, vertical_pos, line_height, m.skip);
+    store(out, of_dimensions(result))
+}
+
+// The bounding box of a text whose lines are aligned.
+#[no_mangle]
+pub extern "C" fn papayahelm_measure_aligned(
+    font: &[u8],
+    text: &[u8],
+    x: i32,
+    y: i32,
+    anchor: u32,
+    align: u32,
+    line_height: u32,
+    skip: u32,
+    out: &mut [i64],
+) -> u32
+    ensures { λ r. ⌜ Answers (meaningOf anchor align skip 0 (length (now (out .entry)))) (λ m. alignedReply (measureAligned (now (font .entry)) (now (text .entry)) (point x y) (m .«vertical_pos») (m .«horizontal_align») «line_height» (m .skip))) r (now (out .entry)) (now (out .exit)) ⌝ }
+{
+    let Codes::Known(m) = known_codes(anchor, align, skip, 0, out.len()) else {
+        return BAD_ARGUMENT;
+    };
+    let vertical_pos = m.vertical_pos;
+    let horizontal_align = m.horizontal_align;
+    let position = Point { x, y };
+    let result = get_rendered_dimensions_aligned(
+        font,
+        text,
+        position,
+        vertical_pos,
+        horizontal_align,
+        line_height,
+        m.skip,
+    );
+    store(out, of_bounding_box(result))
+}
+
+fn style_of(vertical_pos: VerticalPosition, background: bool, fg: u8, bg: u8) -> FontStyle
+    ensures { λ r. ⌜ r ≡ styleOf «vertical_pos» background fg bg ⌝ }
+{
+    if background {
+        return FontStyle {
+            color: FontColor::WithBackground { fg, bg },
+            vertical_pos,
+        };
+    }
+    FontStyle {
+        color: FontColor::Transparent(fg),
+        vertical_pos,
+    }
+}
+
+// Draws a text into the buffer, one byte a pixel.
+#[no_mangle]
+pub extern "C" fn papayahelm_draw(
+    font: &[u8],
+    text: &[u8],
+    x: i32,
+    y: i32,
+    anchor: u32,
+    line_height: u32,
+    skip: u32,
+    background: u32,
+    fg: u8,
+    bg: u8,
+    width: usize,
+    height: usize,
+    buffer: &mut [u8],
+    out: &mut [i64],
+) -> u32
+    ensures answered { λ r. ⌜ Answers (meaningOf anchor 0 skip background (length (now (out .entry)))) (λ m. textReply (draw (now (font .entry)) (now (text .entry)) (point x y) (styleOf (m .«vertical_pos») (m .background) fg bg) «line_height» (m .skip) width height (now (buffer .entry)))) r (now (out .entry)) (now (out .exit)) ⌝ }
+    ensures shown { λ r. ⌜ now (buffer .exit) ≡ drawnBy (meaningOf anchor 0 skip background (length (now (out .entry)))) (λ m. drawBuffer (now (font .entry)) (now (text .entry)) (point x y) (styleOf (m .«vertical_pos») (m .background) fg bg) «line_height» (m .skip) width height (now (buffer .entry))) (now (buffer .entry)) ⌝ }
+{
+    let Codes::Known(m) = known_codes(anchor, 0, skip, background, out.len()) else {
+        return BAD_ARGUMENT;
+    };
+    let vertical_pos = m.vertical_pos;
+    let style = style_of(vertical_pos, m.background, fg, bg);
+    let position = Point { x, y };
+    let result = render(
+        font,
+        text,
+        position,
+        style,
+        line_height,
+        m.skip,
+        width,
+        height,
+        buffer,
+    );
+    store(out, of_dimensions(result))
+}

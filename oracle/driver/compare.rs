@@ -1,0 +1,156 @@
+//! Compares the Rust's answers with ours, and counts them by outcome.
+
+use std::collections::BTreeMap;
+
+use crate::case::{Answer, Call, Case, Outcome};
+use crate::rust_side;
+use crate::shrink::shrink;
+
+/// The panics of the Rust for which our answer need not be 8: docs/DIFFERENCES.md lists them.
+const LISTED: &[&str] = &["font_reader/glyph_renderer.rs:56: attempt to subtract with overflow"];
+
+/// What one call came to.
+pub enum Verdict {
+    /// compared, and equal
+    Same(&'static str),
+    /// the Rust panicked here, and ours is number 8 for the same letter
+    Eight(String),
+    /// not compared, for this reason
+    NotCompared(&'static str),
+    /// an answer that should not be
+    Different(String),
+}
+
+fn outcome_name(answer: &Answer) -> &'static str {
+    match answer {
+        Answer::Open(_) => "ok",
+        Answer::FontBox(_) | Answer::Text { bounds: Some(_), .. } | Answer::Bounds(Some(_)) => "ok with a box",
+        Answer::Text { .. } | Answer::Bounds(None) => "ok without a box",
+        Answer::Refused { number, .. } => {
+            ["", "number 1", "number 2", "number 3", "number 4", "number 5", "number 6", "number 7", "number 8"][*number as usize]
+        }
+        Answer::Panicked { .. } => "panic",
+    }
+}
+
+/// A panic's message with N for each number that is not the line.
+fn without_numbers(site: &str) -> String {
+    let (place, message) = site.split_once(": ").unwrap_or((site, ""));
+    let mut out = format!("{place}: ");
+    let mut digits = false;
+    for ch in message.chars() {
+        if !ch.is_ascii_digit() {
+            out.push(ch);
+        } else if !digits {
+            out.push('N');
+        }
+        digits = ch.is_ascii_digit();
+    }
+    out
+}
+
+pub fn verdict(case: &Case, call: Call, ours: &Outcome) -> Verdict {
+    if let Some(number) = case.off_limits(call) {
+        let expected = Answer::Refused { number, code_point: 0 };
+        if ours.answer != expected {
+            return Verdict::Different(format!("off limits: {expected:?} expected, ours {:?}", ours.answer));
+        }
+        if call.ink().is_some() && ours.buffer != case.buffer {
+            return Verdict::Different("off limits: the framebuffer changed".to_string());
+        }
+        return Verdict::Same(outcome_name(&ours.answer));
+    }
+    let rust = rust_side::call(case, call);
+    let same = rust == *ours;
+    if case.has_width_8() && !matches!(call, Call::Open | Call::FontBox(_)) {
+        return Verdict::NotCompared(if same { "8 bits wide, and the same" } else { "8 bits wide, and different or a panic" });
+    }
+    match &rust.answer {
+        Answer::Panicked { code_point, site } => {
+            let eight = Answer::Refused { number: 8, code_point: *code_point };
+            if ours.answer == eight && ours.buffer == rust.buffer {
+                Verdict::Eight(without_numbers(site))
+            } else if ours.answer == eight {
+                Verdict::Different("number 8: the framebuffers differ".to_string())
+            } else if LISTED.contains(&site.as_str()) {
+                Verdict::NotCompared("a listed panic")
+            } else {
+                Verdict::Different(format!("the Rust panics, {site}; ours {}", outcome_name(&ours.answer)))
+            }
+        }
+        answer if *answer != ours.answer => {
+            Verdict::Different(format!("the Rust {}, ours {}", outcome_name(answer), outcome_name(&ours.answer)))
+        }
+        _ if !same => Verdict::Different("the framebuffers differ".to_string()),
+        answer => Verdict::Same(outcome_name(answer)),
+    }
+}
+
+#[derive(Default)]
+pub struct Tally {
+    pub calls: u64,
+    pub counts: BTreeMap<(usize, &'static str), u64>,
+    /// each kind of difference, with how often it came and a case of it
+    pub different: BTreeMap<(usize, String), (u64, Case)>,
+    /// a case of the listed panic
+    pub listed: Option<Case>,
+    /// where the Rust panicked, and how often
+    pub sites: BTreeMap<String, u64>,
+}
+
+impl Tally {
+    pub fn add(&mut self, case: &Case, call: Call, verdict: Verdict) {
+        self.calls += 1;
+        match verdict {
+            Verdict::Same(what) | Verdict::NotCompared(what) => {
+                *self.counts.entry((call.name(), what)).or_default() += 1;
+                if what == "a listed panic" && self.listed.is_none() {
+                    self.listed = Some(case.clone());
+                }
+            }
+            Verdict::Eight(site) => {
+                *self.counts.entry((call.name(), "panic, and number 8")).or_default() += 1;
+                *self.sites.entry(site).or_default() += 1;
+            }
+            Verdict::Different(what) => {
+                self.different.entry((call.name(), what)).or_insert_with(|| (0, case.clone())).0 += 1;
+            }
+        }
+    }
+
+    pub fn print(&self) {
+        let mut name = usize::MAX;
+        for ((call, what), n) in &self.counts {
+            if *call != name {
+                println!("{}", Call::NAMES[*call]);
+                name = *call;
+            }
+            println!("  {n:>9}  {what}");
+        }
+        println!("where the Rust panicked and ours is number 8");
+        for (site, n) in &self.sites {
+            println!("  {n:>9}  {site}");
+        }
+        println!("{} calls, {} differences", self.calls, self.different.values().map(|v| v.0).sum::<u64>());
+    }
+}
+
+/// Prints each kind of difference with its smallest case.
+pub fn explain(tally: &Tally, mut ours: impl FnMut(&Case, Call) -> Outcome) {
+    for ((name, what), (n, case)) in &tally.different {
+        let mut shows = |c: &Case| {
+            Call::ALL.iter().any(|call| {
+                call.name() == *name && matches!(verdict(c, *call, &ours(c, *call)), Verdict::Different(w) if w == *what)
+            })
+        };
+        println!("{}: {what} ({n} times); the smallest case found:", Call::NAMES[*name]);
+        print!("{}", shrink(case.clone(), &mut shows));
+    }
+    if let Some(case) = &tally.listed {
+        let mut shows = |c: &Case| {
+            Call::ALL.iter().any(|call| matches!(verdict(c, *call, &ours(c, *call)), Verdict::NotCompared("a listed panic")))
+        };
+        println!("the listed panic; the smallest case found:");
+        print!("{}", shrink(case.clone(), &mut shows));
+    }
+}

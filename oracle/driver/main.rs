@@ -1,0 +1,77 @@
+//! Runs the Rust beside ours.
+//!   driver compare SEED COUNT          with the static library
+//!   driver record SEED COUNT           prints answers of the Rust to be stored
+//!   driver model SCRIPT SEED COUNT     the Rust with tools/model.py
+//!   driver own SCRIPT SEED COUNT       the static library with tools/model.py, also where the Rust is no judge
+
+mod case;
+mod compare;
+mod display;
+mod fonts;
+mod generate;
+mod linked;
+mod model_side;
+#[path = "../papayahelm.rs"]
+mod papayahelm;
+mod random;
+mod record;
+mod rust_side;
+mod shrink;
+
+use case::{Call, Case, Outcome};
+
+fn run(seed: u64, count: u64, mut ours: impl FnMut(&Case, Call) -> Outcome) -> bool {
+    let mut cases = generate::Cases::new(seed);
+    let mut tally = compare::Tally::default();
+    for _ in 0..count {
+        let case = cases.next();
+        for call in Call::ALL {
+            let answer = ours(&case, call);
+            tally.add(&case, call, compare::verdict(&case, call, &answer));
+        }
+    }
+    println!("seed {seed}, {count} cases");
+    tally.print();
+    compare::explain(&tally, ours);
+    tally.different.is_empty()
+}
+
+/// Compares the library with the model on every case.
+fn own(seed: u64, count: u64, mut model: model_side::Model) -> bool {
+    let mut cases = generate::Cases::new(seed);
+    let mut different = 0;
+    for _ in 0..count {
+        let case = cases.next();
+        for call in Call::ALL {
+            if linked::call(&case, call) != model.call(&case, call) {
+                different += 1;
+                println!("{call:?}\n{case}");
+            }
+        }
+    }
+    println!("seed {seed}, {count} cases, {} calls, {different} differences", count * Call::ALL.len() as u64);
+    different == 0
+}
+
+fn main() {
+    rust_side::silence_panics();
+    let args: Vec<String> = std::env::args().skip(1).collect();
+    let number = |i: usize, or: u64| args.get(i).map_or(or, |a| a.parse().expect("a number"));
+    let good = match args.first().map(String::as_str) {
+        Some("compare") => run(number(1, 1), number(2, 1_000_000), linked::call),
+        Some("record") => {
+            record::record(number(1, 1), number(2, 100_000));
+            true
+        }
+        Some("own") => own(number(2, 1), number(3, 1000), model_side::Model::start(&args[1])),
+        Some("model") => {
+            let mut model = model_side::Model::start(&args[1]);
+            run(number(2, 1), number(3, 1000), |case, call| model.call(case, call))
+        }
+        _ => {
+            eprintln!("usage: driver compare SEED COUNT, driver record SEED COUNT, or driver model|own SCRIPT SEED COUNT");
+            false
+        }
+    };
+    std::process::exit(if good { 0 } else { 1 });
+}

@@ -1,0 +1,1 @@
+//! In place of `content/args.rs` and `content/character.rs`: format arguments and `char` content are not ported.
