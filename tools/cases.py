@@ -10,6 +10,7 @@ from pathlib import Path
 sys.path.insert(0, str(Path(__file__).parent))
 import make_font
 import model as m
+import oracle_cases
 
 OPEN, FONT_BOX, MEASURE, ALIGNED, DRAW = range(5)
 
@@ -347,6 +348,10 @@ for x, y in ((-20, 2), (0, 3), (4, 4), (7, 1)):
 for x, y in ((-1000, 0), (0, -1000), (300, 300), (-100, 100), (0, 255), (1, 256)):
     draw('255 x 255 pixels at %d, %d' % (x, y), HUGE, '-', None, x=x, y=y, ink=(1, 2), size=(256, 256), fill=5)
     draw('a diagonal at %d, %d' % (x, y), FULL, '-', None, x=x, y=y, size=(256, 256), fill=5)
+
+# ---- what the Rust answered
+
+CASES += oracle_cases.load(show_panel)
 
 if __name__ == '__main__':
     crate = Path(__file__).parent.parent / 'crates' / 'replay'
