@@ -17,7 +17,7 @@ use u8g2_fonts::font_reader::FontReader;
 use u8g2_fonts::types::{FontColor, HorizontalAlignment, VerticalPosition};
 use u8g2_fonts::FontRenderer;
 
-const WIDTH: usize = 128;
+const WIDTH: usize = 256;
 const HEIGHT: usize = 64;
 
 /// A glyph of 6 x 9 pixels with runs of up to 7, after the fields' widths of `HEADER`.
@@ -109,6 +109,7 @@ struct Input {
     name: String,
     font: Vec<u8>,
     text: String,
+    line_height: u32,
     call: Call,
 }
 
@@ -116,21 +117,23 @@ fn inputs() -> Vec<Input> {
     let plain = font(0, 0);
     let mut long: String = "0123456789 -12.5 Hello, gauge! ".repeat(140);
     long = long.chars().enumerate().map(|(i, c)| if i % 32 == 31 { '\n' } else { c }).take(4096).collect();
-    let mut out = vec![Input { name: "open".into(), font: plain.clone(), text: String::new(), call: Call::Open }];
-    let texts: [(&str, Vec<u8>, String); 4] = [
-        ("\"-12.5\"", plain.clone(), "-12.5".into()),
-        ("4,096 bytes", plain, long),
-        ("a chain of 5,000 records", font(5000, 0), "\u{ff}".repeat(16)),
-        ("a jump table of 5,000 entries", font(0, 5000), "\u{ffff}".repeat(16)),
+    let mut out = vec![Input { name: "open".into(), font: plain.clone(), text: String::new(), line_height: 11, call: Call::Open }];
+    // With line height 0 every letter of the long text is visible, with 11 only those of the first lines.
+    let texts: [(&str, Vec<u8>, String, u32); 5] = [
+        ("\"-12.5\"", plain.clone(), "-12.5".into(), 11),
+        ("4,096 bytes, all visible", plain.clone(), long.clone(), 0),
+        ("4,096 bytes, most below", plain, long, 11),
+        ("a chain of 5,000 records", font(5000, 0), "\u{ff}".repeat(16), 11),
+        ("a jump table of 5,000 entries", font(0, 5000), "\u{ffff}".repeat(16), 11),
     ];
-    for (name, font, text) in texts {
+    for (name, font, text, line_height) in texts {
         for (call, does) in [
             (Call::Measure, "measure"),
             (Call::Aligned, "measure centred"),
             (Call::Transparent, "draw transparent"),
             (Call::Background, "draw with background"),
         ] {
-            out.push(Input { name: format!("{does}, {name}"), font: font.clone(), text: text.clone(), call });
+            out.push(Input { name: format!("{does}, {name}"), font: font.clone(), text: text.clone(), line_height, call });
         }
     }
     out
@@ -141,7 +144,7 @@ fn rust(input: &Input, buffer: &mut [u8]) -> i32 {
     let font: &'static [u8] = unsafe { &*(input.font.as_slice() as *const [u8]) };
     let text = input.text.as_str();
     let position = Point::new(2, 20);
-    let renderer = || FontRenderer::new_from_raw_data(font).with_line_height(11);
+    let renderer = || FontRenderer::new_from_raw_data(font).with_line_height(input.line_height);
     let anchor = VerticalPosition::Baseline;
     let draw = |color, buffer| {
         let mut display = Display::<false>::new(WIDTH, HEIGHT, buffer);
@@ -160,7 +163,7 @@ fn rust(input: &Input, buffer: &mut [u8]) -> i32 {
 
 fn ours(input: &Input, buffer: &mut [u8]) -> i32 {
     let (font, text) = (&input.font, input.text.as_bytes());
-    let place = Place { x: 2, y: 20, anchor: Anchor::Baseline, line_height: 11, skip: false };
+    let place = Place { x: 2, y: 20, anchor: Anchor::Baseline, line_height: input.line_height, skip: false };
     let draw = |ink, buffer| papayahelm::draw(font, text, place, ink, (WIDTH, HEIGHT), buffer).map_or(-1, |d| d.advance.0);
     match input.call {
         Call::Open => papayahelm::open(black_box(font)).map_or(-1, |v| v[20] as i32),
