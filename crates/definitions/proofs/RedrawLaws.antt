@@ -40,7 +40,7 @@ length-after font r p =
     (p .before)
 
 -- a pixel of the buffer lies in a row of the framebuffer
-row-below : (width height column row : ℕ) → row * width + column < width * height → row < height
+pub row-below : (width height column row : ℕ) → row * width + column < width * height → row < height
 row-below width height column row h = by (decLt row height)
   where
     by : Dec (row < height) → row < height
