@@ -12,12 +12,14 @@ use Rattle.types.specs.declared.font_reader.FontReader.{FontReader}
 use Rattle.types.specs.declared.glyph_reader.GlyphReader.{GlyphReader}
 use Rattle.definitions.specs.Bits.{Read, got, ends, bits, readAt}
 use Rattle.definitions.specs.Runs.{Pixels, pixels, cut, prepend, unlessCut, runs, glyphPixels, pixelsAfter, pixelsFrom}
+use Rattle.definitions.specs.Refusals.{success, refused}
+use Rattle.definitions.specs.Calls.{withRuns}
 use Rattle.definitions.proofs.BitsLaws.{read-inside}
 use Rattle.definitions.proofs.RunsLaws.{pairPixels, NewPair, runs-reads, after-reads}
 use Rattle.glyph_renderer.specs.declared.runs.Runs.{Runs}
 use Rattle.glyph_renderer.specs.declared.runs.RunsRead.{RunsRead}
 use Rattle.glyph_renderer.specs.declared.runs.RunsRead.the-variants.{Pair, Ends}
-use Rattle.glyph_renderer.specs.RunReads.{isWhole, unlessEnds, onPair, firstPair, nextPair}
+use Rattle.glyph_renderer.specs.RunReads.{isWhole, unlessEnds, onPair, pairAt, nextPair}
 
 taken : (r : Read) (rest : ℕ → RunsRead) (q : Runs) → unlessEnds r rest ≡ Pair q → (n : ℕ) × ((r ≡ got n) × (rest n ≡ Pair q))
 taken (got n) rest q e = (n, (refl, e))
@@ -30,8 +32,8 @@ both ends f g rest e = refl
 
 module _ (font : List ℕ) (m0 m1 : ℕ) where
   -- A pair was read before the font's end.
-  pub first-place : (at : ℕ) (q : Runs) → firstPair font m0 m1 at ≡ Pair q → (at ≤ q .«bit_pos») × (q .«bit_pos» < 8 * length font)
-  unfolding firstPair
+  pub first-place : (at : ℕ) (q : Runs) → pairAt font m0 m1 at ≡ Pair q → (at ≤ q .«bit_pos») × (q .«bit_pos» < 8 * length font)
+  unfolding pairAt
   first-place at q e =
       let z = taken (readAt font at m0) _ q e in
       let o = taken (readAt font (at + m0) m1) _ q (z .1 .1) in
@@ -49,7 +51,7 @@ module _ (font : List ℕ) (m0 m1 : ℕ) where
       let i = read-inside font (r .«bit_pos») 1 (b .0) (b .1 .0) .0 in
       split (eqb (b .0) 1) i (b .1 .1)
     where
-      split : (t : Bool) → r .«bit_pos» + 1 < 8 * length font → pick t (Pair (again r)) (firstPair font m0 m1 (r .«bit_pos» + 1)) ≡ Pair q
+      split : (t : Bool) → r .«bit_pos» + 1 < 8 * length font → pick t (Pair (again r)) (pairAt font m0 m1 (r .«bit_pos» + 1)) ≡ Pair q
           → (r .«bit_pos» < q .«bit_pos») × (q .«bit_pos» < 8 * length font)
       split true i f = let same : again r ≡ q = cc in omega (arith, ap (λ (s : Runs). s .«bit_pos») same)
       split false i f = omega (arith, first-place (r .«bit_pos» + 1) q f)
@@ -58,12 +60,12 @@ module _ (font : List ℕ) (m0 m1 : ℕ) where
   abbrev pub given : ℕ → Runs → Pixels
   given n q = pixelsFrom font m0 m1 n (q .zeros) (q .ones) (q .«bit_pos»)
 
-  new-gives : (n at : ℕ) → onPair (given n) (firstPair font m0 m1 at) ≡ NewPair font m0 m1 n at
-  unfolding firstPair
+  new-gives : (n at : ℕ) → onPair (given n) (pairAt font m0 m1 at) ≡ NewPair font m0 m1 n at
+  unfolding pairAt
   new-gives n at = both (readAt font at m0) _ _ (given n) (λ zeros. both (readAt font (at + m0) m1) _ _ (given n) (λ ones. refl))
 
   -- The first pair gives the glyph's pixels.
-  pub first-gives : (n at : ℕ) → runs m0 m1 n (drop at (bits font)) ≡ onPair (given n) (firstPair font m0 m1 at)
+  pub first-gives : (n at : ℕ) → runs m0 m1 n (drop at (bits font)) ≡ onPair (given n) (pairAt font m0 m1 at)
   first-gives n at = runs-reads font m0 m1 n at ∙ sym (new-gives n at)
 
   -- Each next pair gives those after the pair.
@@ -73,7 +75,7 @@ module _ (font : List ℕ) (m0 m1 : ℕ) where
       after-reads font m0 m1 n (r .zeros) (r .ones) (r .«bit_pos»)
       ∙ sym (both (readAt font (r .«bit_pos») 1) _ _ (given n) (λ repeat. split (eqb repeat 1)))
     where
-      split : (t : Bool) → onPair (given n) (pick t (Pair (again r)) (firstPair font m0 m1 (r .«bit_pos» + 1)))
+      split : (t : Bool) → onPair (given n) (pick t (Pair (again r)) (pairAt font m0 m1 (r .«bit_pos» + 1)))
           ≡ pick t (given n (again r)) (NewPair font m0 m1 n (r .«bit_pos» + 1))
       split true = refl
       split false = new-gives n (r .«bit_pos» + 1)
@@ -109,6 +111,17 @@ module _ (font : List ℕ) (head : FontReader) (g : GlyphReader) where
   unfolding glyphPixels
   no-pixels e = simp (eq-eqb count 0 e)
 
-  pub glyph-gives : (count ≡ 0 → ⊥) → glyphPixels font head g ≡ onPair (given font (head .m0) (head .m1) count) (firstPair font (head .m0) (head .m1) (g .«bit_pos»))
+  pub glyph-gives : (count ≡ 0 → ⊥) → glyphPixels font head g ≡ onPair (given font (head .m0) (head .m1) count) (pairAt font (head .m0) (head .m1) (g .«bit_pos»))
   unfolding glyphPixels
   glyph-gives h = simp (ne-eqb count 0 h) (first-gives font (head .m0) (head .m1) count (g .«bit_pos»))
+
+-- ---- what the check says of a letter
+
+module _ (c : ℕ) (g : GlyphReader) where
+  pub runs-whole : (r : Pixels) → isWhole r ≡ true → withRuns c g r ≡ success g
+  runs-whole (pixels ps) e = refl
+  runs-whole cut e = let z : _≡_ {A = ℕ} 0 1 = cc in absurd (omega arith)
+
+  pub runs-cut : (r : Pixels) → isWhole r ≡ false → withRuns c g r ≡ refused 8 c
+  runs-cut (pixels ps) e = let z : _≡_ {A = ℕ} 0 1 = cc in absurd (omega arith)
+  runs-cut cut e = refl

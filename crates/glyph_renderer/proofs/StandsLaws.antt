@@ -19,7 +19,7 @@ use Rattle.definitions.proofs.RunsLaws.{pixel-in-pair, pixels-after-pair}
 use Rattle.glyph_renderer.specs.declared.runs.Runs.{Runs}
 use Rattle.glyph_renderer.specs.declared.runs.RunsRead.{RunsRead}
 use Rattle.glyph_renderer.specs.declared.runs.RunsRead.the-variants.{Pair, Ends}
-use Rattle.glyph_renderer.specs.RunReads.{isWhole, onPair, firstPair, nextPair}
+use Rattle.glyph_renderer.specs.RunReads.{isWhole, onPair, pairAt, nextPair}
 use Rattle.glyph_renderer.specs.Stands.{Stands, StandsAt}
 use Rattle.glyph_renderer.proofs.RunReadsLaws.{given, first-place, next-place, next-gives, glyph-gives}
 
@@ -82,10 +82,10 @@ module _ (font : List ℕ) (head : FontReader) (g : GlyphReader) (e : head ≡ h
 
   -- There is a first pair, and counted from it a pixel is where it is among all.
   first : (i : ℕ) → i < g .«glyph_width» * g .«glyph_height»
-      → (q : Runs) × ((firstPair font (head .m0) (head .m1) (g .«bit_pos») ≡ Pair q) × StandsAt font head g q i i)
+      → (q : Runs) × ((pairAt font (head .m0) (head .m1) (g .«bit_pos») ≡ Pair q) × StandsAt font head g q i i)
   first i h =
       let n = g .«glyph_width» * g .«glyph_height» in
-      let p = paired (firstPair font (head .m0) (head .m1) (g .«bit_pos»)) _ (pixelsOf font g) (sym (glyph-gives font head g (λ z. omega arith)) ∙ whole-pixels) in (
+      let p = paired (pairAt font (head .m0) (head .m1) (g .«bit_pos»)) _ (pixelsOf font g) (sym (glyph-gives font head g (λ z. omega arith)) ∙ whole-pixels) in (
         p .0,
         (
           p .1 .0,
@@ -99,10 +99,10 @@ module _ (font : List ℕ) (head : FontReader) (g : GlyphReader) (e : head ≡ h
       )
 
   module _ (i : ℕ) (h : i < g .«glyph_width» * g .«glyph_height») where
-    pub first-known : firstPair font (head .m0) (head .m1) (g .«bit_pos») ≡ Ends → ⊥
+    pub first-known : pairAt font (head .m0) (head .m1) (g .«bit_pos») ≡ Ends → ⊥
     first-known f = let p = first i h in let z : _≡_ {A = ℕ} 0 1 = cc (p .1 .0) in omega arith
 
-    pub stands-first : {q : Runs} → firstPair font (head .m0) (head .m1) (g .«bit_pos») ≡ Pair q → StandsAt font head g q i i
+    pub stands-first : {q : Runs} → pairAt font (head .m0) (head .m1) (g .«bit_pos») ≡ Pair q → StandsAt font head g q i i
     stands-first {q} f =
         let p = first i h in
         let same : p .0 ≡ q = cc (p .1 .0) in

@@ -33,8 +33,8 @@ onPair rest (Pair runs) = rest runs
 onPair rest Ends = cut
 
 -- A zero run then a one run, their numbers being m0 and m1 bits wide.
-unfoldable pub firstPair : List ℕ → ℕ → ℕ → ℕ → RunsRead
-firstPair font m0 m1 at =
+unfoldable pub pairAt : List ℕ → ℕ → ℕ → ℕ → RunsRead
+pairAt font m0 m1 at =
     unlessEnds (readAt font at m0) (λ zeros.
     unlessEnds (readAt font (at + m0) m1) (λ ones. Pair (record { zeros = zeros; ones = ones; «bit_pos» = at + m0 + m1 })))
 
@@ -44,4 +44,4 @@ nextPair font m0 m1 runs =
     unlessEnds (readAt font (runs .«bit_pos») 1) (λ repeat.
     pick (eqb repeat 1)
     (Pair (record { zeros = runs .zeros; ones = runs .ones; «bit_pos» = runs .«bit_pos» + 1 }))
-    (firstPair font m0 m1 (runs .«bit_pos» + 1)))
+    (pairAt font m0 m1 (runs .«bit_pos» + 1)))

@@ -19,8 +19,8 @@ use geometry::get_visible_rows;
 use rows::draw_rows;
 use runs::Runs;
 use runs::RunsRead;
-use runs::first_pair;
 use runs::next_pair;
+use runs::read_pair;
 use runs::seek;
 use types::font_reader::FontReader;
 use types::geometry::BoundingBox;
@@ -36,7 +36,7 @@ pub fn check_runs(font: &[u8], head: FontReader, glyph: GlyphReader) -> bool
     if missing == 0 {
         return true;
     }
-    let RunsRead::Pair(first) = first_pair(font, head.m0, head.m1, glyph.bit_pos) else {
+    let RunsRead::Pair(first) = read_pair(font, head.m0, head.m1, glyph.bit_pos) else {
         return false;
     };
     let mut runs = first;

@@ -3,7 +3,7 @@ ghost use mathlib.Core.Path.{_≡_};
 ghost use Prim.Native.Nat.{_+_, _*_, _<_};
 ghost use lib.Dec.{ltb};
 ghost use Rattle.integers.specs.Integers.{pick};
-ghost use Rattle.glyph_renderer.specs.RunReads.{Readable, firstPair, nextPair};
+ghost use Rattle.glyph_renderer.specs.RunReads.{Readable, pairAt, nextPair};
 ghost use Rattle.glyph_renderer.specs.Stands.{CheckedGlyph, StandsAt};
 ghost use Rattle.glyph_renderer.specs.declared.runs.RunsRead.the-variants.{Pair, Ends};
 use font_reader::glyph_reader::BitReader;
@@ -44,9 +44,9 @@ pub enum RunsRead {
 }
 
 // Both numbers of a pair, m0 and m1 bits wide.
-pub fn first_pair(font: &[u8], m0: u8, m1: u8, start: usize) -> RunsRead
+pub fn read_pair(font: &[u8], m0: u8, m1: u8, start: usize) -> RunsRead
     requires { ⌜ Readable (now font) m0 m1 start ⌝ }
-    ensures { λ r. ⌜ r ≡ firstPair (now (font .entry)) m0 m1 start ⌝ }
+    ensures { λ r. ⌜ r ≡ pairAt (now (font .entry)) m0 m1 start ⌝ }
 {
     let reader = BitReader { bit_pos: start };
     let UnsignedRead::Value(zeros, after_zeros) = reader.read_unsigned(font, m0) else {
@@ -80,7 +80,7 @@ pub fn next_pair(font: &[u8], m0: u8, m1: u8, runs: Runs) -> RunsRead
             bit_pos: after_repeat.bit_pos,
         });
     }
-    first_pair(font, m0, m1, after_repeat.bit_pos)
+    read_pair(font, m0, m1, after_repeat.bit_pos)
 }
 
 // The pair of a read before which the font cannot end, as the runs were checked.
@@ -109,7 +109,7 @@ pub fn seek(font: &[u8], head: FontReader, glyph: GlyphReader, pixel: usize) -> 
     requires { ⌜ CheckedGlyph (now font) head glyph × (pixel < glyph .«glyph_width» * glyph .«glyph_height») ⌝ }
     ensures { λ r. ⌜ StandsAt (now (font .entry)) head glyph (r .runs) (r .offset) pixel × (r .offset < r .runs .zeros + r .runs .ones) ⌝ }
 {
-    let mut runs = checked(first_pair(font, head.m0, head.m1, glyph.bit_pos));
+    let mut runs = checked(read_pair(font, head.m0, head.m1, glyph.bit_pos));
     let mut offset = pixel;
     while runs.count() <= offset {
         offset -= runs.count();

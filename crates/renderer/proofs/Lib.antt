@@ -1,3 +1,5 @@
 pub mod RangeLaws
 pub mod OriginLaws
 pub mod MeasureLaws
+pub mod SizeLaws
+pub mod DrawLaws

@@ -28,7 +28,7 @@ use Rattle.renderer.proofs.OriginLaws.{origin-is, call-refused, call-go
 use Rattle.renderer.proofs.RangeLaws.{Small, in-range-small, Within, advanced-start, has-room, within-next}
 
 -- the glyphs that the letters of an opened font show
-shown-glyph : (skip : Bool) (o : Outcome GlyphReader) (g : GlyphReader) → letter skip o ≡ shows g → o ≡ success g
+pub shown-glyph : (skip : Bool) (o : Outcome GlyphReader) (g : GlyphReader) → letter skip o ≡ shows g → o ≡ success g
 shown-glyph skip (success h) g e = cc
 shown-glyph skip (refused n c) g e = by (skip && eqb n 7) e
   where
@@ -53,7 +53,7 @@ pub record Reached (letters : ℕ → Letter) (lineHeight : ℕ) (origin : Point
   pub same : measureFrom letters lineHeight origin start (codePoints (decode text)) ≡ measureFrom letters lineHeight origin d rest
 
 module _ {letters : ℕ → Letter} {lineHeight : ℕ} {origin : Point} {text : List ℕ} (k : Checked text origin lineHeight) where
-  pub reached-start : Reached letters lineHeight origin text start 0
+  unfoldable pub reached-start : Reached letters lineHeight origin text start 0
   reached-start =
       let e = checked-characters k in
       record {
@@ -68,18 +68,19 @@ module _ {letters : ℕ → Letter} {lineHeight : ℕ} {origin : Point} {text : 
     pub reached-room : HasRoom origin d
     reached-room = has-room k (omega (arith, r .inside, k .short)) (r .within)
 
-    pub reached-end : length text ≤ at → measureFrom letters lineHeight origin start (codePoints (decode text)) ≡ success d
-    unfolding measureFrom
-    reached-end h =
-        let e : r .rest ≡ [] = ends (sym (r .decoded) ∙ at-end text at h) in
-        r .same ∙ rw e
+    pub reached-last : length text ≤ at → r .rest ≡ []
+    reached-last h = ends (sym (r .decoded) ∙ at-end text at h)
       where
         ends : {cs : List ℕ} → characters cs ≡ characters [] → cs ≡ []
         ends e = cc
 
+    pub reached-end : length text ≤ at → measureFrom letters lineHeight origin start (codePoints (decode text)) ≡ success d
+    unfolding measureFrom
+    reached-end h = r .same ∙ rw (reached-last h)
+
     -- at a character of n bytes
     module _ {c n : ℕ} (first : firstCharacter (drop at text) ≡ character c n) where
-      pub reached-next : (small : (c : ℕ) (g : GlyphReader) → letters c ≡ shows g → Small g) {d′ : RenderedDimensions}
+      unfoldable pub reached-next : (small : (c : ℕ) (g : GlyphReader) → letters c ≡ shows g → Small g) {d′ : RenderedDimensions}
           → step letters lineHeight origin d c ≡ success d′ → Reached letters lineHeight origin text d′ (at + n)
       reached-next small {d′} e =
           let p = position text at first in

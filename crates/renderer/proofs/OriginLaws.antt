@@ -30,7 +30,7 @@ use Rattle.renderer.proofs.RangeLaws.{newlines-length, newlines-most}
 
 -- ---- neither cause applies
 
-not-false : (t : Bool) → not t ≡ false → t ≡ true
+pub not-false : (t : Bool) → not t ≡ false → t ≡ true
 not-false true e = refl
 not-false false e = let z : _≡_ {A = ℕ} 0 1 = cc in absurd (omega arith)
 

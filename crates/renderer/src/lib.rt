@@ -2,5 +2,6 @@
 pub mod font_bounding_box;
 mod limits;
 mod origin;
+pub mod render;
 mod render_actions;
 pub mod rendered_dimensions;

@@ -1,8 +1,9 @@
 // The dimensions that a text has when it is drawn.
 ghost use mathlib.Core.Path.{_≡_};
 ghost use Prim.Native.Nat.{_≤_};
+ghost use Rattle.definitions.specs.Geometry.{InReach};
 ghost use Rattle.definitions.specs.Header.{Opened};
-ghost use Rattle.definitions.specs.TextSteps.{newlineStep, glyphStep, letterStep, step, measureFrom, start};
+ghost use Rattle.definitions.specs.TextSteps.{newlineStep, nextBox, glyphStep, letterStep, step, measureFrom, start};
 ghost use Rattle.definitions.specs.Calls.{characters, measuredLetter, measure, dimensionsOutcome};
 ghost use Rattle.renderer.specs.Letters.{asLetter};
 ghost use Rattle.renderer.specs.Ranges.{Near, HasRoom, Checked};
@@ -43,7 +44,20 @@ pub(crate) fn add_newline(dimensions: RenderedDimensions, line_height: u32) -> R
     }
 }
 
-// The glyph stands at the advance so far, and then adds its own.
+// A glyph stands at the advance so far ..
+pub(crate) fn get_next_bounding_box(
+    dimensions: RenderedDimensions,
+    origin: Point,
+    glyph: GlyphReader,
+) -> BoundingBox
+    requires { ⌜ HasRoom origin dimensions ⌝ }
+    ensures { λ r. ⌜ (r ≡ nextBox origin dimensions glyph) × InReach r ⌝ }
+{
+    let advance = dimensions.advance;
+    get_glyph_bounding_box(glyph, origin.x + advance.x, origin.y + advance.y)
+}
+
+// .. and then adds its own.
 pub(crate) fn add_glyph(
     dimensions: RenderedDimensions,
     origin: Point,
@@ -54,7 +68,7 @@ pub(crate) fn add_glyph(
 {
     let advance = dimensions.advance;
     let bounding_box = dimensions.bounding_box;
-    let glyph_box = get_glyph_bounding_box(glyph, origin.x + advance.x, origin.y + advance.y);
+    let glyph_box = get_next_bounding_box(dimensions, origin, glyph);
     RenderedDimensions {
         advance: Point {
             x: moved(advance.x, glyph.advance),

@@ -38,8 +38,8 @@ returns c =
     let a = c .before .before .before .before .args in
     sym (ap isWhole (no-pixels (a .font .now) (a .head) (a .glyph) (c .if1 .taken)))
 
-first-pair-requires : tie.Need-first-pair-requires Inv-loop μ-loop
-first-pair-requires c κs = search needs
+read-pair-requires : tie.Need-read-pair-requires Inv-loop μ-loop
+read-pair-requires c κs = search needs
 
 enum-known-first : tie.Need-enum-known-first Inv-loop μ-loop
 enum-known-first c = search needs
@@ -50,13 +50,13 @@ enum-told c = search needs
 returns-2 : tie.Need-returns-2 Inv-loop μ-loop
 returns-2 c =
     let a = c .before .before .before .before .before .before .before .args in
-    let e = sym (c .before .before .first-pair .ensures) ∙ c .enum-told .given .1 in
+    let e = sym (c .before .before .read-pair .ensures) ∙ c .enum-told .given .1 in
     sym (ap isWhole (glyph-gives (a .font .now) (a .head) (a .glyph) (c .before .before .before .if1 .left)) ∙ rw e)
 
 loop-holds : tie.Need-loop-holds Inv-loop μ-loop
 loop-holds c =
     let a = c .before .before .before .before .before .before .before .before .args in
-    let e = sym (c .before .before .before .first-pair .ensures) ∙ c .before .first .given .1 in
+    let e = sym (c .before .before .before .read-pair .ensures) ∙ c .before .first .given .1 in
     (first-place (a .font .now) (a .head .m0) (a .head .m1) (a .glyph .«bit_pos») _ e .1, refl)
 
 -- the glyph's runs are those from the first pair on
@@ -65,7 +65,7 @@ gives-first : (c : tie.At-loop Inv-loop μ-loop) → let a = c .before .before .
     ≡ isWhole (given (a .font .now) (a .head .m0) (a .head .m1) (a .glyph .«glyph_width» * a .glyph .«glyph_height») (c .before .before .first .given .0 .0))
 gives-first c =
     let a = c .before .before .before .before .before .before .before .before .before .args in
-    let e = sym (c .before .before .before .before .first-pair .ensures) ∙ c .before .before .first .given .1 in
+    let e = sym (c .before .before .before .before .read-pair .ensures) ∙ c .before .before .first .given .1 in
     ap isWhole (glyph-gives (a .font .now) (a .head) (a .glyph) (c .before .before .before .before .before .if1 .left)) ∙ rw e
 
 count-requires : tie.Need-count-requires Inv-loop μ-loop
@@ -125,7 +125,7 @@ check-runs-spec =
     cast-missing-2
     mul-missing
     returns
-    first-pair-requires
+    read-pair-requires
     enum-known-first
     enum-told
     returns-2

@@ -69,7 +69,7 @@ returns-2 c =
     let q = c .before .before in
     let s = c .before .before .before .before .before .before .before .before .before .before in
     let a = s .args in
-    sym (hidden-rows (a .buffer .now) (s .pre .1 .1) (a .color) (pixelsOf (a .font .now) (a .glyph)) (area (q .before)) (rows-are q) (q .get-visible-rows .result .past) (c .if1 .taken)) ∙ shows q
+    sym (hidden-rows (a .buffer .now) (s .pre .1 .1) (a .color) (pixelsOf (a .font .now) (a .glyph)) (area (q .before)) (rows-are q) (q .get-visible-rows .result .past) (omega arith)) ∙ shows q
 
 cast-seek : tie.Need-cast-seek
 cast-seek c = search needs
@@ -91,7 +91,8 @@ mul-seek c =
     let g = c .before .before .before .before .before .before .before .before .before .before .before .before .args .glyph in
     let w : g .«glyph_width» ≤ 255 = search needs in
     let h : g .«glyph_height» ≤ 255 = search needs in
-    omega (arith, pixel (c .before .before), mul-le-mul w h)
+    let f : c .before .before .before .before .get-visible-rows .result .first ≤ 255 = omega (arith, inside (c .before .before), c .before .before .if1 .left) in
+    omega (arith, mul-le-mul f w, mul-le-mul f h)
 
 seek-requires : tie.Need-seek-requires
 seek-requires c κs = (c .before .before .before .before .before .before .before .before .before .before .before .before .pre .0, pixel (c .before .before))

@@ -35,8 +35,8 @@ returns-2 : tie.Need-returns-2
 unfolding nextPair
 returns-2 c = let r = repeat (c .before) in simp (r .0, r .1, eq-eqb _ _ (c .if1 .taken))
 
-first-pair-requires : tie.Need-first-pair-requires
-first-pair-requires c κs =
+read-pair-requires : tie.Need-read-pair-requires
+read-pair-requires c κs =
     let s = c .before .before .before .before .before .before in
     let r = repeat (c .before) in
     let i = read-inside (s .args .font .now) (s .args .runs .«bit_pos») 1 _ (r .0) .0 in
@@ -46,7 +46,7 @@ returns-3 : tie.Need-returns-3
 unfolding nextPair
 returns-3 c =
     let r = repeat (c .before .before) in
-    simp (r .0, sym (r .1), ne-eqb _ _ (c .before .if1 .left)) (c .first-pair .ensures)
+    simp (r .0, sym (r .1), ne-eqb _ _ (c .before .if1 .left)) (c .read-pair .ensures)
 
 pub next-pair-spec : {M : Type 1} → statement M
 next-pair-spec =
@@ -57,5 +57,5 @@ next-pair-spec =
     enum-told
     returns
     returns-2
-    first-pair-requires
+    read-pair-requires
     returns-3)

@@ -18,13 +18,13 @@ Inv-loop font head pixel runs₀ offset₀ runs offset =
 abbrev μ-loop : tie.MeasureT-loop
 μ-loop font head pixel runs₀ offset₀ runs offset = 8 * length font - runs .«bit_pos»
 
-first-pair-requires : tie.Need-first-pair-requires Inv-loop μ-loop
-first-pair-requires c κs = search needs
+read-pair-requires : tie.Need-read-pair-requires Inv-loop μ-loop
+read-pair-requires c κs = search needs
 
 checked-requires : tie.Need-checked-requires Inv-loop μ-loop
 checked-requires c κs =
     let s = c .before .before in
-    λ e. first-known (s .args .font .now) (s .args .head) (s .args .glyph) (s .pre .0 .opened .read) (s .pre .0 .whole) (s .args .pixel) (s .pre .1) (sym (c .first-pair .ensures) ∙ e)
+    λ e. first-known (s .args .font .now) (s .args .head) (s .args .glyph) (s .pre .0 .opened .read) (s .pre .0 .whole) (s .args .pixel) (s .pre .1) (sym (c .read-pair .ensures) ∙ e)
 
 loop-holds : tie.Need-loop-holds Inv-loop μ-loop
 loop-holds c = λ n ps h s. s
@@ -36,7 +36,7 @@ standing c =
     let s = c .before .before .before .before in
     c .loop .inv _ _ (s .pre .1)
     (stands-first (s .args .font .now) (s .args .head) (s .args .glyph) (s .pre .0 .opened .read) (s .pre .0 .whole) (s .args .pixel) (s .pre .1)
-    (sym (c .before .before .first-pair .ensures) ∙ c .before .checked .ensures))
+    (sym (c .before .before .read-pair .ensures) ∙ c .before .checked .ensures))
 
 count-requires : tie.Need-count-requires Inv-loop μ-loop
 count-requires c κs = search needs
@@ -73,7 +73,7 @@ seek-spec =
     (tie.spec
     Inv-loop
     μ-loop
-    first-pair-requires
+    read-pair-requires
     checked-requires
     loop-holds
     count-requires

@@ -1,13 +1,13 @@
--- Each read answers what `readAt` says of it (ReadLaws of the bit reader), and `firstPair` goes by the same two reads.
+-- Each read answers what `readAt` says of it (ReadLaws of the bit reader), and `pairAt` goes by the same two reads.
 use mathlib.Core.Path.{_≡_, sym}
 use Prim.Native.Nat.{_+_}
 use native.Mathlib.Omega.{arith}
 use Rattle.definitions.specs.Bits.{got, readAt}
 use Rattle.font_reader.proofs.ReadLaws.{unsigned-value, unsigned-ends}
-use Rattle.glyph_renderer.specs.RunReads.{firstPair}
+use Rattle.glyph_renderer.specs.RunReads.{pairAt}
 use borrow.Author.Needs.{needs}
-use Rattle.glyph_renderer.proofs.runs.first_pair.Statement.{statement}
-use Rattle.glyph_renderer.proofs.runs.first_pair.Tie as tie
+use Rattle.glyph_renderer.proofs.runs.read_pair.Statement.{statement}
+use Rattle.glyph_renderer.proofs.runs.read_pair.Tie as tie
 
 read-unsigned-requires : tie.Need-read-unsigned-requires
 read-unsigned-requires c κs = search needs
@@ -19,7 +19,7 @@ enum-told : tie.Need-enum-told
 enum-told c = search needs
 
 returns : tie.Need-returns
-unfolding firstPair
+unfolding pairAt
 returns c =
     let a = c .before .before .before .before .args in
     simp (unsigned-ends (readAt (a .font .now) (a .start) (a .m0)) _ (c .before .before .read-unsigned .ensures) (c .enum-told .given .1))
@@ -39,21 +39,21 @@ enum-told-2 : tie.Need-enum-told-2
 enum-told-2 c = search needs
 
 returns-2 : tie.Need-returns-2
-unfolding firstPair
+unfolding pairAt
 returns-2 c =
     let z = zeros (c .before .before .before) in
     let e = unsigned-ends _ _ (rw (z .1) at (c .before .before .read-unsigned2 .ensures)) (c .enum-told2 .given .1) in
     simp (z .0, e)
 
 returns-3 : tie.Need-returns-3
-unfolding firstPair
+unfolding pairAt
 returns-3 c =
     let z = zeros (c .before .before .before .before) in
     let o = unsigned-value _ _ (rw (z .1) at (c .before .before .before .read-unsigned2 .ensures)) (c .before .ones .given .1) in
     simp (z .0, o .0, o .1)
 
-pub first-pair-spec : {M : Type 1} → statement M
-first-pair-spec =
+pub read-pair-spec : {M : Type 1} → statement M
+read-pair-spec =
     tie.close
     (tie.spec
     read-unsigned-requires

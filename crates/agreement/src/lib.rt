@@ -1,0 +1,79 @@
+// Document 01's third demand, over the public calls themselves: two drawings of one text, and its measuring, agree.
+ghost use Rattle.agreement.specs.Demand.{request, panel, ThirdDemand};
+use renderer::render::render;
+use renderer::rendered_dimensions::get_rendered_dimensions;
+use types::geometry::Point;
+use types::results::DimensionsResult;
+use types::style::FontStyle;
+
+// What each of the four calls answered.
+pub struct Answers {
+    pub first: DimensionsResult,
+    pub second: DimensionsResult,
+    pub first_measured: DimensionsResult,
+    pub second_measured: DimensionsResult,
+}
+
+// Draws one text on two framebuffers, on each with a font of its own, and measures it with both fonts. Nothing is skipped.
+pub fn draw_twice_and_measure(
+    first_font: &[u8],
+    second_font: &[u8],
+    text: &[u8],
+    position: Point,
+    style: FontStyle,
+    line_height: u32,
+    first_width: usize,
+    first_height: usize,
+    first_buffer: &mut [u8],
+    second_width: usize,
+    second_height: usize,
+    second_buffer: &mut [u8],
+) -> Answers
+    ensures { λ r. ⌜ ThirdDemand (now («first_font» .entry)) (now («second_font» .entry)) (request (now (text .entry)) position style «line_height») (panel «first_width» «first_height» (now («first_buffer» .entry))) (panel «second_width» «second_height» (now («second_buffer» .entry))) r (now («first_buffer» .exit)) (now («second_buffer» .exit)) ⌝ }
+{
+    let first = render(
+        first_font,
+        text,
+        position,
+        style,
+        line_height,
+        false,
+        first_width,
+        first_height,
+        &mut first_buffer[..],
+    );
+    let second = render(
+        second_font,
+        text,
+        position,
+        style,
+        line_height,
+        false,
+        second_width,
+        second_height,
+        &mut second_buffer[..],
+    );
+    let vertical_pos = style.vertical_pos;
+    let first_measured = get_rendered_dimensions(
+        first_font,
+        text,
+        position,
+        vertical_pos,
+        line_height,
+        false,
+    );
+    let second_measured = get_rendered_dimensions(
+        second_font,
+        text,
+        position,
+        vertical_pos,
+        line_height,
+        false,
+    );
+    Answers {
+        first,
+        second,
+        first_measured,
+        second_measured,
+    }
+}

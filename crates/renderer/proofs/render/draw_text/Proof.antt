@@ -1,0 +1,127 @@
+-- The loop keeps that the rest of the text draws from here on what the whole text draws from its start (`DrawnTo`).
+use mathlib.Core.Path.{_≡_, sym, ap, subst, _∙_}
+use Prim.Native.Nat.{ℕ, _-_}
+use native.Mathlib.Omega.{arith}
+use lib.ListN.{length, drop}
+use borrow.Author.Needs.{needs}
+use Rattle.content.specs.Text.{asCharacter}
+use Rattle.definitions.specs.Utf8.{character, firstCharacter}
+use Rattle.definitions.specs.Calls.{drawnLetter, pixelsOf, dimensionsOutcome}
+use Rattle.definitions.proofs.Utf8Laws.{Position, position, none-malformed}
+use Rattle.glyph_renderer.specs.Drawing.{BufferFits}
+use Rattle.renderer.proofs.MeasureLaws.{reached-room, reached-end, reached-stops}
+use Rattle.renderer.proofs.DrawLaws.{drawn-small, DrawnTo, drawn-start, drawn-end, drawn-next, drawn-stops}
+use Rattle.renderer.proofs.render.draw_text.Statement.{statement}
+use Rattle.renderer.proofs.render.draw_text.Tie as tie
+
+abbrev Inv-loop : tie.InvT-loop
+Inv-loop font head text origin line-height ignore-unknown-chars color buffer₀ width height dimensions₀ at₀ buffer dimensions at =
+    DrawnTo width color (pixelsOf font) (drawnLetter font ignore-unknown-chars) line-height origin text buffer₀ buffer dimensions at
+
+abbrev μ-loop : tie.MeasureT-loop
+μ-loop font head text origin line-height ignore-unknown-chars color buffer₀ width height dimensions₀ at₀ buffer dimensions at =
+    length text - at
+
+-- the character that was read
+first : (c : tie.After-known-told Inv-loop μ-loop)
+    → firstCharacter (drop (c .before .before .before .before .before .loop .at) (c .before .before .before .before .before .before .before .before .before .args .text .now))
+    ≡ character (c .before .next .given .0 .0) (c .before .next .given .0 .1 .0)
+first c = sym (c .before .before .before .next-char .ensures) ∙ ap asCharacter (c .before .next .given .1)
+
+here : (c : tie.After-known-told2 Inv-loop μ-loop)
+    → Position (c .before .before .before .before .before .before .before .before .before .before .before .before .before .before .before .before .args .text .now) (c .before .before .before .before .before .before .before .before .before .before .before .before .loop .at) (c .before .before .before .before .before .before .before .before .next .given .0 .0) (c .before .before .before .before .before .before .before .before .next .given .0 .1 .0)
+here c = position _ _ (first (c .before .before .before .before .before .before .before))
+
+loop-holds : tie.Need-loop-holds Inv-loop μ-loop
+loop-holds c = drawn-start _ _ _ _ _ _ _ _ (c .before .before .before .pre .1 .0)
+
+next-char-requires : tie.Need-next-char-requires Inv-loop μ-loop
+next-char-requires c κs = search needs
+
+enum-known-next : tie.Need-enum-known-next Inv-loop μ-loop
+enum-known-next c = search needs
+
+enum-told : tie.Need-enum-told Inv-loop μ-loop
+enum-told c = search needs
+
+same-length : tie.Need-same-length Inv-loop μ-loop
+same-length c = c .before .before .before .before .loop .inv .kept
+
+returns : tie.Need-returns Inv-loop μ-loop
+returns c =
+    let l = c .before .before .before .before .loop in
+    absurd (none-malformed _ (l .at) (c .before .before .before .loop-test .taken) (l .inv .reached .decoded) (sym (c .before .before .next-char .ensures) ∙ ap asCharacter (c .enum-told .given .1)))
+
+draw-char-requires : tie.Need-draw-char-requires Inv-loop μ-loop
+draw-char-requires c κs =
+    let l = c .before .before .before .before .before .before in
+    let s = c .before .before .before .before .before .before .before .before .before .before in
+    (s .pre .0, (reached-room (s .pre .1 .0) (l .loop .inv .reached), (s .pre .1 .0 .line, subst (λ (n : ℕ). BufferFits n (s .args .width) (s .args .height)) (sym (l .loop .inv .kept)) (s .pre .1 .1))))
+
+enum-known-drawn : tie.Need-enum-known-drawn Inv-loop μ-loop
+enum-known-drawn c = search needs
+
+enum-told-2 : tie.Need-enum-told-2 Inv-loop μ-loop
+enum-told-2 c = search needs
+
+same-length-2 : tie.Need-same-length-2 Inv-loop μ-loop
+same-length-2 c = c .before .before .before .buffer .given ∙ c .before .before .before .before .before .before .before .before .before .before .before .loop .inv .kept
+
+returns-2 : tie.Need-returns-2 Inv-loop μ-loop
+returns-2 c =
+    let k = c .before .before .before .before .before .before in
+    let t = c .before .before .before .before .before .before .before .before .before .before .before .loop .inv in
+    let s = c .before .before .before .before .before .before .before .before .before .before .before .before .before .before .before in
+    let e = ap dimensionsOutcome (c .enum-told2 .given .1) in
+    let stops = sym (c .before .before .before .before .draw-char .ensures .0) ∙ e in (
+      e ∙ sym (reached-stops (s .pre .1 .0) (t .reached) (first k) stops),
+      drawn-stops _ _ _ _ _ _ _ _ (s .pre .1 .0) t (first k) stops (c .before .before .before .before .draw-char .ensures .1),
+    )
+
+add-at : tie.Need-add-at Inv-loop μ-loop
+add-at c = let p = here c in omega (arith, c .before .before .before .before .before .before .before .before .before .before .before .before .before .before .before .before .pre .1 .0 .short)
+
+loop-less : tie.Need-loop-less Inv-loop μ-loop
+loop-less c = let p = here c in omega arith
+
+loop-again : tie.Need-loop-again Inv-loop μ-loop
+loop-again c =
+    let k = c .before .before .before .before .before .before .before in
+    let t = c .before .before .before .before .before .before .before .before .before .before .before .before .loop .inv in
+    let s = c .before .before .before .before .before .before .before .before .before .before .before .before .before .before .before .before in
+    drawn-next _ _ _ _ _ _ _ _ (s .pre .1 .0) t (first k) (drawn-small (s .pre .0) _)
+    (sym (c .before .before .before .before .before .draw-char .ensures .0) ∙ ap dimensionsOutcome (c .before .drawn .given .1))
+    (c .before .before .before .before .before .draw-char .ensures .1)
+    (c .before .before .before .before .buffer .given)
+
+same-length-3 : tie.Need-same-length-3 Inv-loop μ-loop
+same-length-3 c = c .before .loop .inv .kept
+
+returns-3 : tie.Need-returns-3 Inv-loop μ-loop
+returns-3 c =
+    let t = c .before .loop .inv in
+    let k = c .before .before .before .before .before .pre .1 .0 in
+    (sym (reached-end k (t .reached) (c .loop-test .left)), drawn-end _ _ _ _ _ _ _ _ k t (c .loop-test .left))
+
+pub draw-text-spec : {M : Type 1} → statement M
+draw-text-spec =
+    tie.close
+    (tie.spec
+    Inv-loop
+    μ-loop
+    loop-holds
+    next-char-requires
+    enum-known-next
+    enum-told
+    same-length
+    returns
+    draw-char-requires
+    enum-known-drawn
+    enum-told-2
+    same-length-2
+    returns-2
+    add-at
+    loop-less
+    loop-again
+    same-length-3
+    returns-3)

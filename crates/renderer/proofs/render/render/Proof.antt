@@ -1,0 +1,150 @@
+-- The causes are tested in the definition's order; where none applies, the text is drawn. DrawLaws says what is left of a call.
+use mathlib.Core.Path.{_≡_, sym, ap, _∙_}
+use mathlib.Core.Bool.{false}
+use mir.Syntax.{w8}
+use mir.Val.{SFits}
+use borrow.Author.Needs.{needs}
+use Rattle.types.specs.declared.font_reader.FontReader.{FontReader}
+use Rattle.definitions.specs.Refusals.{success}
+use Rattle.definitions.specs.Framebuffer.{framebufferCause}
+use Rattle.definitions.specs.Limits.{backgroundCause}
+use Rattle.definitions.specs.Calls.{openFont, fontReaderOutcome}
+use Rattle.definitions.proofs.OpenedLaws.{opened}
+use Rattle.renderer.specs.Sizes.{colorOff}
+use Rattle.renderer.specs.Origins.{checkedOrigin, originOutcome}
+use Rattle.renderer.proofs.OriginLaws.{passed, passed-checked}
+use Rattle.renderer.proofs.SizeLaws.{size-fits, color-is}
+use Rattle.renderer.proofs.DrawLaws.{font-refused, size-refused, place-refused, color-refused, drawn-whole}
+use Rattle.renderer.proofs.render.render.Statement.{statement}
+use Rattle.renderer.proofs.render.render.Tie as tie
+
+-- opening succeeded
+module _ (c : tie.After-known-told2) where
+  abbrev entry : tie.Start
+  entry = c .before .before .before .before .before .before .before
+
+  abbrev head : FontReader
+  head = c .before .head .given .0 .0
+
+  opens : openFont (entry .args .font .now) ≡ success head
+  opens = sym (c .before .before .before .new-from-raw-data .ensures) ∙ ap fontReaderOutcome (c .before .head .given .1)
+
+  ascent-fits : SFits w8 (head .ascent)
+  ascent-fits = search needs
+
+  descent-fits : SFits w8 (head .descent)
+  descent-fits = search needs
+
+-- .. the framebuffer has its size
+module _ (c : tie.Else1) where
+  size-in : framebufferCause (entry (c .before .before) .args .width) (entry (c .before .before) .args .height) (entry (c .before .before) .args .buffer .now) .applies ≡ false
+  size-in = sym (c .before .has-bad-size .ensures) ∙ c .if1 .left
+
+-- .. and the text and its place passed
+module _ (c : tie.After-known-told4) where
+  abbrev sized : tie.Else1
+  sized = c .before .before .before .before
+
+  abbrev font-known : tie.After-known-told2
+  font-known = sized .before .before
+
+  passes : let a = entry font-known .args in checkedOrigin (head font-known) (a .text .now) (a .position) (a .style .«vertical_pos») (a .line-height) ≡ success (c .before .origin .given .0 .0)
+  passes = sym (c .before .before .before .checked-origin .ensures) ∙ ap originOutcome (c .before .origin .given .1)
+
+  -- the answer to the colour is the cause's
+  color-tested : let a = entry font-known .args in backgroundCause (a .style .color) (a .font .now) .applies ≡ colorOff (a .style .color) (head font-known .«supports_background_color»)
+  color-tested = sym (color-is (opened _ (head font-known) (opens font-known)) (entry font-known .args .style .color))
+
+new-from-raw-data-requires : tie.Need-new-from-raw-data-requires
+new-from-raw-data-requires c κs = search needs
+
+enum-known-error : tie.Need-enum-known-error
+enum-known-error c = search needs
+
+enum-known-head : tie.Need-enum-known-head
+enum-known-head c = search needs
+
+has-bad-size-requires : tie.Need-has-bad-size-requires
+has-bad-size-requires c κs = search needs
+
+returns : tie.Need-returns
+returns c =
+    let k = c .before .before in
+    let a = entry k .args in
+    size-refused (a .font .now) (a .text .now) (a .position) (a .style) (a .line-height) (a .ignore-unknown-chars) (a .width) (a .height) (a .buffer .now) (opens k) (sym (c .before .has-bad-size .ensures) ∙ c .if1 .taken)
+
+checked-origin-requires : tie.Need-checked-origin-requires
+checked-origin-requires c κs = search needs
+
+enum-known-error-2 : tie.Need-enum-known-error-2
+enum-known-error-2 c = search needs
+
+enum-known-origin : tie.Need-enum-known-origin
+enum-known-origin c = search needs
+
+has-bad-color-requires : tie.Need-has-bad-color-requires
+has-bad-color-requires c κs = search needs
+
+returns-2 : tie.Need-returns-2
+returns-2 c =
+    let p = c .before .before in
+    let k = font-known p in
+    let a = entry k .args in
+    color-refused (a .font .now) (a .text .now) (a .position) (a .style) (a .line-height) (a .ignore-unknown-chars) (a .width) (a .height) (a .buffer .now) (opens k) (size-in (sized p)) (passes p)
+    (color-tested p ∙ sym (c .before .has-bad-color .ensures) ∙ c .if2 .taken)
+
+draw-text-requires : tie.Need-draw-text-requires
+draw-text-requires c κs =
+    let p = c .before .before .before in
+    let k = font-known p in
+    let a = entry k .args in (
+      opened _ (head k) (opens k),
+      (
+        passed-checked (head k) (a .text .now) (a .position) (a .style .«vertical_pos») (a .line-height) (ascent-fits k) (descent-fits k)
+            (passed (head k) (a .text .now) (a .position) (a .style .«vertical_pos») (a .line-height) _ (passes p)),
+        size-fits (a .width) (a .height) _ (size-in (sized p)),
+      ),
+    )
+
+returns-3 : tie.Need-returns-3
+returns-3 c =
+    let a = c .before .before .before .before .before .before .before .args in
+    font-refused (a .font .now) (a .text .now) (a .position) (a .style) (a .line-height) (a .ignore-unknown-chars) (a .width) (a .height) (a .buffer .now) (sym (c .before .before .before .new-from-raw-data .ensures) ∙ ap fontReaderOutcome (c .before .error .given .1))
+
+returns-4 : tie.Need-returns-4
+returns-4 c =
+    let e = c .before .before .before .before in
+    let k = e .before .before in
+    let a = entry k .args in
+    place-refused (a .font .now) (a .text .now) (a .position) (a .style) (a .line-height) (a .ignore-unknown-chars) (a .width) (a .height) (a .buffer .now) (opens k) (size-in e) (sym (c .before .before .before .checked-origin .ensures) ∙ ap originOutcome (c .before .error2 .given .1))
+
+same-length : tie.Need-same-length
+same-length c = search needs
+
+returns-5 : tie.Need-returns-5
+returns-5 c =
+    let p = c .before .before .before .before .before .before in
+    let k = font-known p in
+    let a = entry k .args in
+    let whole = drawn-whole (a .font .now) (a .text .now) (a .position) (a .style) (a .line-height) (a .ignore-unknown-chars) (a .width) (a .height) (a .buffer .now) (opens k) (size-in (sized p)) (passes p) (color-tested p ∙ sym (c .before .before .before .before .before .has-bad-color .ensures) ∙ c .before .before .before .before .if2 .left) in
+    (c .before .before .draw-text .ensures .0 ∙ whole .0, c .before .before .draw-text .ensures .1 ∙ whole .1)
+
+pub render-spec : {M : Type 1} → statement M
+render-spec =
+    tie.close
+    (tie.spec
+    new-from-raw-data-requires
+    enum-known-error
+    enum-known-head
+    has-bad-size-requires
+    returns
+    checked-origin-requires
+    enum-known-error-2
+    enum-known-origin
+    has-bad-color-requires
+    returns-2
+    draw-text-requires
+    returns-3
+    returns-4
+    same-length
+    returns-5)
