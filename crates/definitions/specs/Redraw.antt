@@ -36,10 +36,12 @@ abbrev pub panel : ℕ → ℕ → List ℕ → Panel
 panel width height bytes = record { width = width; height = height; before = bytes }
 
 -- A framebuffer of the wrong size is not filled: drawing then refuses it.
+abbrev pub clearedBuffer : ℕ → Panel → BoundingBox → List ℕ
+clearedBuffer color p box =
+    pick (framebufferCause (p .width) (p .height) (p .before) .applies) (p .before) (filled p color box (p .before))
+
 abbrev pub cleared : ℕ → Panel → BoundingBox → Panel
-cleared color p box =
-    panel (p .width) (p .height)
-    (pick (framebufferCause (p .width) (p .height) (p .before) .applies) (p .before) (filled p color box (p .before)))
+cleared color p box = panel (p .width) (p .height) (clearedBuffer color p box)
 
 -- What the step answers, and what the framebuffer then holds, by what the old reading measures. Where that is refused, nothing
 -- is filled or drawn.

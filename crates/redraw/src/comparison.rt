@@ -1,5 +1,6 @@
 // Comparing two framebuffers.
 ghost use mathlib.Core.Path.{_≡_};
+ghost use mathlib.Core.Bool.{true};
 ghost use lib.ListN.{length};
 ghost use Rattle.redraw.specs.Differences.{differences};
 
@@ -17,4 +18,14 @@ pub fn count_differences(a: &[u8], b: &[u8]) -> usize
         i += 1;
     }
     n
+}
+
+// Whether two byte strings are the same.
+pub fn is_same(a: &[u8], b: &[u8]) -> bool
+    ensures { λ r. ⌜ (r ≡ true → now (a .entry) ≡ now (b .entry)) × (now (a .entry) ≡ now (b .entry) → r ≡ true) ⌝ }
+{
+    if a.len() != b.len() {
+        return false;
+    }
+    count_differences(a, b) == 0
 }
