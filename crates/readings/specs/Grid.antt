@@ -30,3 +30,10 @@ pub record SheetFits (width height ground screen alone band : ℕ) : Type 0 wher
   pub as-screen : ground ≡ screen
   pub as-alone : ground ≡ alone
   pub enough : band ≡ 262000
+
+-- a framebuffer within 01's limits
+pub record PlaceFits (width height : ℕ) : Type 0 where
+  pub some-wide : 1 ≤ width
+  pub wide : width ≤ 256
+  pub some-high : 1 ≤ height
+  pub high : height ≤ 256

@@ -4,5 +4,6 @@ pub mod check;
 pub mod extent;
 pub mod grid;
 pub mod ground;
+pub mod program;
 pub mod sheet;
 pub mod texts;
