@@ -1,12 +1,14 @@
 -- Filling the box of a reading that was drawn on the background colour brings back what the framebuffer held before: inside the
 -- box it was that colour, and outside nothing had changed, by demand 3. Assumes nothing.
 use mathlib.Core.Path.{_≡_, refl, sym, ap, subst, _∙_}
-use mathlib.Core.Bool.{Bool, true, false}
+use mathlib.Core.Bool.{Bool, true, false, _||_, not}
 use mathlib.Core.List.{List, [], _++_, append-nil}
 use Prim.Native.Nat.{ℕ, suc, _+_, _*_, _≤_, _<_}
 use native.Mathlib.Nat.{mul-le-mul-right, mul-comm}
 use native.Mathlib.Decide.{decLt}
 use native.Mathlib.Omega.{arith}
+use borrow.Author.Tests.{eqb-false}
+use lib.Dec.{eqb, ltb}
 use lib.IntN.{ℤ, pos}
 use lib.ListN.{length, getD}
 use Rattle.integers.specs.Integers.{pick}
@@ -17,12 +19,15 @@ use Rattle.types.specs.declared.geometry.RenderedDimensions.{RenderedDimensions
 use Rattle.definitions.specs.Refusals.{success, anyApplies}
 use Rattle.definitions.specs.Geometry.{InsideBox}
 use Rattle.definitions.specs.Picture.{Paint, keep, put, Picture, covers, textPicture}
-use Rattle.definitions.specs.Framebuffer.{over, shown}
-use Rattle.definitions.specs.Calls.{drawCauses, drawnText, pixelsOf, drawBuffer}
-use Rattle.definitions.specs.Agreement.{Request, Panel, WithinLimits, drawn, after, pixel, KeptOutside, TwoDrawings, Agree}
-use Rattle.definitions.specs.Redraw.{fillPicture, filled, AllOf}
+use Rattle.definitions.specs.Framebuffer.{over, shown, sideOff, framebufferCause}
+use Rattle.definitions.specs.Text.{dimensions}
+use Rattle.definitions.specs.Calls.{drawCauses, drawnText, pixelsOf, draw, drawBuffer}
+use Rattle.definitions.specs.Agreement.{Request, Panel, limits, WithinLimits, drawn, after, measured, pixel, KeptOutside, TwoDrawings, Agree}
+use Rattle.definitions.specs.Redraw.{fillPicture, filled, AllOf, panel, cleared, redrawnBuffer, Holds}
 use Rattle.definitions.proofs.FramebufferLaws.{length-shown, shown-at, same-pixels}
 use Rattle.definitions.proofs.PictureLaws.{covers-inside, inside-covers}
+use Rattle.definitions.proofs.OpenedLaws.{or-false}
+use Rattle.definitions.proofs.RefusalLaws.{succeeded, each-off, all-off}
 use Rattle.definitions.proofs.Agreement.{agreement, size}
 
 -- the framebuffer keeps its length
@@ -40,7 +45,7 @@ length-after font r p =
     (p .before)
 
 -- a pixel of the buffer lies in a row of the framebuffer
-row-below : (width height column row : ℕ) → row * width + column < width * height → row < height
+pub row-below : (width height column row : ℕ) → row * width + column < width * height → row < height
 row-below width height column row h = by (decLt row height)
   where
     by : Dec (row < height) → row < height
@@ -88,3 +93,59 @@ module _ (font : List ℕ) (r : Request) (p : Panel) (d : RenderedDimensions) (w
             let k = row-below (p .width) (p .height) column row (omega (arith, size font r p within)) in
             shown-at (p .width) (fillPicture color (d .«bounding_box»)) (after font r p) column row c (omega (arith, length-after font r p))
             ∙ restored (d .«bounding_box») refl column row c k
+
+-- ---- the step
+
+within-limits : (font : List ℕ) (r : Request) (p : Panel) (d : RenderedDimensions) → drawn font r p ≡ success d → WithinLimits font r p
+unfolding draw
+within-limits font r p d e =
+    let h =
+    succeeded (dimensions (drawnText font (r .text) (r .position) (r .style .«vertical_pos») (r .lineHeight) false)) d
+    (drawCauses font (r .text) (r .position) (r .style) (r .lineHeight) (p .width) (p .height) (p .before)) e
+    in
+    let o = each-off (drawCauses font (r .text) (r .position) (r .style) (r .lineHeight) (p .width) (p .height) (p .before)) (h .0) in
+    all-off (limits font r p) (o .0, (o .1 .0, (o .1 .1 .0, (o .1 .1 .1 .0, (o .1 .1 .1 .1 .0, tt)))))
+
+some-width : (font : List ℕ) (r : Request) (p : Panel) → WithinLimits font r p → 0 < p .width
+some-width font r p within =
+    let o = each-off (limits font r p) within in
+    let a = or-false (sideOff (p .width) || sideOff (p .height)) (not (eqb (length (p .before)) (p .width * p .height))) (o .1 .1 .0) .0 in
+    let b = or-false (sideOff (p .width)) (sideOff (p .height)) a .0 in
+    let none = eqb-false (p .width) 0 (or-false (eqb (p .width) 0) (ltb 256 (p .width)) b .0) in
+    omega arith
+
+module _ (font : List ℕ) (old new : Request) (color width height : ℕ) (entry ground : List ℕ) (d : RenderedDimensions)
+    (holds : Holds font old color width height entry ground d) where
+  abbrev base : Panel
+  base = panel width height ground
+
+  within : WithinLimits font old base
+  within = within-limits font old base d (holds .succeeded)
+
+  old-measured : measured font old ≡ success d
+  old-measured =
+      agreement font [] old base base d record {
+        first-within = within;
+        second-within = subst (λ (f : List ℕ). WithinLimits f old base) (sym (append-nil font)) within;
+        as-wide = omega arith;
+        as-high = omega arith;
+        first-succeeds = holds .succeeded;
+      } .first-measured
+
+  sized : framebufferCause width height entry .applies ≡ false
+  sized =
+      let o = each-off (limits font old base) within in
+      let l : length entry ≡ length ground = ap length (holds .is-drawn) ∙ length-after font old base in
+      ap (λ (n : ℕ). sideOff width || sideOff height || not (eqb n (width * height))) l ∙ o .1 .1 .0
+
+  brought-back : cleared color (panel width height entry) (d .«bounding_box») ≡ base
+  brought-back =
+      let e : filled base color (d .«bounding_box») entry ≡ ground =
+      ap (filled base color (d .«bounding_box»)) (holds .is-drawn)
+      ∙ fill-restores font old base d within (holds .succeeded) color (holds .all-of-it) (some-width font old base within)
+      in
+      ap (panel width height) (rw sized e)
+
+  pub no-mark-left : redrawnBuffer font old new color (panel width height entry) ≡ after font new base
+  unfolding redrawnBuffer
+  no-mark-left = rw old-measured (ap (λ (p : Panel). after font new p) brought-back)

@@ -35,7 +35,14 @@ pub fn write_row(part: &mut [u8], row: &[u8], color: FontColor)
 
 // Draws a row of which every column is visible, from the column `first` on: the row writer gets the
 // part of the framebuffer that the row covers.
-fn write_line(buffer: &mut [u8], width: usize, y: usize, first: usize, row: &[u8], color: FontColor)
+pub fn write_line(
+    buffer: &mut [u8],
+    width: usize,
+    y: usize,
+    first: usize,
+    row: &[u8],
+    color: FontColor,
+)
     requires { ⌜ LineFits (length (now buffer)) width y first (length (now row)) ⌝ }
     ensures { λ r. ⌜ now (buffer .exit) ≡ shown width (rowPicture color (now (row .entry)) (pos first) (pos y)) (now (buffer .entry)) ⌝ }
 {

@@ -17,7 +17,7 @@ lesser : (limit n : ℕ) (t : Bool) → ltb limit n ≡ t → pick t limit n ≡
 lesser limit n true e = omega (arith, ltb-true limit n e)
 lesser limit n false e = omega (arith, ltb-false limit n e)
 
-clamped-is : (x : ℤ) (limit : ℕ) → clamped x limit ≡ min (up x - down x) limit
+pub clamped-is : (x : ℤ) (limit : ℕ) → clamped x limit ≡ min (up x - down x) limit
 unfolding clamped
 clamped-is (pos n) limit =
     let e : min n limit ≡ min (n - 0) limit = omega arith in

@@ -1,7 +1,9 @@
 // What the programs print: numbers, and answers in 01's words (`ok` or `no`, then numbers).
 use libc::STDOUT_FILENO;
 use types::error::Error;
+use types::geometry::BoundingBox;
 use types::geometry::Rectangle;
+use types::geometry::RenderedDimensions;
 use utils::error::error_code_point;
 use utils::error::error_number;
 use utils::number::magnitude;
@@ -36,4 +38,41 @@ pub fn rectangle(r: Rectangle) {
     signed(r.top_left.y);
     unsigned(r.size.width);
     unsigned(r.size.height);
+}
+
+// The answer of measuring or drawing: `ok`, the advance, and the bounding box or `none`.
+pub fn dimensions(d: RenderedDimensions) {
+    text(b"ok");
+    signed(d.advance.x);
+    signed(d.advance.y);
+    let bounding_box = d.bounding_box;
+    match bounding_box {
+        BoundingBox::Some(r) => rectangle(r),
+        BoundingBox::None => text(b" none"),
+    }
+}
+
+fn code_point(c: u32) {
+    text(b"U+");
+    io::print_hex(STDOUT_FILENO, c as u64, 4);
+}
+
+// Why a call is refused, in words.
+pub fn cause(e: Error) {
+    match e {
+        Error::FontLength => text(b"the font has fewer than 23 or more than 1,048,576 bytes"),
+        Error::FontHeader => text(b"the font's header is damaged"),
+        Error::FramebufferSize => text(b"the framebuffer is not 1 to 256 pixels wide and high"),
+        Error::TextEncoding => text(b"the text has more than 4,096 bytes or is not UTF-8"),
+        Error::PositionOrLineHeight => text(b"the place or the line height is off limits"),
+        Error::BackgroundColorNotSupported => text(b"the font allows no background colour"),
+        Error::GlyphNotFound(c) => {
+            text(b"the font has no glyph for ");
+            code_point(c);
+        }
+        Error::FontEnds(c) => {
+            text(b"the font ends before the glyph does for ");
+            code_point(c);
+        }
+    }
 }

@@ -1,6 +1,6 @@
 // The public calls. Each takes the font's bytes and checks all of its input: none has a `requires`.
 pub mod font_bounding_box;
-mod limits;
+pub mod limits;
 mod origin;
 pub mod render;
 mod render_actions;

@@ -22,7 +22,7 @@ fn has_bad_side(side: usize) -> bool
 }
 
 // Cause 3, for a buffer of `len` bytes. The sides are tested before they are multiplied.
-pub(crate) fn has_bad_size(width: usize, height: usize, len: usize) -> bool
+pub fn has_bad_size(width: usize, height: usize, len: usize) -> bool
     ensures { λ r. ⌜ r ≡ sizeOff width height len ⌝ }
 {
     if has_bad_side(width) {

@@ -1,0 +1,75 @@
+-- `write_angle` meets its contract: the signs are those of `angleText`. Assumes nothing.
+use borrow.Author.Needs.{needs}
+use mathlib.Core.Path.{_≡_, _∙_}
+use native.Mathlib.Omega.{arith}
+use mir.Facts.{toZ-ofZ}
+use Rattle.angles.proofs.AngleLaws.{whole, below-zero, above-zero, at-zero}
+use Rattle.angles.proofs.write_angle.Statement.{statement}
+use Rattle.angles.proofs.write_angle.Tie as tie
+
+magnitude-requires : tie.Need-magnitude-requires
+magnitude-requires c κs = search needs
+
+put-tenths-requires : tie.Need-put-tenths-requires
+put-tenths-requires c κs = search needs
+
+put-before-requires : tie.Need-put-before-requires
+put-before-requires c κs = search needs
+
+same-length : tie.Need-same-length
+same-length c = search needs
+
+returns : tie.Need-returns
+returns c =
+    let s = c .before .before .before .before .before .before .before .before .before .before .before in
+    let z = s .args .tenths in
+    let q = c .before .before .before .before .before .before .before .put-tenths .ensures in
+    let e = whole z (simp (toZ-ofZ, s .fits .tenths) at (c .before .before .before .before .before .before .before .before .magnitude .ensures .0)) (q .1 .1) in
+    let t = simp (toZ-ofZ, s .fits .tenths) at (c .before .before .before .before .if1 .taken) in
+    let p = c .before .before .put-before .ensures in
+    (omega (arith, p .0, q .0, q .1 .0), p .1 ∙ below-zero z e t)
+
+put-before-requires-2 : tie.Need-put-before-requires-2
+put-before-requires-2 c κs = search needs
+
+same-length-2 : tie.Need-same-length-2
+same-length-2 c = search needs
+
+returns-2 : tie.Need-returns-2
+returns-2 c =
+    let s = c .before .before .before .before .before .before .before .before .before .before .before .before in
+    let z = s .args .tenths in
+    let q = c .before .before .before .before .before .before .before .before .put-tenths .ensures in
+    let e = whole z (simp (toZ-ofZ, s .fits .tenths) at (c .before .before .before .before .before .before .before .before .before .magnitude .ensures .0)) (q .1 .1) in
+    let f = simp (toZ-ofZ, s .fits .tenths) at (c .before .before .before .before .before .if1 .left) in
+    let t = simp (toZ-ofZ, s .fits .tenths) at (c .before .before .before .before .if2 .taken) in
+    let p = c .before .before .put-before2 .ensures in
+    (omega (arith, p .0, q .0, q .1 .0), p .1 ∙ above-zero z e f t)
+
+same-length-3 : tie.Need-same-length-3
+same-length-3 c = search needs
+
+returns-3 : tie.Need-returns-3
+returns-3 c =
+    let s = c .before .before .before .before .before .before .before .before in
+    let z = s .args .tenths in
+    let q = c .before .before .before .before .put-tenths .ensures in
+    let e = whole z (simp (toZ-ofZ, s .fits .tenths) at (c .before .before .before .before .before .magnitude .ensures .0)) (q .1 .1) in
+    let f = simp (toZ-ofZ, s .fits .tenths) at (c .before .if1 .left) in
+    let t = simp (toZ-ofZ, s .fits .tenths) at (c .if2 .left) in
+    (omega (arith, q .0, q .1 .0), at-zero z e f t)
+
+pub write-angle-spec : {M : Type 1} → statement M
+write-angle-spec =
+    tie.close
+    (tie.spec
+    magnitude-requires
+    put-tenths-requires
+    put-before-requires
+    same-length
+    returns
+    put-before-requires-2
+    same-length-2
+    returns-2
+    same-length-3
+    returns-3)

@@ -1,0 +1,70 @@
+// The text of an angle, as the gauge shows it: "-12.5", "+0.3", "0.0".
+ghost use mathlib.Core.Path.{_≡_};
+ghost use mathlib.Core.List.{[], _∷_};
+ghost use Prim.Native.Nat.{_+_, _≤_};
+ghost use lib.IntN.{pos, negsuc, natAbs};
+ghost use lib.ListN.{length, drop};
+ghost use lib.Signed.{_≤ℤ_};
+ghost use Rattle.angles.specs.AngleText.{digit, degreesThen, tenthsText, angleText};
+
+// Puts a byte in front of the text that begins at `start` and answers where it begins now.
+fn put_before(out: &mut [u8], start: usize, byte: u8) -> usize
+    requires { ⌜ (length (now out) ≡ 6) × ((1 ≤ start) × (start ≤ 6)) ⌝ }
+    ensures { λ r. ⌜ (r + 1 ≡ start) × (drop r (now (out .exit)) ≡ byte ∷ drop start (now (out .entry))) ⌝ }
+{
+    out[start - 1] = byte;
+    start - 1
+}
+
+fn digit_of(n: u32) -> u8
+    requires { ⌜ n ≤ 9 ⌝ }
+    ensures { λ r. ⌜ r ≡ digit n ⌝ }
+{
+    48 + (n as u8)
+}
+
+// One digit, or two from 10 on.
+fn put_degrees(out: &mut [u8], start: usize, n: u32) -> usize
+    requires { ⌜ (length (now out) ≡ 6) × ((n ≤ 99) × ((2 ≤ start) × (start ≤ 6))) ⌝ }
+    ensures { λ r. ⌜ (r + 1 ≤ start) × ((start ≤ r + 2) × (drop r (now (out .exit)) ≡ degreesThen n (drop start (now (out .entry))))) ⌝ }
+{
+    let at = put_before(&mut out[..], start, digit_of(n % 10));
+    if n < 10 {
+        return at;
+    }
+    put_before(&mut out[..], at, digit_of(n / 10))
+}
+
+fn put_tenths(out: &mut [u8], n: u32) -> usize
+    requires { ⌜ (length (now out) ≡ 6) × (n ≤ 999) ⌝ }
+    ensures { λ r. ⌜ (2 ≤ r) × ((r ≤ 3) × (drop r (now (out .exit)) ≡ tenthsText n)) ⌝ }
+{
+    let tenth = put_before(&mut out[..], 6, digit_of(n % 10));
+    let point = put_before(&mut out[..], tenth, b'.');
+    put_degrees(&mut out[..], point, n / 10)
+}
+
+fn magnitude(tenths: i32) -> u32
+    requires { ⌜ (negsuc 998 ≤ℤ tenths) × (tenths ≤ℤ pos 999) ⌝ }
+    ensures { λ r. ⌜ (r ≡ natAbs tenths) × (r ≤ 999) ⌝ }
+{
+    if tenths < 0 {
+        return (0 - tenths) as u32;
+    }
+    tenths as u32
+}
+
+// Writes the text of an angle below 100 degrees at the end of `out` and answers where it begins.
+pub fn write_angle(tenths: i32, out: &mut [u8]) -> usize
+    requires { ⌜ (length (now out) ≡ 6) × ((negsuc 998 ≤ℤ tenths) × (tenths ≤ℤ pos 999)) ⌝ }
+    ensures { λ r. ⌜ (r ≤ 3) × (drop r (now (out .exit)) ≡ angleText tenths) ⌝ }
+{
+    let start = put_tenths(&mut out[..], magnitude(tenths));
+    if tenths < 0 {
+        return put_before(&mut out[..], start, b'-');
+    }
+    if 0 < tenths {
+        return put_before(&mut out[..], start, b'+');
+    }
+    start
+}

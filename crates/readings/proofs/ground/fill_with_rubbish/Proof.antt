@@ -1,0 +1,62 @@
+-- `fill_with_rubbish` meets its contract: WriteLaws.antt of redraw has the step. Assumes nothing.
+use mathlib.Core.Path.{_≡_, refl, sym, _∙_}
+use Prim.Native.Nat.{ℕ, _+_, _%_, _-_, _≤_, _<_}
+use native.Mathlib.Omega.{arith}
+use lib.ListN.{length, getD, length-set}
+use Rattle.redraw.proofs.WriteLaws.{WrittenTo, write-next}
+use borrow.Author.Needs.{needs}
+use Rattle.readings.proofs.ground.fill_with_rubbish.Statement.{statement}
+use Rattle.readings.proofs.ground.fill_with_rubbish.Tie as tie
+
+abbrev Inv-loop : tie.InvT-loop
+Inv-loop buffer₀ i₀ buffer i = (i ≤ length buffer₀) × ((length buffer ≡ length buffer₀) × WrittenTo (λ k. 96 + k % 101) buffer i)
+
+abbrev μ-loop : tie.MeasureT-loop
+μ-loop buffer₀ i₀ buffer i = length buffer₀ - i
+
+loop-holds : tie.Need-loop-holds Inv-loop μ-loop
+loop-holds c = (omega arith, (refl, λ k p. absurd (omega arith)))
+
+add-buffer : tie.Need-add-buffer Inv-loop μ-loop
+add-buffer c = search needs
+
+cast-buffer : tie.Need-cast-buffer Inv-loop μ-loop
+cast-buffer c = search needs
+
+slice-write-buffer : tie.Need-slice-write-buffer Inv-loop μ-loop
+slice-write-buffer c = search needs
+
+add-i : tie.Need-add-i Inv-loop μ-loop
+add-i c = search needs
+
+loop-less : tie.Need-loop-less Inv-loop μ-loop
+loop-less c = search needs
+
+loop-again : tie.Need-loop-again Inv-loop μ-loop
+loop-again c =
+    let l = c .before .loop in
+    (omega arith, (simp length-set (l .inv .1 .0), write-next (λ k. 96 + k % 101) (l .buffer) (l .i) _ (omega (arith, l .inv .1 .0)) refl (l .inv .1 .1)))
+
+same-length : tie.Need-same-length Inv-loop μ-loop
+same-length c = search needs
+
+returns : tie.Need-returns Inv-loop μ-loop
+returns c =
+    let l = c .before .loop in
+    λ k p. l .inv .1 .1 k (omega (arith, l .inv .1 .0))
+
+pub fill-with-rubbish-spec : {M : Type 1} → statement M
+fill-with-rubbish-spec =
+    tie.close
+    (tie.spec
+    Inv-loop
+    μ-loop
+    loop-holds
+    add-buffer
+    cast-buffer
+    slice-write-buffer
+    add-i
+    loop-less
+    loop-again
+    same-length
+    returns)

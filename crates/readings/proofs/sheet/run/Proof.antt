@@ -1,0 +1,103 @@
+-- `run` is safe and ends: the framebuffers keep their lengths, and GridLaws.antt has that each cell fits. Assumes nothing.
+use mathlib.Core.Path.{_≡_, refl, sym, _∙_}
+use Prim.Native.Nat.{_*_, _-_, _≤_, _<_}
+use native.Mathlib.Omega.{arith}
+use lib.ListN.{length}
+use lib.Seq.{length-take-le}
+use Rattle.readings.proofs.GridLaws.{used-band, cell-size}
+use borrow.Author.Needs.{needs}
+use Rattle.readings.proofs.sheet.run.Statement.{statement}
+use Rattle.readings.proofs.sheet.run.Tie as tie
+
+abbrev Inv-loop : tie.InvT-loop
+Inv-loop font narrow place ground screen₀ alone₀ band₀ image n used totals₀ old₀ j₀ k₀ screen alone band totals old j k =
+    (k ≤ 901) × ((j < n) × ((length screen ≡ length screen₀) × ((length alone ≡ length alone₀) × (length band ≡ length band₀))))
+
+abbrev μ-loop : tie.MeasureT-loop
+μ-loop font narrow place ground screen₀ alone₀ band₀ image n used totals₀ old₀ j₀ k₀ screen alone band totals old j k =
+    901 - k
+
+columns-requires : tie.Need-columns-requires Inv-loop μ-loop
+columns-requires c κs = cell-size (c .before .before .before .before .before .pre)
+
+mul-used : tie.Need-mul-used Inv-loop μ-loop
+mul-used c = omega (arith, c .columns .ensures .1 .1)
+
+loop-holds : tie.Need-loop-holds Inv-loop μ-loop
+loop-holds c = (omega arith, (omega (arith, c .columns .ensures .0), (refl, (refl, refl))))
+
+step-requires : tie.Need-step-requires Inv-loop μ-loop
+step-requires c κs = search needs
+
+counted-requires : tie.Need-counted-requires Inv-loop μ-loop
+counted-requires c κs = search needs
+
+add-is-last : tie.Need-add-is-last Inv-loop μ-loop
+add-is-last c = search needs
+
+slice-relend-prefix-put-cell : tie.Need-slice-relend-prefix-put-cell Inv-loop μ-loop
+slice-relend-prefix-put-cell c = search needs
+
+slice-aggregate-put-cell : tie.Need-slice-aggregate-put-cell Inv-loop μ-loop
+slice-aggregate-put-cell c =
+    let s = c .before .before .before .before .before .before .before .before .before .before .before .before .before .before .before .before .before in
+    let l = c .before .before .before .before .before .before .before .before .before .before .loop in
+    let n = c .before .before .before .before .before .before .before .before .before .before .before .columns in
+    sym (length-take-le (n .result * length (s .args .ground .now)) (l .band) (omega (arith, n .ensures .1 .1, s .pre .enough, l .inv .1 .1 .1 .1)))
+
+put-cell-requires : tie.Need-put-cell-requires Inv-loop μ-loop
+put-cell-requires c κs =
+    let s = c .before .before .before .before .before .before .before .before .before .before .before .before .before .before .before .before .before .before in
+    let l = c .before .before .before .before .before .before .before .before .before .before .before .loop in
+    let n = c .before .before .before .before .before .before .before .before .before .before .before .before .columns in
+    used-band (s .pre) (l .inv .1 .0) (n .ensures .1 .0)
+    (length-take-le (n .result * length (s .args .ground .now)) (l .band) (omega (arith, n .ensures .1 .1, s .pre .enough, l .inv .1 .1 .1 .1)))
+    (c .before .before .before .before .before .before .screen .given ∙ l .inv .1 .1 .0)
+
+held-requires : tie.Need-held-requires Inv-loop μ-loop
+held-requires c κs = search needs
+
+add-k : tie.Need-add-k Inv-loop μ-loop
+add-k c = search needs
+
+loop-less : tie.Need-loop-less Inv-loop μ-loop
+loop-less c = search needs
+
+loop-again : tie.Need-loop-again Inv-loop μ-loop
+loop-again c = search needs
+
+same-length : tie.Need-same-length Inv-loop μ-loop
+same-length c = search needs
+
+same-length-2 : tie.Need-same-length-2 Inv-loop μ-loop
+same-length-2 c = search needs
+
+same-length-3 : tie.Need-same-length-3 Inv-loop μ-loop
+same-length-3 c = search needs
+
+returns : tie.Need-returns Inv-loop μ-loop
+returns c = search needs
+
+pub run-spec : {M : Type 1} → statement M
+run-spec =
+    tie.close
+    (tie.spec
+    Inv-loop
+    μ-loop
+    columns-requires
+    mul-used
+    loop-holds
+    step-requires
+    counted-requires
+    add-is-last
+    slice-relend-prefix-put-cell
+    slice-aggregate-put-cell
+    put-cell-requires
+    held-requires
+    add-k
+    loop-less
+    loop-again
+    same-length
+    same-length-2
+    same-length-3
+    returns)

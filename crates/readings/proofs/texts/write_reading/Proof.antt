@@ -1,0 +1,54 @@
+-- `write_reading` meets its contract: past the last reading nothing is left of the buffer. Assumes nothing.
+use mathlib.Core.Path.{_≡_, _∙_}
+use Prim.Native.Nat.{ℕ, _≤_, _<_, _^_}
+use native.Mathlib.Omega.{arith}
+use borrow.Author.Tests.{le-leb, lt-leb}
+use lib.IntN.{pos, _-ℤ_}
+use lib.ListN.{drop-of-length-le}
+use mir.Syntax.{w32}
+use mir.Val.{SFits, toZ}
+use mir.Facts.{toZ-ofZ, toZ-pos}
+use Rattle.integers.proofs.Laws.{zarith, minus}
+use borrow.Author.Needs.{needs}
+use Rattle.readings.proofs.texts.write_reading.Statement.{statement}
+use Rattle.readings.proofs.texts.write_reading.Tie as tie
+
+module _ (k : ℕ) (h : k < 901) where
+  plain : (toZ w32 k -ℤ pos 450) ≡ (pos k -ℤ pos 450)
+  plain = let e : toZ w32 k ≡ pos k = toZ-pos w32 (omega arith) in rw e
+
+  angle-fits : SFits w32 (pos k -ℤ pos 450)
+  angle-fits = omega (zarith, minus (pos k) (pos 450))
+
+returns : tie.Need-returns
+returns c =
+    let a = c .before .before .args in
+    (omega arith, drop-of-length-le (a .out .now) {i = 6} (omega (arith, c .before .before .pre)) ∙ simp (le-leb _ _ (c .if1 .taken)))
+
+cast-write-angle : tie.Need-cast-write-angle
+cast-write-angle c = search needs
+
+sub-write-angle : tie.Need-sub-write-angle
+sub-write-angle c = simp (plain (c .before .before .args .k) (c .if1 .left)) (angle-fits (c .before .before .args .k) (c .if1 .left))
+
+write-angle-requires : tie.Need-write-angle-requires
+write-angle-requires c κs =
+    let k = c .before .before .before .args .k in
+    let h = c .before .if1 .left in
+    simp (plain k h, toZ-ofZ, angle-fits k h)
+    (c .before .before .before .pre, (omega (zarith, minus (pos k) (pos 450)), omega (zarith, minus (pos k) (pos 450))))
+
+same-length : tie.Need-same-length
+same-length c = search needs
+
+returns-2 : tie.Need-returns-2
+returns-2 c =
+    let k = c .before .before .before .before .before .before .args .k in
+    let h = c .before .before .before .before .if1 .left in
+    let w = c .before .before .write-angle .ensures in
+    (omega (arith, w .0), w .1 ∙ simp (plain k h, toZ-ofZ, angle-fits k h, lt-leb _ _ h))
+
+pub write-reading-spec : {M : Type 1} → statement M
+write-reading-spec =
+    tie.close
+    (tie.spec returns cast-write-angle sub-write-angle write-angle-requires same-length returns-2)

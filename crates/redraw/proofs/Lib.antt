@@ -1,0 +1,4 @@
+pub mod FillLaws
+pub mod DifferenceLaws
+pub mod StepLaws
+pub mod WriteLaws

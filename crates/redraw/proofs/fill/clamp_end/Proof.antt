@@ -1,0 +1,39 @@
+-- `clamp_end` meets its contract: in 64 bits the sum of 32 bits fits. Assumes nothing.
+use mathlib.Core.Path.{_≡_, _∙_}
+use Prim.Native.Nat.{_<_, _^_}
+use native.Mathlib.Omega.{arith}
+use lib.IntN.{pos, _+ℤ_}
+use mir.Syntax.{w64}
+use mir.Val.{SFits, toZ, ofZ}
+use mir.Facts.{toZ-ofZ, toZ-pos, sfits-widen}
+use borrow.Author.Needs.{needs}
+use Rattle.integers.proofs.Laws.{zarith, plus, range}
+use Rattle.redraw.proofs.fill.clamp_end.Statement.{statement}
+use Rattle.redraw.proofs.fill.clamp_end.Tie as tie
+
+wide : (c : tie.Start) → SFits w64 (c .args .start)
+wide c = sfits-widen tt (c .fits .start)
+
+len-plain : (c : tie.Start) → toZ w64 (c .args .len) ≡ pos (c .args .len)
+len-plain c = toZ-pos w64 (omega arith)
+
+sum-fits : (c : tie.Start) → SFits w64 (c .args .start +ℤ pos (c .args .len))
+sum-fits c = let h : c .args .len < 2 ^ 32 = omega arith in omega (zarith, plus (c .args .start) (pos (c .args .len)), range (c .fits .start))
+
+cast-clamp : tie.Need-cast-clamp
+cast-clamp c = simp (toZ-ofZ, c .fits .start) (wide c)
+
+cast-clamp-2 : tie.Need-cast-clamp-2
+cast-clamp-2 c = search needs
+
+add-clamp : tie.Need-add-clamp
+add-clamp c = simp (toZ-ofZ, c .fits .start, wide c, len-plain c) (sum-fits c)
+
+clamp-requires : tie.Need-clamp-requires
+clamp-requires c κs = search needs
+
+returns : tie.Need-returns
+returns c = c .clamp .ensures ∙ simp (toZ-ofZ, c .before .fits .start, wide (c .before), len-plain (c .before), sum-fits (c .before))
+
+pub clamp-end-spec : {M : Type 1} → statement M
+clamp-end-spec = tie.close (tie.spec cast-clamp cast-clamp-2 add-clamp clamp-requires returns)

@@ -1,0 +1,23 @@
+-- `clamp_start` meets its contract: the cast keeps the value. Assumes nothing.
+use mathlib.Core.Path.{_≡_, _∙_}
+use mir.Syntax.{w64}
+use mir.Val.{SFits}
+use mir.Facts.{toZ-ofZ, sfits-widen}
+use borrow.Author.Needs.{needs}
+use Rattle.redraw.proofs.fill.clamp_start.Statement.{statement}
+use Rattle.redraw.proofs.fill.clamp_start.Tie as tie
+
+wide : (c : tie.Start) → SFits w64 (c .args .start)
+wide c = sfits-widen tt (c .fits .start)
+
+cast-clamp : tie.Need-cast-clamp
+cast-clamp c = simp (toZ-ofZ, c .fits .start) (wide c)
+
+clamp-requires : tie.Need-clamp-requires
+clamp-requires c κs = search needs
+
+returns : tie.Need-returns
+returns c = c .clamp .ensures ∙ simp (toZ-ofZ, c .before .fits .start, wide (c .before))
+
+pub clamp-start-spec : {M : Type 1} → statement M
+clamp-start-spec = tie.close (tie.spec cast-clamp clamp-requires returns)

@@ -1,0 +1,126 @@
+-- `fill_area` meets its contract. The loop's invariant: the rows above y are filled; FillLaws.antt has that a row of ones fills the
+-- next. Assumes nothing.
+use mathlib.Core.List.{List}
+use mathlib.Core.Path.{_≡_, sym, ap, _∙_}
+use Prim.Native.Nat.{ℕ, suc, _+_, _*_, _-_, _≤_, _<_}
+use native.Mathlib.Nat.{mul-le-mul-right}
+use native.Mathlib.Omega.{arith}
+use borrow.Author.Needs.{needs}
+use lib.IntN.{pos}
+use lib.ListN.{length, take, getD, replicate, length-replicate, getD-replicate}
+use lib.Seq.{length-take-le, getD-take}
+use Rattle.types.specs.declared.geometry.BoundingBox.the-variants.{Some}
+use Rattle.types.specs.declared.style.FontColor.the-variants.{Transparent}
+use Rattle.definitions.specs.Framebuffer.{shown}
+use Rattle.definitions.specs.Redraw.{fillPicture}
+use Rattle.framebuffer.specs.Rows.{rowPicture, LineFits}
+use Rattle.redraw.specs.Areas.{area, AreaFits}
+use Rattle.redraw.proofs.FillLaws.{no-line-shown, next-line-shown}
+use Rattle.redraw.proofs.fill.fill_area.Statement.{statement}
+use Rattle.redraw.proofs.fill.fill_area.Tie as tie
+
+-- as many ones as the area has columns
+module _ (n : ℕ) (h : n ≤ 256) where
+  abbrev row : List ℕ
+  row = take n (replicate 256 1)
+
+  ones-length : length row ≡ n
+  ones-length = length-take-le n (replicate 256 1) (omega (arith, length-replicate {A = ℕ} 256 1))
+
+  ones-at : (k : ℕ) → k < length row → getD row k 0 ≡ 1
+  ones-at k p = let l = ones-length in getD-take n (replicate 256 1) k 0 (omega arith) ∙ getD-replicate 256 k 1 0 (omega arith)
+
+line-fits : {bytes width left right top bottom : ℕ} → AreaFits bytes width left right top bottom → (y n bits : ℕ) → y < bottom → n ≡ bytes → bits ≡ right - left
+    → LineFits n width y left bits
+line-fits {width = width} f y n bits h e b = record {
+  small = omega (arith, f .small);
+  below = omega (arith, f .below, mul-le-mul-right width h);
+  right = omega (arith, f .columns, f .within);
+  some = f .some;
+}
+
+abbrev Inv-loop : tie.InvT-loop
+Inv-loop buffer₀ width left right top bottom color ones n y₀ buffer y =
+    (top ≤ y)
+    × ((y ≤ bottom)
+    × ((length buffer ≡ length buffer₀) × (buffer ≡ shown width (fillPicture color (Some (area left right top y))) buffer₀)))
+
+abbrev μ-loop : tie.MeasureT-loop
+μ-loop buffer₀ width left right top bottom color ones n y₀ buffer y = bottom - y
+
+sub-n : tie.Need-sub-n Inv-loop μ-loop
+sub-n c = search needs
+
+loop-holds : tie.Need-loop-holds Inv-loop μ-loop
+loop-holds c =
+    let a = c .before .args in
+    let p = c .before .pre in
+    (omega arith, (omega (arith, p .rows), (omega arith, sym (no-line-shown (p .some) (a .color) (a .left) (a .right) (a .top) (a .buffer .now)))))
+
+array-share-prefix-ones : tie.Need-array-share-prefix-ones Inv-loop μ-loop
+array-share-prefix-ones c = search needs
+
+slice-aggregate-write-line : tie.Need-slice-aggregate-write-line Inv-loop μ-loop
+slice-aggregate-write-line c =
+    let s = c .before .before .before .before .before in
+    let w : s .args .right - s .args .left ≤ 256 = omega (arith, s .pre .within, s .pre .wide) in
+    sym (ones-length (s .args .right - s .args .left) w)
+
+write-line-requires : tie.Need-write-line-requires Inv-loop μ-loop
+write-line-requires c κs =
+    let s = c .before .before .before .before .before in
+    let l = c .before .before .before .loop in
+    let w : s .args .right - s .args .left ≤ 256 = omega (arith, s .pre .within, s .pre .wide) in
+    line-fits (s .pre) (l .y) _ _ (c .before .before .loop-test .taken) (l .inv .1 .1 .0) (ones-length (s .args .right - s .args .left) w)
+
+add-y : tie.Need-add-y Inv-loop μ-loop
+add-y c = search needs
+
+loop-less : tie.Need-loop-less Inv-loop μ-loop
+loop-less c = search needs
+
+loop-again : tie.Need-loop-again Inv-loop μ-loop
+loop-again c =
+    let s = c .before .before .before .before .before .before .before .before in
+    let a = s .args in
+    let l = c .before .before .before .before .before .before .loop in
+    let n = a .right - a .left in
+    let w : n ≤ 256 = omega (arith, s .pre .within, s .pre .wide) in (
+      omega arith,
+      (
+        omega arith,
+        (
+          omega (arith, l .inv .1 .1 .0),
+          c .before .before .write-line .ensures
+              ∙ ap (shown (a .width) (rowPicture (Transparent (a .color)) (row n w) (pos (a .left)) (pos (l .y)))) (l .inv .1 .1 .1)
+              ∙ next-line-shown (s .pre .some) (a .color) (a .left) (a .right) (a .top) (a .buffer .now) (l .y) (row n w) (s .pre .columns) (l .inv .0) (ones-length n w) (ones-at n w),
+        ),
+      ),
+    )
+
+same-length : tie.Need-same-length Inv-loop μ-loop
+same-length c = search needs
+
+returns : tie.Need-returns Inv-loop μ-loop
+returns c =
+    let a = c .before .before .before .args in
+    let l = c .before .loop in
+    let e : l .y ≡ a .bottom = omega arith in
+    l .inv .1 .1 .1 ∙ rw e
+
+pub fill-area-spec : {M : Type 1} → statement M
+fill-area-spec =
+    tie.close
+    (tie.spec
+    Inv-loop
+    μ-loop
+    sub-n
+    loop-holds
+    array-share-prefix-ones
+    slice-aggregate-write-line
+    write-line-requires
+    add-y
+    loop-less
+    loop-again
+    same-length
+    returns)

@@ -1,0 +1,45 @@
+-- `fill_box` meets its contract: no box is the blank picture. Assumes nothing.
+use mathlib.Core.Path.{_≡_, sym, ap, _∙_}
+use mathlib.Core.List.{List}
+use borrow.Author.Needs.{needs}
+use Rattle.types.specs.declared.geometry.BoundingBox.{BoundingBox}
+use Rattle.types.specs.declared.geometry.BoundingBox.the-variants.{None}
+use Rattle.definitions.specs.Framebuffer.{shown}
+use Rattle.definitions.specs.Redraw.{fillPicture}
+use Rattle.definitions.proofs.FramebufferLaws.{shown-blank}
+use Rattle.redraw.proofs.fill.fill_box.Statement.{statement}
+use Rattle.redraw.proofs.fill.fill_box.Tie as tie
+
+enum-known-bounding-box : tie.Need-enum-known-bounding-box
+enum-known-bounding-box c = search needs
+
+fill-rectangle-requires : tie.Need-fill-rectangle-requires
+fill-rectangle-requires c κs = search needs
+
+enum-told : tie.Need-enum-told
+enum-told c = search needs
+
+same-length : tie.Need-same-length
+same-length c = search needs
+
+returns : tie.Need-returns
+returns c =
+    let a = c .before .before .before .before .before .before .before .before .args in
+    c .before .before .fill-rectangle .ensures
+    ∙ ap (λ (b : BoundingBox). shown (a .width) (fillPicture (a .color) b) (a .buffer .now)) (sym (c .before .before .before .before .before .bounding-box .given .1))
+
+returns-2 : tie.Need-returns-2
+returns-2 c =
+    let a = c .before .before .before .args in
+    sym (ap (λ (b : BoundingBox). shown (a .width) (fillPicture (a .color) b) (a .buffer .now)) (c .enum-told .given .1) ∙ shown-blank (a .width) (a .buffer .now))
+
+pub fill-box-spec : {M : Type 1} → statement M
+fill-box-spec =
+    tie.close
+    (tie.spec
+    enum-known-bounding-box
+    fill-rectangle-requires
+    enum-told
+    same-length
+    returns
+    returns-2)

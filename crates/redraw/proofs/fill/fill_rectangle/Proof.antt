@@ -1,0 +1,82 @@
+-- `fill_rectangle` meets its contract: what the framebuffer shows of the rectangle lies between the edges that are computed.
+-- Assumes nothing.
+use mathlib.Core.Path.{_≡_, refl, _∙_}
+use lib.IntN.{pos, _+ℤ_}
+use mir.Syntax.{w32}
+use mir.Val.{SFits}
+use mir.Facts.{toZ-ofZ}
+use borrow.Author.Needs.{needs}
+use Rattle.definitions.specs.Geometry.{left, top, right, bottom}
+use Rattle.glyph_renderer.specs.Visible.{clamped}
+use Rattle.redraw.proofs.FillLaws.{edges-fit, edges-shown}
+use Rattle.redraw.proofs.fill.fill_rectangle.Statement.{statement}
+use Rattle.redraw.proofs.fill.fill_rectangle.Tie as tie
+
+clamp-start-requires : tie.Need-clamp-start-requires
+clamp-start-requires c κs = search needs
+
+clamp-end-requires : tie.Need-clamp-end-requires
+clamp-end-requires c κs = search needs
+
+clamp-start-requires-2 : tie.Need-clamp-start-requires-2
+clamp-start-requires-2 c κs = search needs
+
+clamp-end-requires-2 : tie.Need-clamp-end-requires-2
+clamp-end-requires-2 c κs = search needs
+
+-- the edges
+x-fits : (s : tie.Start) → SFits w32 (s .args .rectangle .«top_left» .x)
+x-fits s = search needs
+
+y-fits : (s : tie.Start) → SFits w32 (s .args .rectangle .«top_left» .y)
+y-fits s = search needs
+
+left-is : (c : tie.After-clamp-start)
+    → let a = c .before .before .before .args in
+    c .clamp-start .result ≡ clamped (left (a .rectangle)) (a .width)
+left-is c = c .clamp-start .ensures ∙ simp (toZ-ofZ, x-fits (c .before .before .before))
+
+right-is : (c : tie.After-clamp-end)
+    → let a = c .before .before .before .before .before .args in
+    c .clamp-end .result ≡ clamped (right (a .rectangle)) (a .width)
+right-is c = c .clamp-end .ensures ∙ simp (toZ-ofZ, x-fits (c .before .before .before .before .before))
+
+top-is : (c : tie.After-clamp-start2)
+    → let a = c .before .before .before .before .before .before .before .args in
+    c .clamp-start2 .result ≡ clamped (top (a .rectangle)) (a .height)
+top-is c = c .clamp-start2 .ensures ∙ simp (toZ-ofZ, y-fits (c .before .before .before .before .before .before .before))
+
+bottom-is : (c : tie.After-clamp-end2)
+    → let a = c .before .before .before .before .before .before .before .before .before .args in
+    c .clamp-end2 .result ≡ clamped (bottom (a .rectangle)) (a .height)
+bottom-is c = c .clamp-end2 .ensures ∙ simp (toZ-ofZ, y-fits (c .before .before .before .before .before .before .before .before .before))
+
+fill-area-requires : tie.Need-fill-area-requires
+fill-area-requires c κs =
+    let d = c .before in
+    let s = d .before .before .before .before .before .before .before .before .before in
+    edges-fit (s .args .rectangle) (s .pre) (left-is (d .before .before .before .before .before .before)) (right-is (d .before .before .before .before)) (top-is (d .before .before)) (bottom-is d)
+
+same-length : tie.Need-same-length
+same-length c = search needs
+
+returns : tie.Need-returns
+returns c =
+    let d = c .before .before .before .before in
+    let s = d .before .before .before .before .before .before .before .before .before in
+    let a = s .args in
+    c .before .before .fill-area .ensures
+    ∙ edges-shown (a .rectangle) (s .pre) (left-is (d .before .before .before .before .before .before)) (right-is (d .before .before .before .before)) (top-is (d .before .before)) (bottom-is d)
+    (a .color) (a .buffer .now) refl
+
+pub fill-rectangle-spec : {M : Type 1} → statement M
+fill-rectangle-spec =
+    tie.close
+    (tie.spec
+    clamp-start-requires
+    clamp-end-requires
+    clamp-start-requires-2
+    clamp-end-requires-2
+    fill-area-requires
+    same-length
+    returns)

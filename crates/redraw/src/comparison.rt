@@ -1,0 +1,31 @@
+// Comparing two framebuffers.
+ghost use mathlib.Core.Path.{_≡_};
+ghost use mathlib.Core.Bool.{true};
+ghost use lib.ListN.{length};
+ghost use Rattle.redraw.specs.Differences.{differences};
+
+// How many pixels differ.
+pub fn count_differences(a: &[u8], b: &[u8]) -> usize
+    requires { ⌜ length (now a) ≡ length (now b) ⌝ }
+    ensures { λ r. ⌜ r ≡ differences (now (a .entry)) (now (b .entry)) ⌝ }
+{
+    let mut n: usize = 0;
+    let mut i: usize = 0;
+    while i < a.len() {
+        if a[i] != b[i] {
+            n += 1;
+        }
+        i += 1;
+    }
+    n
+}
+
+// Whether two byte strings are the same.
+pub fn is_same(a: &[u8], b: &[u8]) -> bool
+    ensures { λ r. ⌜ (r ≡ true → now (a .entry) ≡ now (b .entry)) × (now (a .entry) ≡ now (b .entry) → r ≡ true) ⌝ }
+{
+    if a.len() != b.len() {
+        return false;
+    }
+    count_differences(a, b) == 0
+}
