@@ -30,7 +30,9 @@ fn counted(totals: Totals, k: usize, checked: Checked) -> Totals {
     match checked {
         Checked::Refused(e) => {
             print_reading(k);
-            printing::text(b": refused, ");
+            printing::text(b": ");
+            printing::refusal(e);
+            printing::text(b": ");
             printing::cause(e);
             printing::text(b"\n");
             Totals {
