@@ -119,6 +119,8 @@ cases =
     -- * T cut to 33 bytes: "4" is there, "A" gives 8
     ∷ record { given = answered (glyph (take 33 T) 52); expected = answered (success (metrics 2 2 (pos 0) (pos 0) (pos 3) 254)) }
     ∷ record { given = answered (glyph (take 33 T) 65); expected = answered (refused 8 65) }
+    -- glyph data reaches past its jump: T with the jump of "4" cut to 3
+    ∷ record { given = answered (glyph (set T 29 3) 52); expected = answered (success (metrics 2 2 (pos 0) (pos 0) (pos 3) 254)) }
     -- * "-" and "4" at (10, 20)
     ∷ record { given = measuredAt T (45 ∷ []); expected = measured (dims (pos 3) (pos 0) (Some (rectangle (pos 10) (pos 17) 2 1))) }
     ∷ record { given = drawnAt T (45 ∷ []); expected = drawn (dims (pos 3) (pos 0) (Some (rectangle (pos 10) (pos 17) 2 1))) (inked ((10, 17) ∷ (11, 17) ∷ [])) }
