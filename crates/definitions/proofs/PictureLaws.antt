@@ -4,7 +4,7 @@ use mathlib.Core.Bool.{Bool, true, false, _&&_}
 use mathlib.Core.List.{List, [], _∷_, _++_}
 use Prim.Native.Nat.{ℕ, _+_, _*_}
 use native.Mathlib.Omega.{arith}
-use lib.IntN.{ℤ, natAbs, _-ℤ_}
+use lib.IntN.{ℤ, pos, natAbs, _-ℤ_}
 use lib.ListN.{getD}
 use lib.Signed.{leZ, ltZ}
 use Rattle.integers.specs.Integers.{pick}
@@ -29,6 +29,13 @@ above-assoc keep q r = refl
 above-assoc (put c) q r = refl
 
 -- ---- what is covered, and what is not
+
+-- A rectangle of 2 × 1 pixels at (1, 1), along its row and across it: each edge, and the pixel past it.
+pub edges : let r : Rectangle = record { «top_left» = record { x = pos 1; y = pos 1 }; size = record { width = 2; height = 1 } } in
+    (covers r (pos 0) (pos 1) ∷ covers r (pos 1) (pos 1) ∷ covers r (pos 2) (pos 1) ∷ covers r (pos 3) (pos 1)
+    ∷ covers r (pos 1) (pos 0) ∷ covers r (pos 1) (pos 2) ∷ [])
+    ≡ (false ∷ true ∷ true ∷ false ∷ false ∷ false ∷ [])
+edges = refl
 
 all-four : (a b c d : Bool) → (a && b && c && d) ≡ true → ((a ≡ true) × (b ≡ true)) × ((c ≡ true) × (d ≡ true))
 all-four true true true true e = ((refl, refl), (refl, refl))

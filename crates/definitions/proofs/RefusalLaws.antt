@@ -1,11 +1,14 @@
--- Laws of a call's causes: a call that succeeds has none that applies, and where none applies the call comes to what is left.
--- Assumes nothing.
+-- Laws of a call's causes: a call that succeeds has none that applies, where none applies the call comes to what is left, and
+-- where one does the framebuffer is left as it was. Assumes nothing.
 use mathlib.Core.Path.{_≡_, refl}
 use mathlib.Core.Bool.{Bool, true, false}
 use mathlib.Core.List.{List, [], _∷_, _++_}
 use Prim.Native.Nat.{ℕ}
 use native.Mathlib.Omega.{arith}
+use Rattle.types.specs.declared.geometry.Point.{Point}
+use Rattle.types.specs.declared.style.FontStyle.{FontStyle}
 use Rattle.definitions.specs.Refusals.{Outcome, success, Cause, unlessRefused, anyApplies}
+use Rattle.definitions.specs.Calls.{drawCauses, drawBuffer}
 use Rattle.definitions.proofs.OpenedLaws.{or-false}
 
 module _ {A : Type 0} (rest : Outcome A) where
@@ -43,3 +46,9 @@ each-off (c ∷ cs) e = let h = or-false (c .applies) (anyApplies cs) e in (h .0
 pub all-off : (cs : List Cause) → NoneApplies cs → anyApplies cs ≡ false
 all-off [] h = refl
 all-off (c ∷ cs) h = rw (h .0) (all-off cs (h .1))
+
+pub refused-keeps : (font text : List ℕ) (position : Point) (style : FontStyle) (lineHeight : ℕ) (skip : Bool) (width height : ℕ) (buffer : List ℕ)
+    → anyApplies (drawCauses font text position style lineHeight width height buffer) ≡ true
+    → drawBuffer font text position style lineHeight skip width height buffer ≡ buffer
+unfolding drawBuffer
+refused-keeps font text position style lineHeight skip width height buffer e = rw e

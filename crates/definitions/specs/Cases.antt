@@ -98,6 +98,15 @@ headerOfT = record {
   «line_height» = 4;
 }
 
+-- T's header with all offsets 0, a glyph "!" of no pixels and advance 1, and T's "-"
+abbrev F : List ℕ
+F =
+    1 ∷ 0 ∷ 2 ∷ 2 ∷ 3 ∷ 3 ∷ 2 ∷ 3 ∷ 3 ∷ 2 ∷ 3 ∷ 0 ∷ 0 ∷ 3 ∷ 0 ∷ 3 ∷ 0 ∷ 0 ∷ 0 ∷ 0 ∷ 0 ∷ 0 ∷ 0
+    ∷ 33 ∷ 5 ∷ 24 ∷ 40 ∷ 0
+    ∷ 45 ∷ 5 ∷ 138 ∷ 62 ∷ 2
+    ∷ 0 ∷ 0
+    ∷ []
+
 unfoldable pub cases : List Case
 cases =
     -- * Center, ascent −4, descent 0, no newline
@@ -129,6 +138,8 @@ cases =
     ∷ record { given = measuredAt T (45 ∷ 52 ∷ []); expected = measured (dims (pos 6) (pos 0) (Some (rectangle (pos 10) (pos 17) 5 3))) }
     ∷ record { given = boxed (measureAligned T (45 ∷ 52 ∷ []) (point (pos 10) (pos 20)) Baseline Alignment·Center 4 false); expected = boxed (success (Some (rectangle (pos 8) (pos 17) 5 3))) }
     ∷ record { given = boxed (measureAligned T (45 ∷ 52 ∷ []) (point (pos 10) (pos 20)) Baseline Alignment·Right 4 false); expected = boxed (success (Some (rectangle (pos 5) (pos 17) 5 3))) }
+    -- a centred line whose box does not begin at the line's start: "!-" in a font whose "!" has no pixels
+    ∷ record { given = boxed (measureAligned F (33 ∷ 45 ∷ []) (point (pos 10) (pos 10)) Baseline Alignment·Center 4 false); expected = boxed (success (Some (rectangle (pos 9) (pos 7) 2 1))) }
     -- * "-", newline, "4"
     ∷ record { given = measuredAt T (45 ∷ 10 ∷ 52 ∷ []); expected = measured (dims (pos 3) (pos 4) (Some (rectangle (pos 10) (pos 17) 2 7))) }
     -- * "A", U+0100 and U+10000: 7; U+0000: 8
