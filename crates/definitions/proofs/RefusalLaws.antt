@@ -5,10 +5,24 @@ use mathlib.Core.Bool.{Bool, true, false}
 use mathlib.Core.List.{List, [], _∷_, _++_}
 use Prim.Native.Nat.{ℕ}
 use native.Mathlib.Omega.{arith}
+use lib.IntN.{ℤ, pos}
+use lib.ListN.{take, set}
+use Rattle.integers.specs.Integers.{signed8}
 use Rattle.types.specs.declared.geometry.Point.{Point}
+use Rattle.types.specs.declared.geometry.RenderedDimensions.{RenderedDimensions}
+use Rattle.types.specs.declared.style.FontColor.{FontColor}
+use Rattle.types.specs.declared.style.FontColor.the-variants.{Transparent, WithBackground}
 use Rattle.types.specs.declared.style.FontStyle.{FontStyle}
-use Rattle.definitions.specs.Refusals.{Outcome, success, Cause, unlessRefused, anyApplies}
-use Rattle.definitions.specs.Calls.{drawCauses, drawBuffer}
+use Rattle.types.specs.declared.style.VerticalPosition.the-variants.{Baseline}
+use Rattle.definitions.specs.Refusals.{Outcome, success, refused, Cause, unlessRefused, anyApplies}
+use Rattle.definitions.specs.Header.{header, headerOff}
+use Rattle.definitions.specs.Bits.{lowBits, bits, number, readAt}
+use Rattle.definitions.specs.Lookup.{chain, search}
+use Rattle.definitions.specs.Glyph.{fields, glyph}
+use Rattle.definitions.specs.Utf8.{table, rowOf, firstCharacter, decodeFrom, newlines}
+use Rattle.definitions.specs.Text.{point, joinAll, layout}
+use Rattle.definitions.specs.Calls.{measure, drawCauses, draw, drawBuffer}
+use Rattle.definitions.specs.FontT.{T}
 use Rattle.definitions.proofs.OpenedLaws.{or-false}
 
 module _ {A : Type 0} (rest : Outcome A) where
@@ -46,6 +60,45 @@ each-off (c ∷ cs) e = let h = or-false (c .applies) (anyApplies cs) e in (h .0
 pub all-off : (cs : List Cause) → NoneApplies cs → anyApplies cs ≡ false
 all-off [] h = refl
 all-off (c ∷ cs) h = rw (h .0) (all-off cs (h .1))
+
+-- ---- the order of a call's causes
+
+-- A call with every cause, and the same with one after the other mended.
+module _ where
+  abbrev drawnOf : List ℕ → List ℕ → ℤ → FontColor → List ℕ → Outcome RenderedDimensions
+  drawnOf font text x color buffer = draw font text (point x (pos 0)) record { color = color; «vertical_pos» = Baseline } 0 false 1 1 buffer
+
+  abbrev background : FontColor
+  background = WithBackground 1 0
+
+  pub draw-order :
+      (drawnOf (take 22 T) (255 ∷ []) (pos 1048577) background []
+      ∷ drawnOf (set T 4 9) (255 ∷ []) (pos 1048577) background []
+      ∷ drawnOf T (255 ∷ []) (pos 1048577) background []
+      ∷ drawnOf T (255 ∷ []) (pos 1048577) background (0 ∷ [])
+      ∷ drawnOf T (65 ∷ []) (pos 1048577) background (0 ∷ [])
+      ∷ drawnOf T (65 ∷ []) (pos 0) background (0 ∷ [])
+      ∷ drawnOf T (65 ∷ []) (pos 0) (Transparent 1) (0 ∷ [])
+      ∷ [])
+      ≡ (refused 1 0 ∷ refused 2 0 ∷ refused 3 0 ∷ refused 4 0 ∷ refused 5 0 ∷ refused 6 0 ∷ refused 7 65 ∷ [])
+  unfolding T header headerOff signed8 glyph fields search chain readAt bits lowBits number table rowOf firstCharacter decodeFrom newlines joinAll layout draw
+  draw-order = refl
+
+  abbrev measuredOf : List ℕ → List ℕ → ℤ → Outcome RenderedDimensions
+  measuredOf font text x = measure font text (point x (pos 0)) Baseline 0 false
+
+  pub measure-order :
+      (measuredOf (take 22 T) (255 ∷ []) (pos 1048577)
+      ∷ measuredOf (set T 4 9) (255 ∷ []) (pos 1048577)
+      ∷ measuredOf T (255 ∷ []) (pos 1048577)
+      ∷ measuredOf T (65 ∷ []) (pos 1048577)
+      ∷ measuredOf T (65 ∷ []) (pos 0)
+      ∷ [])
+      ≡ (refused 1 0 ∷ refused 2 0 ∷ refused 4 0 ∷ refused 5 0 ∷ refused 7 65 ∷ [])
+  unfolding T header headerOff signed8 glyph fields search chain readAt bits lowBits number table rowOf firstCharacter decodeFrom newlines joinAll layout measure
+  measure-order = refl
+
+-- ---- the framebuffer of a refused call
 
 pub refused-keeps : (font text : List ℕ) (position : Point) (style : FontStyle) (lineHeight : ℕ) (skip : Bool) (width height : ℕ) (buffer : List ℕ)
     → anyApplies (drawCauses font text position style lineHeight width height buffer) ≡ true

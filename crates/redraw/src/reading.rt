@@ -3,7 +3,7 @@ ghost use mathlib.Core.Path.{_≡_};
 ghost use Rattle.definitions.specs.Calls.{dimensionsOutcome};
 ghost use Rattle.definitions.specs.Redraw.{request, panel, clearedBuffer, redrawn, redrawnBuffer, NoMarkLeft};
 use crate::fill::fill_box;
-use renderer::limits::has_bad_size;
+use layout::limits::has_bad_size;
 use renderer::render::render;
 use renderer::rendered_dimensions::get_rendered_dimensions;
 use types::geometry::BoundingBox;

@@ -17,11 +17,11 @@ use Rattle.definitions.specs.TextSteps.{LineState, withLine, stepAligned, measu
 use Rattle.definitions.specs.Calls.{openFont, origin, measuredLetter, measureAligned}
 use Rattle.definitions.proofs.TextLaws.{measure-aligned, aligned-next, aligned-stops}
 use Rattle.definitions.proofs.Utf8Laws.{position, character-count}
-use Rattle.renderer.specs.Origins.{checkedOrigin}
-use Rattle.renderer.specs.Ranges.{Checked, LineHasRoom}
-use Rattle.renderer.proofs.RangeLaws.{Small, advanced-start}
+use Rattle.layout.specs.Origins.{checkedOrigin}
+use Rattle.layout.specs.Ranges.{Checked, LineHasRoom}
+use Rattle.layout.proofs.RangeLaws.{Small, advanced-start}
 use Rattle.renderer.proofs.LineLaws.{InLines, line-has-room, lines-next}
-use Rattle.renderer.proofs.OriginLaws.{origin-is, call-refused, call-goes-on}
+use Rattle.layout.proofs.OriginLaws.{origin-is, call-refused, call-goes-on}
 use Rattle.renderer.proofs.LoopLaws.{Reached, reached-start, reached-end, reached-next, reached-stops}
 use Rattle.renderer.proofs.MeasureLaws.{checked-characters}
 

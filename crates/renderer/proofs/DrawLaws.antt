@@ -30,10 +30,10 @@ use Rattle.definitions.proofs.TextLaws.{measure-from, draw-from, draw-next}
 use Rattle.definitions.proofs.Utf8Laws.{next}
 use Rattle.glyph_renderer.specs.RunReads.{isWhole}
 use Rattle.renderer.specs.Letters.{RunsChecked}
-use Rattle.renderer.specs.Ranges.{Checked}
-use Rattle.renderer.specs.Origins.{originBy, checkedOrigin}
-use Rattle.renderer.proofs.OriginLaws.{origin-is}
-use Rattle.renderer.proofs.RangeLaws.{Small, in-range-small}
+use Rattle.layout.specs.Ranges.{Checked}
+use Rattle.layout.specs.Origins.{originBy, checkedOrigin}
+use Rattle.layout.proofs.OriginLaws.{origin-is}
+use Rattle.layout.proofs.RangeLaws.{Small, in-range-small}
 use Rattle.renderer.proofs.LoopLaws.{reached-start, reached-last, reached-next}
 use Rattle.renderer.proofs.MeasureLaws.{shown-glyph, Measured, measured-start, measured-next}
 

@@ -1,6 +1,4 @@
-pub mod RangeLaws
 pub mod LineLaws
-pub mod OriginLaws
 pub mod LoopLaws
 pub mod MeasureLaws
 pub mod AlignedLaws

@@ -23,8 +23,8 @@ use Rattle.definitions.specs.Geometry.{left, spanLength, join, SpanInReach, InR
 use Rattle.definitions.specs.Text.{Letter, shows, nothing, stops, boxAt, horizontalOffset}
 use Rattle.definitions.specs.TextSteps.{movedBox, LineState, withLine, newlineAligned, glyphAligned, letterAligned, stepAligned}
 use Rattle.definitions.proofs.JoinLaws.{end, join-end, reach-join}
-use Rattle.renderer.specs.Ranges.{Near, Checked, LineSpan, LineInReach, LineFits, LineHasRoom}
-use Rattle.renderer.proofs.RangeLaws.{Small, Advanced, advanced-y, near-row, advanced-newline, advanced-letter, advanced-nothing}
+use Rattle.layout.specs.Ranges.{Near, Checked, LineSpan, LineInReach, LineFits, LineHasRoom}
+use Rattle.layout.proofs.RangeLaws.{Small, Advanced, advanced-y, near-row, advanced-newline, advanced-letter, advanced-nothing}
 
 -- ---- boxes
 

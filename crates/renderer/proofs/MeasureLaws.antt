@@ -22,11 +22,11 @@ use Rattle.definitions.specs.Calls.{openFont, origin, measuredLetter, measure}
 use Rattle.definitions.proofs.GlyphLaws.{glyph-range}
 use Rattle.definitions.proofs.TextLaws.{measure-from, measure-next, measure-stops}
 use Rattle.definitions.proofs.Utf8Laws.{position, utf8-characters, character-count}
-use Rattle.renderer.specs.Ranges.{HasRoom, Checked}
-use Rattle.renderer.specs.Origins.{checkedOrigin}
-use Rattle.renderer.proofs.OriginLaws.{origin-is, call-refused, call-goes-on}
+use Rattle.layout.specs.Ranges.{HasRoom, Checked}
+use Rattle.layout.specs.Origins.{checkedOrigin}
+use Rattle.layout.proofs.OriginLaws.{origin-is, call-refused, call-goes-on}
 use Rattle.renderer.proofs.LoopLaws.{Reached, reached-start, reached-end, reached-next, reached-stops}
-use Rattle.renderer.proofs.RangeLaws.{Small, in-range-small, Within, advanced-start, has-room, within-next}
+use Rattle.layout.proofs.RangeLaws.{Small, in-range-small, Within, advanced-start, has-room, within-next}
 
 -- the glyphs that the letters of an opened font show
 pub shown-glyph : (skip : Bool) (o : Outcome GlyphReader) (g : GlyphReader) → letter skip o ≡ shows g → o ≡ success g

@@ -1,28 +1,12 @@
--- How the code's letter is read, when it may be drawn, and the offset of a centred line.
+-- When a letter may be drawn.
 use mathlib.Core.Path.{_≡_}
 use mathlib.Core.List.{List}
 use Prim.Native.Nat.{ℕ}
-use lib.IntN.{ℤ, pos}
 use Rattle.types.specs.declared.font_reader.FontReader.{FontReader}
-use Rattle.types.specs.declared.geometry.BoundingBox.{BoundingBox}
 use Rattle.types.specs.declared.glyph_reader.GlyphReader.{GlyphReader}
-use Rattle.types.specs.declared.style.HorizontalAlignment.the-variants.{Center}
-use Rattle.definitions.specs.Refusals.{number, codePoint}
-use Rattle.definitions.specs.Text.{shows, nothing, stops, horizontalOffset}
-use Rattle.definitions.specs.Text as text
+use Rattle.definitions.specs.Text.{Letter, shows}
 use Rattle.glyph_renderer.specs.Stands.{CheckedGlyph}
-use Rattle.renderer.specs.declared.render_actions.Letter.{Letter}
-use Rattle.renderer.specs.declared.render_actions.Letter.the-variants.{Shows, Nothing, Stops}
-
-abbrev pub asLetter : Letter → text.Letter
-asLetter (Shows g) = shows g
-asLetter Nothing = nothing
-asLetter (Stops e) = stops (number e) (codePoint e)
 
 -- the runs of the glyph that it shows were read to the last pixel
-abbrev pub RunsChecked : List ℕ → FontReader → text.Letter → Type 0
+abbrev pub RunsChecked : List ℕ → FontReader → Letter → Type 0
 RunsChecked font head l = (g : GlyphReader) → l ≡ shows g → CheckedGlyph font head g
-
--- the alignment Center
-abbrev pub centerOffset : BoundingBox → ℤ
-centerOffset box = horizontalOffset Center box (pos 0)

@@ -1,5 +1,2 @@
 pub mod Letters
-pub mod Ranges
-pub mod Origins
 pub mod Lines
-pub mod Sizes

@@ -1,8 +1,5 @@
 // The public calls. Each takes the font's bytes and checks all of its input: none has a `requires`.
 pub mod font_bounding_box;
-pub mod limits;
-mod origin;
 pub mod render;
-mod render_actions;
 pub mod rendered_dimensions;
 pub mod rendered_dimensions_aligned;

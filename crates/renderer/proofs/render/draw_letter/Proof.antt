@@ -1,7 +1,7 @@
 -- `letterShown` goes by the same cases.
 use mathlib.Core.Path.{_≡_, ap, _∙_}
 use lib.IntN.{_+ℤ_}
-use Rattle.renderer.specs.Letters.{asLetter}
+use Rattle.layout.specs.Letters.{asLetter}
 use borrow.Author.Needs.{needs}
 use Rattle.renderer.proofs.render.draw_letter.Statement.{statement}
 use Rattle.renderer.proofs.render.draw_letter.Tie as tie

@@ -10,10 +10,11 @@ use Rattle.definitions.specs.Framebuffer.{framebufferCause}
 use Rattle.definitions.specs.Limits.{backgroundCause}
 use Rattle.definitions.specs.Calls.{openFont, fontReaderOutcome}
 use Rattle.definitions.proofs.OpenedLaws.{opened}
-use Rattle.renderer.specs.Sizes.{colorOff}
-use Rattle.renderer.specs.Origins.{checkedOrigin, originOutcome}
-use Rattle.renderer.proofs.OriginLaws.{passed, passed-checked}
-use Rattle.renderer.proofs.SizeLaws.{size-fits, color-is}
+use Rattle.layout.specs.Sizes.{colorOff}
+use Rattle.layout.specs.Origins.{checkedOrigin, originOutcome}
+use Rattle.layout.proofs.OriginLaws.{passed, passed-checked}
+use Rattle.layout.proofs.LimitLaws.{color-is}
+use Rattle.renderer.proofs.SizeLaws.{size-fits}
 use Rattle.renderer.proofs.DrawLaws.{font-refused, size-refused, place-refused, color-refused, drawn-whole}
 use Rattle.renderer.proofs.render.render.Statement.{statement}
 use Rattle.renderer.proofs.render.render.Tie as tie

@@ -4,7 +4,7 @@ use mir.Val.{SFits}
 use mir.Facts.{toZ-ofZ}
 use borrow.Author.Needs.{needs}
 use Rattle.integers.proofs.Laws.{stored}
-use Rattle.renderer.proofs.RangeLaws.{near-fits}
+use Rattle.layout.proofs.RangeLaws.{near-fits}
 use Rattle.renderer.proofs.rendered_dimensions.add_glyph.Statement.{statement}
 use Rattle.renderer.proofs.rendered_dimensions.add_glyph.Tie as tie
 

@@ -7,7 +7,7 @@ use mir.Facts.{toZ-ofZ}
 use borrow.Author.Needs.{needs}
 use Rattle.definitions.specs.Geometry.{InReach}
 use Rattle.definitions.specs.TextSteps.{nextBox}
-use Rattle.renderer.proofs.RangeLaws.{Small, near-fits, signed-byte, box-in-reach}
+use Rattle.layout.proofs.RangeLaws.{Small, near-fits, signed-byte, box-in-reach}
 use Rattle.renderer.proofs.rendered_dimensions.get_next_bounding_box.Statement.{statement}
 use Rattle.renderer.proofs.rendered_dimensions.get_next_bounding_box.Tie as tie
 

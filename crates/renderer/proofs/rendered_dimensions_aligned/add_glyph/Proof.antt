@@ -8,8 +8,8 @@ use borrow.Author.Needs.{needs}
 use Rattle.integers.proofs.Laws.{zarith, stored}
 use Rattle.definitions.specs.Geometry.{InReach}
 use Rattle.definitions.specs.Text.{boxAt}
-use Rattle.renderer.specs.Ranges.{Near}
-use Rattle.renderer.proofs.RangeLaws.{Small, near-fits, fits-small, box-in-reach}
+use Rattle.layout.specs.Ranges.{Near}
+use Rattle.layout.proofs.RangeLaws.{Small, near-fits, fits-small, box-in-reach}
 use Rattle.renderer.proofs.LineLaws.{x-near, line-in-reach}
 use Rattle.renderer.proofs.rendered_dimensions_aligned.add_glyph.Statement.{statement}
 use Rattle.renderer.proofs.rendered_dimensions_aligned.add_glyph.Tie as tie

@@ -9,7 +9,7 @@ use Rattle.definitions.specs.Geometry.{InReach}
 use Rattle.definitions.specs.Text.{horizontalOffset}
 use Rattle.definitions.specs.TextSteps.{movedBox}
 use lib.IntN.{ℤ, _+ℤ_}
-use Rattle.renderer.proofs.RangeLaws.{near-fits}
+use Rattle.layout.proofs.RangeLaws.{near-fits}
 use Rattle.renderer.proofs.LineLaws.{x-near, column-near, moved-in-reach}
 use Rattle.renderer.proofs.rendered_dimensions_aligned.end_line.Statement.{statement}
 use Rattle.renderer.proofs.rendered_dimensions_aligned.end_line.Tie as tie

@@ -7,8 +7,8 @@ use Rattle.types.specs.declared.font_reader.FontReader.{FontReader}
 use Rattle.definitions.specs.Refusals.{success, refused, number, codePoint}
 use Rattle.definitions.specs.Calls.{openFont, fontReaderOutcome, measureAligned}
 use Rattle.definitions.proofs.OpenedLaws.{opened, open-refused}
-use Rattle.renderer.specs.Origins.{checkedOrigin, originOutcome}
-use Rattle.renderer.proofs.OriginLaws.{passed, passed-checked}
+use Rattle.layout.specs.Origins.{checkedOrigin, originOutcome}
+use Rattle.layout.proofs.OriginLaws.{passed, passed-checked}
 use Rattle.renderer.proofs.AlignedLaws.{aligned-is, aligned-refused}
 use Rattle.renderer.proofs.rendered_dimensions_aligned.get_rendered_dimensions_aligned.Statement.{
   statement,

@@ -2,7 +2,7 @@
 use mir.Facts.{toZ-ofZ}
 use borrow.Author.Needs.{needs}
 use Rattle.types.specs.declared.geometry.Rectangle.{Rectangle}
-use Rattle.renderer.specs.Ranges.{LineRectangle}
+use Rattle.layout.specs.Ranges.{LineRectangle}
 use Rattle.renderer.proofs.LineLaws.{start-fits, moved-fits}
 use Rattle.renderer.proofs.rendered_dimensions_aligned.move_box.Statement.{statement}
 use Rattle.renderer.proofs.rendered_dimensions_aligned.move_box.Tie as tie

@@ -1,0 +1,147 @@
+-- Causes 4 and 5 and the origin of a text: what a call within these limits may count on, and what a call that is refused
+-- comes to. Assumes nothing.
+use mathlib.Core.Path.{_≡_, refl, sym, ap, subst, _∙_}
+use mathlib.Core.Bool.{Bool, true, false, not}
+use mathlib.Core.List.{List, [], _∷_}
+use Prim.Native.Nat.{ℕ, _*_, _≤_}
+use native.Mathlib.Omega.{arith}
+use lib.IntN.{ℤ, pos, negsuc}
+use lib.ListN.{length}
+use lib.Signed.{ltZ, _≤ℤ_}
+use mir.Syntax.{w8}
+use mir.Val.{SFits}
+use borrow.Author.Tests.{ltb-false}
+use Rattle.integers.specs.Integers.{pick}
+use Rattle.integers.proofs.Laws.{zarith, plus}
+use Rattle.types.specs.declared.font_reader.FontReader.{FontReader}
+use Rattle.types.specs.declared.geometry.Point.{Point}
+use Rattle.types.specs.declared.style.VerticalPosition.{VerticalPosition}
+use Rattle.definitions.specs.Refusals.{Outcome, success, refused, unlessRefused}
+use Rattle.definitions.specs.Utf8.{decode, isUtf8, newlines}
+use Rattle.definitions.specs.VerticalOffset.{verticalOffset}
+use Rattle.definitions.specs.Limits.{textCause, coordinateOff, placeCause}
+use Rattle.definitions.specs.Calls.{openFont, measureCauses, characters, origin}
+use Rattle.definitions.proofs.OpenedLaws.{or-false, opened, open-goes-on}
+use Rattle.definitions.proofs.Utf8Laws.{utf8-characters, character-count}
+use Rattle.definitions.proofs.VerticalOffsetLaws.{offset-limits}
+use Rattle.layout.specs.Ranges.{Checked}
+use Rattle.layout.specs.Origins.{originBy, checkedOrigin}
+use Rattle.layout.proofs.RangeLaws.{newlines-length, newlines-most}
+
+-- ---- neither cause applies
+
+pub not-false : (t : Bool) → not t ≡ false → t ≡ true
+not-false true e = refl
+not-false false e = let z : _≡_ {A = ℕ} 0 1 = cc in absurd (omega arith)
+
+pub record TextLimits (text : List ℕ) : Type 0 where
+  pub short : length text ≤ 4096
+  pub utf8 : isUtf8 (decode text) ≡ true
+  pub count : newlines (characters text) ≤ 4096
+
+pub text-limits : (text : List ℕ) → textCause text .applies ≡ false → TextLimits text
+text-limits text e =
+    let l = or-false _ _ e in
+    let short = ltb-false 4096 (length text) (l .0) in
+    let utf8 = not-false _ (l .1) in
+    record {
+      short = short;
+      utf8 = utf8;
+      count = omega (arith, newlines-length (characters text), character-count text (utf8-characters (decode text) utf8));
+    }
+
+pub record PlaceLimits (position : Point) (lineHeight : ℕ) : Type 0 where
+  pub left : negsuc 1048575 ≤ℤ position .x
+  pub right : position .x ≤ℤ pos 1048576
+  pub top : negsuc 1048575 ≤ℤ position .y
+  pub bottom : position .y ≤ℤ pos 1048576
+  pub line : lineHeight ≤ 65535
+
+coordinate-limits : (z : ℤ) → coordinateOff z ≡ false → (negsuc 1048575 ≤ℤ z) × (z ≤ℤ pos 1048576)
+coordinate-limits z e = let l = or-false (ltZ z (negsuc 1048575)) (ltZ (pos 1048576) z) e in (omega zarith, omega zarith)
+
+pub place-limits : (position : Point) (lineHeight : ℕ) → placeCause position lineHeight .applies ≡ false → PlaceLimits position lineHeight
+place-limits position lineHeight e =
+    let l = or-false _ _ e in
+    let k = or-false _ _ (l .0) in
+    let x = coordinate-limits (position .x) (k .0) in
+    let y = coordinate-limits (position .y) (k .1) in
+    record { left = x .0; right = x .1; top = y .0; bottom = y .1; line = ltb-false 65535 lineHeight (l .1) }
+
+-- ---- the origin
+
+module _ (head : FontReader) (text : List ℕ) (position : Point) (v : VerticalPosition) (lineHeight : ℕ) where
+  abbrev pub offset : ℤ
+  offset = verticalOffset v (pos (newlines (characters text) * lineHeight)) (head .ascent) (head .descent)
+
+  module _ (f : SFits w8 (head .ascent)) (g : SFits w8 (head .descent)) (a : TextLimits text) (b : PlaceLimits position lineHeight) where
+    pub offset-near : (negsuc 268431487 ≤ℤ offset) × (offset ≤ℤ pos 128)
+    offset-near = offset-limits (newlines (characters text) * lineHeight) f g v (newlines-most (a .count) (b .line))
+
+    pub origin-checked : Checked text (originBy head text position v lineHeight) lineHeight
+    origin-checked =
+        let o = offset-near in
+        record {
+          short = a .short;
+          utf8 = a .utf8;
+          line = b .line;
+          left = b .left;
+          right = b .right;
+          top = omega (zarith, plus (position .y) offset);
+          bottom = omega (zarith, plus (position .y) offset);
+        }
+
+  -- what the two causes leave, by whether each applies
+  abbrev after : {A : Type 0} → Outcome A → Bool → Bool → Outcome A
+  after rest s t = pick s (refused 4 0) (pick t (refused 5 0) rest)
+
+  pub record Passed (o : Point) : Type 0 where
+    pub text-in : TextLimits text
+    pub place-in : PlaceLimits position lineHeight
+    pub is : originBy head text position v lineHeight ≡ o
+
+  passed-by : (s t : Bool) → textCause text .applies ≡ s → placeCause position lineHeight .applies ≡ t → (o : Point)
+      → after (success (originBy head text position v lineHeight)) s t ≡ success o → Passed o
+  passed-by true t p q o e = let z : _≡_ {A = ℕ} 0 1 = cc in absurd (omega arith)
+  passed-by false true p q o e = let z : _≡_ {A = ℕ} 0 1 = cc in absurd (omega arith)
+  passed-by false false p q o e = record { text-in = text-limits text p; place-in = place-limits position lineHeight q; is = cc }
+
+  pub passed : (o : Point) → checkedOrigin head text position v lineHeight ≡ success o → Passed o
+  passed o e = passed-by (textCause text .applies) (placeCause position lineHeight .applies) refl refl o e
+
+  pub passed-checked : {o : Point} → SFits w8 (head .ascent) → SFits w8 (head .descent) → Passed o → Checked text o lineHeight
+  passed-checked f g p = subst (λ (o : Point). Checked text o lineHeight) (p .is) (origin-checked f g (p .text-in) (p .place-in))
+
+  module _ {A : Type 0} (rest : Outcome A) where
+    refused-by : (s t : Bool) (n c : ℕ) → after (success (originBy head text position v lineHeight)) s t ≡ refused n c → after rest s t ≡ refused n c
+    refused-by true t n c e = cc
+    refused-by false true n c e = cc
+    refused-by false false n c e = let z : _≡_ {A = ℕ} 0 1 = cc in absurd (omega arith)
+
+    pub origin-refused : (n c : ℕ) → checkedOrigin head text position v lineHeight ≡ refused n c
+        → unlessRefused (textCause text ∷ placeCause position lineHeight ∷ []) rest ≡ refused n c
+    origin-refused n c e = refused-by (textCause text .applies) (placeCause position lineHeight .applies) n c e
+
+    goes-on-by : (s t : Bool) (o : Point) → after (success (originBy head text position v lineHeight)) s t ≡ success o → after rest s t ≡ rest
+    goes-on-by true t o e = let z : _≡_ {A = ℕ} 0 1 = cc in absurd (omega arith)
+    goes-on-by false true o e = let z : _≡_ {A = ℕ} 0 1 = cc in absurd (omega arith)
+    goes-on-by false false o e = refl
+
+    pub origin-goes-on : (o : Point) → checkedOrigin head text position v lineHeight ≡ success o
+        → unlessRefused (textCause text ∷ placeCause position lineHeight ∷ []) rest ≡ rest
+    origin-goes-on o e = goes-on-by (textCause text .applies) (placeCause position lineHeight .applies) o e
+
+-- ---- a call that measures, on a font that opens
+
+module _ (font : List ℕ) {head : FontReader} (opens : openFont font ≡ success head) (text : List ℕ) (position : Point) (v : VerticalPosition) (lineHeight : ℕ) where
+  pub origin-is : {o : Point} → checkedOrigin head text position v lineHeight ≡ success o → origin font text position v lineHeight ≡ o
+  origin-is {o} e =
+      ap (λ (h : FontReader). originBy h text position v lineHeight) (sym (opened font head opens .read))
+      ∙ passed head text position v lineHeight o e .is
+
+  module _ {A : Type 0} (rest : Outcome A) where
+    pub call-refused : {n c : ℕ} → checkedOrigin head text position v lineHeight ≡ refused n c → unlessRefused (measureCauses font text position lineHeight) rest ≡ refused n c
+    call-refused {n} {c} e = open-goes-on font _ head opens ∙ origin-refused head text position v lineHeight rest n c e
+
+    pub call-goes-on : {o : Point} → checkedOrigin head text position v lineHeight ≡ success o → unlessRefused (measureCauses font text position lineHeight) rest ≡ rest
+    call-goes-on {o} e = open-goes-on font _ head opens ∙ origin-goes-on head text position v lineHeight rest o e

@@ -1,0 +1,34 @@
+-- The tests are those of the cause, in order; sides of at most 256 have a product that fits.
+use mathlib.Core.Path.{_≡_, sym, _∙_}
+use native.Mathlib.Nat.{mul-le-mul}
+use native.Mathlib.Omega.{arith}
+use Rattle.layout.proofs.LimitLaws.{side-limits}
+use borrow.Author.Needs.{needs}
+use Rattle.layout.proofs.limits.has_bad_size.Statement.{statement}
+use Rattle.layout.proofs.limits.has_bad_size.Tie as tie
+
+has-bad-side-requires : tie.Need-has-bad-side-requires
+has-bad-side-requires c κs = search needs
+
+returns : tie.Need-returns
+returns c = simp (sym (c .before .has-bad-side .ensures), c .if1 .taken)
+
+has-bad-side-requires-2 : tie.Need-has-bad-side-requires-2
+has-bad-side-requires-2 c κs = search needs
+
+returns-2 : tie.Need-returns-2
+returns-2 c = simp (sym (c .before .before .before .has-bad-side .ensures), c .before .before .if1 .left, sym (c .before .has-bad-side2 .ensures), c .if2 .taken)
+
+mul-result : tie.Need-mul-result
+mul-result c =
+    let w = side-limits (c .before .before .before .before .args .width) (sym (c .before .before .before .has-bad-side .ensures) ∙ c .before .before .if1 .left) in
+    let h = side-limits (c .before .before .before .before .args .height) (sym (c .before .has-bad-side2 .ensures) ∙ c .if2 .left) in
+    omega (arith, mul-le-mul (w .1) (h .1))
+
+returns-3 : tie.Need-returns-3
+returns-3 c = simp (sym (c .before .before .before .has-bad-side .ensures), c .before .before .if1 .left, sym (c .before .has-bad-side2 .ensures), c .if2 .left)
+
+pub has-bad-size-spec : {M : Type 1} → statement M
+has-bad-size-spec =
+    tie.close
+    (tie.spec has-bad-side-requires returns has-bad-side-requires-2 returns-2 mul-result returns-3)

@@ -1,0 +1,73 @@
+-- Within the limits of the text and the place every value on the way is near 0.
+use mathlib.Core.Path.{_≡_}
+use lib.IntN.{ℤ, _+ℤ_}
+use mir.Syntax.{w8, w32}
+use mir.Val.{SFits, toZ, ofZ}
+use mir.Facts.{toZ-ofZ}
+use borrow.Author.Needs.{needs}
+use Rattle.integers.proofs.Laws.{zarith, plus, stored}
+use Rattle.layout.proofs.OriginLaws.{TextLimits, text-limits, PlaceLimits, place-limits, offset, offset-near}
+use Rattle.layout.proofs.origin.text_origin.Statement.{statement}
+use Rattle.layout.proofs.origin.text_origin.Tie as tie
+
+module _ (c : tie.Start) where
+  text-in : TextLimits (c .args .text .now)
+  text-in = text-limits _ (c .pre .0)
+
+  place-in : PlaceLimits (c .args .position) (c .args .line-height)
+  place-in = place-limits _ _ (c .pre .1)
+
+  ascent-fits : SFits w8 (c .args .head .ascent)
+  ascent-fits = search needs
+
+  descent-fits : SFits w8 (c .args .head .descent)
+  descent-fits = search needs
+
+  x-fits : SFits w32 (c .args .position .x)
+  x-fits = search needs
+
+  y-fits : SFits w32 (c .args .position .y)
+  y-fits = search needs
+
+  abbrev moved-by : ℤ
+  moved-by = offset (c .args .head) (c .args .text .now) (c .args .position) (c .args .vertical-pos) (c .args .line-height)
+
+  sum-fits : SFits w32 (c .args .position .y +ℤ moved-by)
+  sum-fits =
+      let b = place-in in
+      let o = offset-near (c .args .head) (c .args .text .now) (c .args .position) (c .args .vertical-pos) (c .args .line-height) ascent-fits descent-fits text-in b in
+      omega (zarith, plus (c .args .position .y) moved-by)
+
+compute-vertical-offset-requires : tie.Need-compute-vertical-offset-requires
+compute-vertical-offset-requires c κs =
+    let s = c .before .before .before .before in
+    simp (c .before .before .get-newline-count .ensures) (text-in s .count, place-in s .line)
+
+-- the anchor's number
+module _ (c : tie.After-compute-vertical-offset) where
+  abbrev entry : tie.Start
+  entry = c .before .before .before .before .before
+
+  offset-is : toZ w32 (ofZ w32 (c .compute-vertical-offset .result)) ≡ moved-by entry
+  offset-is =
+      stored w32 (c .compute-vertical-offset .ok)
+      (simp (toZ-ofZ, ascent-fits entry, descent-fits entry, c .before .before .before .get-newline-count .ensures) at (c .compute-vertical-offset .ensures))
+
+get-newline-count-requires : tie.Need-get-newline-count-requires
+get-newline-count-requires c κs = let t = text-in (c .before) in (t .short, t .utf8)
+
+add-t8 : tie.Need-add-t8
+add-t8 c =
+    let k = c .before .before in
+    let s = entry k in
+    simp (offset-is k, toZ-ofZ, y-fits s) (sum-fits s)
+
+returns : tie.Need-returns
+returns c =
+    let k = c .before .before .before in
+    let s = entry k in
+    simp (offset-is k, toZ-ofZ, x-fits s, y-fits s, sum-fits s)
+
+pub text-origin-spec : {M : Type 1} → statement M
+text-origin-spec =
+    tie.close (tie.spec get-newline-count-requires compute-vertical-offset-requires add-t8 returns)

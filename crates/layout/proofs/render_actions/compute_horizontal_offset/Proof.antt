@@ -1,0 +1,77 @@
+-- `horizontalOffset` goes by the same cases.
+use mathlib.Core.Path.{_≡_, refl, _∙_}
+use lib.IntN.{ℤ, pos, negℤ, _-ℤ_}
+use mir.Syntax.{w32}
+use mir.Val.{SFits}
+use mir.Facts.{toZ-ofZ}
+use borrow.Author.Needs.{needs}
+use Rattle.integers.proofs.Laws.{zarith, minus, neg, stored}
+use Rattle.types.specs.declared.geometry.BoundingBox.{BoundingBox}
+use Rattle.types.specs.declared.geometry.BoundingBox.the-variants.{None, Some}
+use Rattle.types.specs.declared.style.HorizontalAlignment.the-variants.{Center}
+use Rattle.definitions.specs.Text.{horizontalOffset}
+use Rattle.layout.specs.Letters.{centerOffset}
+use Rattle.layout.proofs.RangeLaws.{negated}
+use Rattle.layout.proofs.render_actions.compute_horizontal_offset.Statement.{statement}
+use Rattle.layout.proofs.render_actions.compute_horizontal_offset.Tie as tie
+
+module _ (c : tie.Start) where
+  abbrev before-last : ℤ
+  before-last = c .args .advance -ℤ pos 1
+
+  last-fits : SFits w32 before-last
+  last-fits = omega (zarith, minus (c .args .advance) (pos 1))
+
+  negated-fits : SFits w32 (negℤ before-last)
+  negated-fits = omega (zarith, minus (c .args .advance) (pos 1), neg before-last)
+
+center-is : (b : BoundingBox) (advance : ℤ) → centerOffset b ≡ horizontalOffset Center b advance
+center-is None advance = refl
+center-is (Some r) advance = refl
+
+enum-told : tie.Need-enum-told
+enum-told c = search needs
+
+enum-told-2 : tie.Need-enum-told-2
+enum-told-2 c = search needs
+
+compute-center-offset-requires : tie.Need-compute-center-offset-requires
+compute-center-offset-requires c κs = search needs
+
+enum-told-3 : tie.Need-enum-told-3
+enum-told-3 c = search needs
+
+sub-result : tie.Need-sub-result
+sub-result c = let s = c .before .before in simp (toZ-ofZ, s .fits .advance) (last-fits s)
+
+sub-result-2 : tie.Need-sub-result-2
+sub-result-2 c = let s = c .before .before in simp (toZ-ofZ, s .fits .advance, last-fits s) (simp (negated (before-last s)) (negated-fits s))
+
+returns : tie.Need-returns
+returns c = simp (c .enum-told .given .1)
+
+returns-2 : tie.Need-returns-2
+returns-2 c =
+    let s = c .before .before .before in
+    simp (c .before .enum-told2 .given .1)
+    (stored w32 (c .compute-center-offset .ok) (c .compute-center-offset .ensures) ∙ center-is (s .args .line-box) (s .args .advance))
+
+returns-3 : tie.Need-returns-3
+returns-3 c =
+    let s = c .before .before in
+    simp (c .enum-told3 .given .1)
+    (simp (toZ-ofZ, s .fits .advance, last-fits s) (simp (negated (before-last s), toZ-ofZ, negated-fits s)))
+
+pub compute-horizontal-offset-spec : {M : Type 1} → statement M
+compute-horizontal-offset-spec =
+    tie.close
+    (tie.spec
+    enum-told
+    enum-told-2
+    compute-center-offset-requires
+    enum-told-3
+    sub-result
+    sub-result-2
+    returns
+    returns-2
+    returns-3)

@@ -1,0 +1,42 @@
+-- The tests are the definition's, and each edge is what its function ensures.
+use mir.Syntax.{w8, w32}
+use mir.Val.{SFits}
+use mir.Facts.{toZ-ofZ}
+use borrow.Author.Needs.{needs}
+use Rattle.integers.proofs.Laws.{stored}
+use Rattle.layout.proofs.render_actions.get_glyph_bounding_box.Statement.{statement}
+use Rattle.layout.proofs.render_actions.get_glyph_bounding_box.Tie as tie
+
+module _ (c : tie.Start) where
+  x-fits : SFits w8 (c .args .glyph .«offset_x»)
+  x-fits = search needs
+
+  y-fits : SFits w8 (c .args .glyph .«offset_y»)
+  y-fits = search needs
+
+returns : tie.Need-returns
+returns c = simp (c .if1 .taken)
+
+moved-requires : tie.Need-moved-requires
+moved-requires c κs = search needs
+
+top-requires : tie.Need-top-requires
+top-requires c κs = search needs
+
+cast-t10 : tie.Need-cast-t10
+cast-t10 c = search needs
+
+cast-t11 : tie.Need-cast-t11
+cast-t11 c = search needs
+
+returns-2 : tie.Need-returns-2
+returns-2 c =
+    let top = c .before .before in
+    let left = top .before .before in
+    let s = left .before .before .before .before .before in
+    simp (left .before .before .if1 .left, stored w32 (left .moved .ok) (left .moved .ensures), stored w32 (top .top .ok) (top .top .ensures))
+    (simp (toZ-ofZ, x-fits s, y-fits s, s .fits .x, s .fits .y))
+
+pub get-glyph-bounding-box-spec : {M : Type 1} → statement M
+get-glyph-bounding-box-spec =
+    tie.close (tie.spec returns moved-requires top-requires cast-t10 cast-t11 returns-2)

@@ -1,0 +1,57 @@
+-- Of the errors only that of an unknown letter has number 7.
+use mathlib.Core.Path.{_≡_, refl}
+use mathlib.Core.Bool.{Bool, true, false, _&&_}
+use mathlib.Core.List.{[], _∷_}
+use mathlib.Core.Logic.{inl, inr}
+use Prim.Native.Nat.{ℕ}
+use native.Mathlib.Omega.{arith}
+use types.Run.{OneOf}
+use denote.Enum.Declared.{tagOf}
+use borrow.Author.Needs.{needs}
+use Rattle.integers.specs.Integers.{pick}
+use Rattle.types.specs.declared.error.Error.{Error}
+use Rattle.types.specs.declared.error.Error.the-variants.{FontLength, FontHeader, FramebufferSize, TextEncoding, PositionOrLineHeight, BackgroundColorNotSupported, GlyphNotFound, FontEnds}
+use Rattle.types.proofs.error.Error.{the-type}
+use Rattle.definitions.specs.Refusals.{number, codePoint, refusal}
+use Rattle.definitions.specs.Text.{Letter, nothing, stops, letter}
+use Rattle.layout.proofs.render_actions.skip_unknown.Statement.{statement}
+use Rattle.layout.proofs.render_actions.skip_unknown.Tie as tie
+
+not-six : {tag : ℕ} → OneOf (0 ∷ 1 ∷ 2 ∷ 3 ∷ 4 ∷ 5 ∷ 7 ∷ []) tag → tag ≡ 6 → ⊥
+not-six (inl e) f = omega arith
+not-six (inr (inl e)) f = omega arith
+not-six (inr (inr (inl e))) f = omega arith
+not-six (inr (inr (inr (inl e)))) f = omega arith
+not-six (inr (inr (inr (inr (inl e))))) f = omega arith
+not-six (inr (inr (inr (inr (inr (inl e)))))) f = omega arith
+not-six (inr (inr (inr (inr (inr (inr e)))))) f = omega arith
+
+stays : (skip : Bool) (l : Letter) → l ≡ pick (skip && false) nothing l
+stays true l = refl
+stays false l = refl
+
+-- any error but the seventh variant, whose tag is 6
+others-stop : (skip : Bool) (e : Error) → OneOf (0 ∷ 1 ∷ 2 ∷ 3 ∷ 4 ∷ 5 ∷ 7 ∷ []) (tagOf the-type e) → stops (number e) (codePoint e) ≡ letter skip (refusal e)
+others-stop skip FontLength k = stays skip (stops 1 0)
+others-stop skip FontHeader k = stays skip (stops 2 0)
+others-stop skip FramebufferSize k = stays skip (stops 3 0)
+others-stop skip TextEncoding k = stays skip (stops 4 0)
+others-stop skip PositionOrLineHeight k = stays skip (stops 5 0)
+others-stop skip BackgroundColorNotSupported k = stays skip (stops 6 0)
+others-stop skip (GlyphNotFound c) k = absurd (not-six k refl)
+others-stop skip (FontEnds c) k = stays skip (stops 8 c)
+
+enum-told : tie.Need-enum-told
+enum-told c = search needs
+
+returns : tie.Need-returns
+returns c = others-stop (c .before .args .ignore-unknown-chars) (c .before .args .error) (c .match .keys2)
+
+returns-2 : tie.Need-returns-2
+returns-2 c = simp (c .before .enum-told .given .1, c .if1 .taken)
+
+returns-3 : tie.Need-returns-3
+returns-3 c = simp (c .before .enum-told .given .1, c .if1 .left)
+
+pub skip-unknown-spec : {M : Type 1} → statement M
+skip-unknown-spec = tie.close (tie.spec enum-told returns returns-2 returns-3)

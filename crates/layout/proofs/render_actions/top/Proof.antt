@@ -1,0 +1,40 @@
+-- Every value on the way is near 0.
+use mathlib.Core.Path.{_≡_}
+use lib.IntN.{pos, _+ℤ_, _-ℤ_}
+use mir.Syntax.{w32}
+use mir.Val.{SFits, toZ}
+use mir.Facts.{toZ-ofZ, toZ-pos}
+use borrow.Author.Needs.{needs}
+use Rattle.integers.proofs.Laws.{zarith, plus, minus, range, widens, widened}
+use Rattle.layout.proofs.render_actions.top.Statement.{statement}
+use Rattle.layout.proofs.render_actions.top.Tie as tie
+
+module _ (c : tie.Start) where
+  height-is : toZ w32 (c .args .height) ≡ pos (c .args .height)
+  height-is = toZ-pos w32 (search needs)
+
+  sum-fits : SFits w32 (pos (c .args .height) +ℤ c .args .offset-y)
+  sum-fits = omega (zarith, plus (pos (c .args .height)) (c .args .offset-y), range (c .fits .offset-y))
+
+  top-fits : SFits w32 (c .args .y -ℤ (pos (c .args .height) +ℤ c .args .offset-y))
+  top-fits =
+      omega
+      (zarith, plus (pos (c .args .height)) (c .args .offset-y), minus (c .args .y) (pos (c .args .height) +ℤ c .args .offset-y), range (c .fits .offset-y))
+
+cast-result : tie.Need-cast-result
+cast-result c = search needs
+
+cast-result-2 : tie.Need-cast-result-2
+cast-result-2 c = simp (toZ-ofZ, c .fits .offset-y) (widens (c .fits .offset-y))
+
+add-result : tie.Need-add-result
+add-result c = simp (height-is c, widened (c .fits .offset-y)) (sum-fits c)
+
+sub-result : tie.Need-sub-result
+sub-result c = simp (height-is c, widened (c .fits .offset-y), toZ-ofZ, c .fits .y, sum-fits c) (top-fits c)
+
+returns : tie.Need-returns
+returns c = simp (height-is c, widened (c .fits .offset-y), toZ-ofZ, c .fits .y, sum-fits c, top-fits c)
+
+pub top-spec : {M : Type 1} → statement M
+top-spec = tie.close (tie.spec cast-result cast-result-2 add-result sub-result returns)

@@ -1,0 +1,4 @@
+pub mod Letters
+pub mod Ranges
+pub mod Origins
+pub mod Sizes

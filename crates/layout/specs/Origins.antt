@@ -1,0 +1,31 @@
+-- Where a text begins, from a header that was read.
+use mathlib.Core.List.{List, [], _∷_}
+use Prim.Native.Nat.{ℕ, _*_}
+use lib.IntN.{pos, _+ℤ_}
+use Rattle.types.specs.declared.font_reader.FontReader.{FontReader}
+use Rattle.types.specs.declared.geometry.Point.{Point}
+use Rattle.types.specs.declared.style.VerticalPosition.{VerticalPosition}
+use Rattle.definitions.specs.Refusals.{Outcome, success, refusal, unlessRefused}
+use Rattle.definitions.specs.Utf8.{newlines}
+use Rattle.definitions.specs.VerticalOffset.{verticalOffset}
+use Rattle.definitions.specs.Text.{point}
+use Rattle.definitions.specs.Limits.{textCause, placeCause}
+use Rattle.definitions.specs.Calls.{characters}
+use Rattle.layout.specs.declared.origin.OriginResult.{OriginResult}
+use Rattle.layout.specs.declared.origin.OriginResult.the-variants.{Ok, Err}
+
+-- `origin` of Calls.antt, of the header instead of the font
+abbrev pub originBy : FontReader → List ℕ → Point → VerticalPosition → ℕ → Point
+originBy head text position v lineHeight =
+    point
+    (position .x)
+    (position .y +ℤ verticalOffset v (pos (newlines (characters text) * lineHeight)) (head .ascent) (head .descent))
+
+-- .. unless 01's cause 4 or 5 applies
+abbrev pub checkedOrigin : FontReader → List ℕ → Point → VerticalPosition → ℕ → Outcome Point
+checkedOrigin head text position v lineHeight =
+    unlessRefused (textCause text ∷ placeCause position lineHeight ∷ []) (success (originBy head text position v lineHeight))
+
+abbrev pub originOutcome : OriginResult → Outcome Point
+originOutcome (Ok p) = success p
+originOutcome (Err e) = refusal e

@@ -1,0 +1,63 @@
+// Where a text begins: its place, moved by the anchor.
+ghost use mathlib.Core.Path.{_≡_};
+ghost use mathlib.Core.Bool.{false};
+ghost use Rattle.definitions.specs.Limits.{textCause, placeCause};
+ghost use Rattle.layout.specs.Origins.{originBy, checkedOrigin, originOutcome};
+use crate::limits::has_bad_place;
+use crate::limits::has_bad_text;
+use content::text::get_newline_count;
+use content::vertical_offset::compute_vertical_offset;
+use types::error::Error;
+use types::font_reader::FontReader;
+use types::geometry::Point;
+use types::style::VerticalPosition;
+
+pub enum OriginResult {
+    Ok(Point),
+    Err(Error),
+}
+
+fn text_origin(
+    head: FontReader,
+    text: &[u8],
+    position: Point,
+    vertical_pos: VerticalPosition,
+    line_height: u32,
+) -> Point
+    requires { ⌜ (textCause (now text) .applies ≡ false) × (placeCause position «line_height» .applies ≡ false) ⌝ }
+    ensures { λ r. ⌜ r ≡ originBy head (now (text .entry)) position «vertical_pos» «line_height» ⌝ }
+{
+    let newline_count = get_newline_count(text);
+    let offset = compute_vertical_offset(
+        vertical_pos,
+        head.ascent,
+        head.descent,
+        newline_count,
+        line_height,
+    );
+    Point {
+        x: position.x,
+        y: position.y + offset,
+    }
+}
+
+// The origin, or 01's cause 4 or 5, in this order.
+pub fn checked_origin(
+    head: FontReader,
+    text: &[u8],
+    position: Point,
+    vertical_pos: VerticalPosition,
+    line_height: u32,
+) -> OriginResult
+    ensures { λ r. ⌜ originOutcome r ≡ checkedOrigin head (now (text .entry)) position «vertical_pos» «line_height» ⌝ }
+{
+    let bad_text = has_bad_text(text);
+    let bad_place = has_bad_place(position, line_height);
+    if bad_text {
+        return OriginResult::Err(Error::TextEncoding);
+    }
+    if bad_place {
+        return OriginResult::Err(Error::PositionOrLineHeight);
+    }
+    OriginResult::Ok(text_origin(head, text, position, vertical_pos, line_height))
+}
