@@ -1,9 +1,4 @@
 // Reading a font's bytes: the header, and from a code point to its glyph.
-pub mod big_endian;
-pub mod glyph_reader;
-pub mod glyph_searcher;
-pub mod unicode_jumptable_reader;
-
 ghost use mathlib.Core.Path.{_≡_};
 ghost use Prim.Native.Nat.{_≤_, _<_};
 ghost use lib.ListN.{length, getD};
@@ -13,12 +8,12 @@ ghost use Rattle.integers.specs.Integers.{signed8};
 ghost use Rattle.definitions.specs.Header.{header, headerOff, defaultLineHeight, negative, signedByte, Opened};
 ghost use Rattle.definitions.specs.Glyph.{glyph, glyphOutcome};
 ghost use Rattle.definitions.specs.Calls.{openFont, fontReaderOutcome};
-use big_endian::u16_at;
 use glyph_searcher::SearchResult;
 use types::error::Error;
 use types::font_reader::FontReader;
 use types::results::FontReaderResult;
 use types::results::GlyphResult;
+use utils::big_endian::u16_at;
 
 const HEADER_SIZE: usize = 23;
 

@@ -6,8 +6,8 @@ ghost use Rattle.integers.specs.Integers.{pick};
 ghost use Rattle.glyph_renderer.specs.RunReads.{Readable, pairAt, nextPair};
 ghost use Rattle.glyph_renderer.specs.Stands.{CheckedGlyph, StandsAt};
 ghost use Rattle.glyph_renderer.specs.declared.runs.RunsRead.the-variants.{Pair, Ends};
-use font_reader::glyph_reader::BitReader;
-use font_reader::glyph_reader::UnsignedRead;
+use glyph_reader::BitReader;
+use glyph_reader::UnsignedRead;
 use types::font_reader::FontReader;
 use types::glyph_reader::GlyphReader;
 

@@ -1,5 +1,6 @@
 // Joining bounding boxes, as 01 has it for the boxes of a text's glyphs; and, in modules of their own,
-// what is printed of refusals and of numbers.
+// what is printed of refusals and of numbers, and the 16-bit numbers of a font.
+pub mod big_endian;
 pub mod error;
 pub mod number;
 

@@ -7,7 +7,7 @@ use Rattle.types.specs.declared.font_reader.FontReader.{FontReader}
 use Rattle.definitions.specs.Lookup.{Search, found, search as lookup}
 use Rattle.definitions.specs.Glyph.{fields, fromSearch, glyph}
 use Rattle.definitions.proofs.LookupLaws.{search-within}
-use Rattle.font_reader.specs.Answers.{searched}
+use Rattle.glyph_searcher.specs.Answers.{searched}
 use Rattle.font_reader.proofs.retrieve_glyph_data.Statement.{statement}
 use Rattle.font_reader.proofs.retrieve_glyph_data.Tie as tie
 

@@ -4,7 +4,7 @@ use Prim.Native.Nat.{_+_}
 use native.Mathlib.Omega.{arith}
 use Rattle.definitions.specs.Bits.{got, readAt}
 use Rattle.definitions.proofs.BitsLaws.{read-inside}
-use Rattle.font_reader.proofs.ReadLaws.{unsigned-value, unsigned-ends}
+use Rattle.glyph_reader.proofs.ReadLaws.{unsigned-value, unsigned-ends}
 use Rattle.glyph_renderer.specs.RunReads.{nextPair}
 use borrow.Author.Needs.{needs}
 use borrow.Author.Tests.{eq-eqb, ne-eqb}

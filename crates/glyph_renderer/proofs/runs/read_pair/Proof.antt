@@ -3,7 +3,7 @@ use mathlib.Core.Path.{_≡_}
 use Prim.Native.Nat.{_+_}
 use native.Mathlib.Omega.{arith}
 use Rattle.definitions.specs.Bits.{got, readAt}
-use Rattle.font_reader.proofs.ReadLaws.{unsigned-value, unsigned-ends}
+use Rattle.glyph_reader.proofs.ReadLaws.{unsigned-value, unsigned-ends}
 use Rattle.glyph_renderer.specs.RunReads.{pairAt}
 use borrow.Author.Needs.{needs}
 use Rattle.glyph_renderer.proofs.runs.read_pair.Statement.{statement}

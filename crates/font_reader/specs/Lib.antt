@@ -1,2 +1,0 @@
-pub mod BitReads
-pub mod Answers

@@ -1,0 +1,86 @@
+-- The read is arithmetic on two bytes (`read-bytes`), and the font ends where no bit is left (`read-ends`). Assumes nothing.
+use Prim.Native.Nat.{_/_, _<_}
+use native.Mathlib.Omega.{arith}
+use lib.ListN.{getD}
+use lib.Pow.{pow-pos, pow-mono}
+use Rattle.definitions.proofs.BitsLaws.{read-ends, read-bytes}
+use Rattle.glyph_reader.specs.BitReads.{unsignedRead}
+use Rattle.glyph_reader.proofs.ReadLaws.{unwrapped-pos, remainder-is, remainder-fits}
+use borrow.Author.Needs.{needs}
+use Rattle.glyph_reader.proofs.BitReader.read_unsigned.Statement.{statement}
+use Rattle.glyph_reader.proofs.BitReader.read_unsigned.Tie as tie
+
+add-end : tie.Need-add-end
+add-end c = search needs
+
+mul-if1 : tie.Need-mul-if1
+mul-if1 c = search needs
+
+add-if1 : tie.Need-add-if1
+add-if1 c = search needs
+
+returns : tie.Need-returns
+unfolding unsignedRead
+returns c =
+    let s = c .before .before in
+    simp (read-ends (s .args .font .now) (s .args .self .«bit_pos») (s .args .bits) (omega arith))
+
+byte-or-zero-requires : tie.Need-byte-or-zero-requires
+byte-or-zero-requires c κs = search needs
+
+add-byte-or-zero : tie.Need-add-byte-or-zero
+add-byte-or-zero c = search needs
+
+byte-or-zero-requires-2 : tie.Need-byte-or-zero-requires-2
+byte-or-zero-requires-2 c κs = search needs
+
+mul-word : tie.Need-mul-word
+mul-word c = search needs
+
+add-word : tie.Need-add-word
+add-word c = search needs
+
+cast-value : tie.Need-cast-value
+cast-value c = search needs
+
+shr-value : tie.Need-shr-value
+shr-value c = search needs
+
+shl-value : tie.Need-shl-value
+shl-value c = search needs
+
+rem-value : tie.Need-rem-value
+rem-value c =
+    let s = c .before .before .before .before in
+    unwrapped-pos _ _ (omega (arith, pow-pos (s .args .bits))) (omega (arith, pow-mono (s .pre .0)))
+
+cast-value-2 : tie.Need-cast-value-2
+cast-value-2 c = remainder-fits _ _ (omega arith)
+
+returns-2 : tie.Need-returns-2
+unfolding unsignedRead
+returns-2 c =
+    let s = c .before .before .before .before in
+    let first = c .before .byte-or-zero .ensures in
+    let small : getD (s .args .font .now) (s .args .self .«bit_pos» / 8) 0 < 256 = omega (arith, first) in
+    simp (remainder-is, s .pre .0, first .0, c .byte-or-zero2 .ensures .0, read-bytes (s .args .font .now) (s .args .self .«bit_pos») (s .args .bits) small (s .pre .0) (omega arith))
+
+pub read-unsigned-spec : {M : Type 1} → statement M
+read-unsigned-spec =
+    tie.close
+    (tie.spec
+    add-end
+    mul-if1
+    add-if1
+    returns
+    byte-or-zero-requires
+    add-byte-or-zero
+    byte-or-zero-requires-2
+    mul-word
+    add-word
+    cast-value
+    shr-value
+    shl-value
+    rem-value
+    cast-value-2
+    returns-2)

@@ -1,0 +1,98 @@
+-- The loop's invariant: the rest of the table, with the sum so far, answers as the whole table does. The sum grows by less
+-- than 65536 an entry, so it stays far below 2 to the power 64. Assumes nothing.
+use mathlib.Core.Path.{_≡_, sym, _∙_}
+use Prim.Native.Nat.{_+_, _-_, _*_, _≤_, _<_}
+use native.Mathlib.Omega.{arith}
+use lib.ListN.{length, drop}
+use borrow.Author.Needs.{needs}
+use Rattle.definitions.specs.Header.{bigEndian16}
+use Rattle.definitions.specs.Lookup.{jumpTable}
+use Rattle.glyph_searcher.proofs.Steps.{table-end, table-found, table-next}
+use Rattle.glyph_searcher.proofs.unicode_jumptable_reader.calculate_jump_offset.Statement.{
+  statement,
+}
+use Rattle.glyph_searcher.proofs.unicode_jumptable_reader.calculate_jump_offset.Tie as tie
+
+abbrev Inv-loop : tie.InvT-loop
+Inv-loop font start encoding jump-offset₀ at₀ jump-offset at =
+    (at ≤ length font)
+    × ((jump-offset ≤ 65535 * at)
+    × (jumpTable encoding 0 (drop start font) ≡ jumpTable encoding jump-offset (drop at font)))
+
+abbrev μ-loop : tie.MeasureT-loop
+μ-loop font start encoding jump-offset₀ at₀ jump-offset at = length font - at
+
+loop-holds : tie.Need-loop-holds Inv-loop μ-loop
+loop-holds c = search needs
+
+add-loop : tie.Need-add-loop Inv-loop μ-loop
+add-loop c = search needs
+
+u16-at-requires : tie.Need-u16-at-requires Inv-loop μ-loop
+u16-at-requires c κs = search needs
+
+cast-jump-offset : tie.Need-cast-jump-offset Inv-loop μ-loop
+cast-jump-offset c = search needs
+
+add-jump-offset : tie.Need-add-jump-offset Inv-loop μ-loop
+add-jump-offset c = search needs
+
+add-u16-at : tie.Need-add-u16-at Inv-loop μ-loop
+add-u16-at c = search needs
+
+u16-at-requires-2 : tie.Need-u16-at-requires-2 Inv-loop μ-loop
+u16-at-requires-2 c κs = search needs
+
+returns : tie.Need-returns Inv-loop μ-loop
+returns c =
+    let l = c .before .before .before .before in
+    let a = l .before .before .args in
+    let limit : a .encoding ≤ bigEndian16 (a .font .now) (l .loop .at + 2) = omega arith in
+    rw (c .before .before .u16-at .ensures)
+    (sym (l .loop .inv .1 .1 ∙ table-found (a .encoding) (l .loop .jump-offset) (a .font .now) (l .loop .at) (omega arith) limit))
+
+add-at : tie.Need-add-at Inv-loop μ-loop
+add-at c = search needs
+
+loop-less : tie.Need-loop-less Inv-loop μ-loop
+loop-less c = search needs
+
+loop-again : tie.Need-loop-again Inv-loop μ-loop
+loop-again c =
+    let l = c .before .before .before .before in
+    let a = l .before .before .args in
+    let whole = c .before .before .before .loop-test .taken in
+    let limit = rw (c .before .u16-at2 .ensures) at (c .if1 .left) in (
+      search needs,
+      (
+        search needs,
+        rw (c .before .before .u16-at .ensures)
+            (l .loop .inv .1 .1 ∙ table-next (a .encoding) (l .loop .jump-offset) (a .font .now) (l .loop .at) (omega arith) limit),
+      ),
+    )
+
+returns-2 : tie.Need-returns-2 Inv-loop μ-loop
+returns-2 c =
+    let l = c .before in
+    let a = l .before .before .args in
+    sym (l .loop .inv .1 .1
+    ∙ table-end (a .encoding) (l .loop .jump-offset) (a .font .now) (l .loop .at) (omega arith))
+
+pub calculate-jump-offset-spec : {M : Type 1} → statement M
+calculate-jump-offset-spec =
+    tie.close
+    (tie.spec
+    Inv-loop
+    μ-loop
+    loop-holds
+    add-loop
+    u16-at-requires
+    cast-jump-offset
+    add-jump-offset
+    add-u16-at
+    u16-at-requires-2
+    returns
+    add-at
+    loop-less
+    loop-again
+    returns-2)
