@@ -5,8 +5,8 @@ mod picture;
 
 use font_reader::new_from_raw_data;
 use libc::STDIN_FILENO;
+use measuring::rendered_dimensions::get_rendered_dimensions;
 use options::Options;
-use renderer::rendered_dimensions::get_rendered_dimensions;
 use types::geometry::BoundingBox;
 use types::geometry::Point;
 use types::results::DimensionsResult;

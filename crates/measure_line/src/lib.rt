@@ -10,7 +10,7 @@ ghost use Rattle.definitions.specs.Refusals.{success, refusal};
 ghost use Rattle.definitions.specs.Calls.{dimensionsOutcome};
 ghost use Rattle.definitions.specs.Line.{spaced, boxWords, outcomeLine, measuredByProgram, measuringLine};
 use font_reader::new_from_raw_data;
-use renderer::rendered_dimensions::get_rendered_dimensions;
+use measuring::rendered_dimensions::get_rendered_dimensions;
 use types::error::Error;
 use types::geometry::BoundingBox;
 use types::geometry::Point;

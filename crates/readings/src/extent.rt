@@ -2,7 +2,7 @@
 ghost use Prim.Native.Nat.{_≤_};
 use crate::texts::COUNT;
 use crate::texts::write_reading;
-use renderer::rendered_dimensions::get_rendered_dimensions;
+use measuring::rendered_dimensions::get_rendered_dimensions;
 use types::geometry::BoundingBox;
 use types::geometry::Point;
 use types::geometry::Rectangle;

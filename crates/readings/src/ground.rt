@@ -5,8 +5,8 @@ ghost use lib.ListN.{length, getD};
 use crate::check::Place;
 use crate::texts::COUNT;
 use crate::texts::write_reading;
+use measuring::rendered_dimensions::get_rendered_dimensions;
 use redraw::reading::clear_box;
-use renderer::rendered_dimensions::get_rendered_dimensions;
 use types::results::DimensionsResult;
 
 fn fill_with_rubbish(buffer: &mut [u8])

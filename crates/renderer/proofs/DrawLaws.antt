@@ -34,8 +34,8 @@ use Rattle.layout.specs.Ranges.{Checked}
 use Rattle.layout.specs.Origins.{originBy, checkedOrigin}
 use Rattle.layout.proofs.OriginLaws.{origin-is}
 use Rattle.layout.proofs.RangeLaws.{Small, in-range-small}
-use Rattle.renderer.proofs.LoopLaws.{reached-start, reached-last, reached-next}
-use Rattle.renderer.proofs.MeasureLaws.{shown-glyph, Measured, measured-start, measured-next}
+use Rattle.measuring.proofs.LoopLaws.{reached-start, reached-last, reached-next}
+use Rattle.measuring.proofs.MeasureLaws.{shown-glyph, Measured, measured-start, measured-next}
 
 -- ---- a letter
 

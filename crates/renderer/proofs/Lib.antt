@@ -1,6 +1,2 @@
-pub mod LineLaws
-pub mod LoopLaws
-pub mod MeasureLaws
-pub mod AlignedLaws
 pub mod SizeLaws
 pub mod DrawLaws

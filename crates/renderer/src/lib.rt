@@ -1,5 +1,2 @@
-// The public calls. Each takes the font's bytes and checks all of its input: none has a `requires`.
-pub mod font_bounding_box;
+// The public call that draws. It takes the font's bytes and checks all of its input: it has no `requires`.
 pub mod render;
-pub mod rendered_dimensions;
-pub mod rendered_dimensions_aligned;

@@ -1,0 +1,4 @@
+pub mod LineLaws
+pub mod LoopLaws
+pub mod MeasureLaws
+pub mod AlignedLaws

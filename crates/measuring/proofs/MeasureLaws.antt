@@ -1,0 +1,91 @@
+-- The loop that measures a text: what holds after `at` bytes, and one turn of it. Assumes nothing.
+use mathlib.Core.Path.{_≡_, sym, ap, _∙_}
+use mathlib.Core.Bool.{Bool, true, false, _&&_}
+use mathlib.Core.List.{List}
+use Prim.Native.Nat.{ℕ, _+_, _≤_}
+use native.Mathlib.Omega.{arith}
+use lib.Dec.{eqb}
+use lib.ListN.{length, drop}
+use Rattle.integers.specs.Integers.{pick}
+use Rattle.types.specs.declared.font_reader.FontReader.{FontReader}
+use Rattle.types.specs.declared.geometry.Point.{Point}
+use Rattle.types.specs.declared.geometry.RenderedDimensions.{RenderedDimensions}
+use Rattle.types.specs.declared.glyph_reader.GlyphReader.{GlyphReader}
+use Rattle.types.specs.declared.style.VerticalPosition.{VerticalPosition}
+use Rattle.definitions.specs.Refusals.{Outcome, success, refused}
+use Rattle.definitions.specs.Header.{Opened}
+use Rattle.definitions.specs.Glyph.{glyph}
+use Rattle.definitions.specs.Utf8.{character, firstCharacter, characters, decode, codePoints}
+use Rattle.definitions.specs.Text.{Letter, shows, nothing, stops, letter}
+use Rattle.definitions.specs.TextSteps.{step, measureFrom, start}
+use Rattle.definitions.specs.Calls.{openFont, origin, measuredLetter, measure}
+use Rattle.definitions.proofs.GlyphLaws.{glyph-range}
+use Rattle.definitions.proofs.TextLaws.{measure-from, measure-next, measure-stops}
+use Rattle.definitions.proofs.Utf8Laws.{position, utf8-characters, character-count}
+use Rattle.layout.specs.Ranges.{HasRoom, Checked}
+use Rattle.layout.specs.Origins.{checkedOrigin}
+use Rattle.layout.proofs.OriginLaws.{origin-is, call-refused, call-goes-on}
+use Rattle.measuring.proofs.LoopLaws.{Reached, reached-start, reached-end, reached-next, reached-stops}
+use Rattle.layout.proofs.RangeLaws.{Small, in-range-small, Within, advanced-start, has-room, within-next}
+
+-- the glyphs that the letters of an opened font show
+pub shown-glyph : (skip : Bool) (o : Outcome GlyphReader) (g : GlyphReader) → letter skip o ≡ shows g → o ≡ success g
+shown-glyph skip (success h) g e = cc
+shown-glyph skip (refused n c) g e = by (skip && eqb n 7) e
+  where
+    by : (t : Bool) → pick t nothing (stops n c) ≡ shows g → refused n c ≡ success g
+    by true e = let z : _≡_ {A = ℕ} 0 1 = cc in absurd (omega arith)
+    by false e = let z : _≡_ {A = ℕ} 0 1 = cc in absurd (omega arith)
+
+pub measured-small : {font : List ℕ} {head : FontReader} → Opened font head → (skip : Bool) (c : ℕ) (g : GlyphReader) → measuredLetter font skip c ≡ shows g → Small g
+measured-small {font} {head} o skip c g e = in-range-small (glyph-range font head c g o (shown-glyph skip (glyph font c) g e))
+
+-- the code points of a checked text
+pub checked-characters : {text : List ℕ} {origin : Point} {lineHeight : ℕ} → Checked text origin lineHeight → decode text ≡ characters (codePoints (decode text))
+checked-characters {text} k = utf8-characters (decode text) (k .utf8)
+
+-- ---- the loop
+
+pub record Measured (letters : ℕ → Letter) (lineHeight : ℕ) (origin : Point) (text : List ℕ) (d : RenderedDimensions) (at : ℕ) : Type 0 where
+  pub reached : Reached (measureFrom letters lineHeight origin) (Within lineHeight) start text d at
+
+module _ {letters : ℕ → Letter} {lineHeight : ℕ} {origin : Point} {text : List ℕ} (k : Checked text origin lineHeight) where
+  unfoldable pub measured-start : Measured letters lineHeight origin text start 0
+  measured-start =
+      let e = checked-characters k in
+      record { reached = reached-start e record { advance = advanced-start _ (omega (arith, character-count text e, k .short)) (k .line); box = tt } }
+
+  module _ {d : RenderedDimensions} {at : ℕ} (r : Measured letters lineHeight origin text d at) where
+    pub measured-room : HasRoom origin d
+    measured-room = has-room k (omega (arith, r .reached .inside, k .short)) (r .reached .within)
+
+    pub measured-end : length text ≤ at → measureFrom letters lineHeight origin start (codePoints (decode text)) ≡ success d
+    unfolding measureFrom
+    measured-end h = reached-end (r .reached) h
+
+    module _ {c n : ℕ} (first : firstCharacter (drop at text) ≡ character c n) where
+      unfoldable pub measured-next : (small : (c : ℕ) (g : GlyphReader) → letters c ≡ shows g → Small g) {d′ : RenderedDimensions}
+          → step letters lineHeight origin d c ≡ success d′ → Measured letters lineHeight origin text d′ (at + n)
+      measured-next small e =
+          record {
+            reached = reached-next (r .reached) first (λ cs. measure-next letters lineHeight origin d c cs e) (λ cs w.
+                within-next small measured-room w (position text at first .some) e);
+          }
+
+      pub measured-stops : {m e : ℕ} → step letters lineHeight origin d c ≡ refused m e → measureFrom letters lineHeight origin start (codePoints (decode text)) ≡ refused m e
+      measured-stops e = reached-stops (r .reached) first (λ cs. measure-stops letters lineHeight origin d c cs e)
+
+-- ---- the call
+
+module _ (font : List ℕ) {head : FontReader} (opens : openFont font ≡ success head) (text : List ℕ) (position : Point) (v : VerticalPosition) (lineHeight : ℕ) (skip : Bool) where
+  pub measure-is : {o : Point} → checkedOrigin head text position v lineHeight ≡ success o
+      → measureFrom (measuredLetter font skip) lineHeight o start (codePoints (decode text)) ≡ measure font text position v lineHeight skip
+  unfolding measure
+  measure-is {o} e =
+      ap (λ (p : Point). measureFrom (measuredLetter font skip) lineHeight p start (codePoints (decode text))) (sym (origin-is font opens text position v lineHeight e))
+      ∙ measure-from (measuredLetter font skip) lineHeight (origin font text position v lineHeight) (codePoints (decode text)) start
+      ∙ sym (call-goes-on font opens text position v lineHeight _ e)
+
+  pub measure-refused : {n c : ℕ} → checkedOrigin head text position v lineHeight ≡ refused n c → refused n c ≡ measure font text position v lineHeight skip
+  unfolding measure
+  measure-refused e = sym (call-refused font opens text position v lineHeight _ e)

@@ -1,0 +1,40 @@
+-- The sum of a near number and a line height fits; `end_line` does the rest.
+use mathlib.Core.Path.{_≡_}
+use lib.IntN.{pos, _+ℤ_}
+use mir.Syntax.{w32}
+use mir.Val.{SFits, toZ}
+use mir.Facts.{toZ-ofZ, toZ-pos}
+use borrow.Author.Needs.{needs}
+use Rattle.integers.proofs.Laws.{zarith, plus}
+use Rattle.layout.proofs.RangeLaws.{near-fits}
+use Rattle.measuring.proofs.rendered_dimensions_aligned.add_newline.Statement.{statement}
+use Rattle.measuring.proofs.rendered_dimensions_aligned.add_newline.Tie as tie
+
+module _ (c : tie.Start) where
+  line-is : toZ w32 (c .args .line-height) ≡ pos (c .args .line-height)
+  line-is = toZ-pos w32 (search needs)
+
+  y-fits : SFits w32 (c .args .state .«advance_y»)
+  y-fits = near-fits (c .pre .0 .fits .y)
+
+  sum-fits : SFits w32 (c .args .state .«advance_y» +ℤ pos (c .args .line-height))
+  sum-fits = let y = c .pre .0 .fits .y in omega (zarith, plus (c .args .state .«advance_y») (pos (c .args .line-height)))
+
+cast-t6 : tie.Need-cast-t6
+cast-t6 c = search needs
+
+add-t7 : tie.Need-add-t7
+add-t7 c =
+    let s = c .before .before in
+    simp (line-is s, toZ-ofZ, y-fits s) (sum-fits s)
+
+end-line-requires : tie.Need-end-line-requires
+end-line-requires c κs = search needs
+
+returns : tie.Need-returns
+returns c =
+    let s = c .before .before .before in
+    simp (line-is s, toZ-ofZ, y-fits s, sum-fits s, c .end-line .ensures)
+
+pub add-newline-spec : {M : Type 1} → statement M
+add-newline-spec = tie.close (tie.spec cast-t6 add-t7 end-line-requires returns)

@@ -1,0 +1,52 @@
+-- The sums of a near number and an edge of a line's box fit.
+use mir.Facts.{toZ-ofZ}
+use borrow.Author.Needs.{needs}
+use Rattle.types.specs.declared.geometry.Rectangle.{Rectangle}
+use Rattle.layout.specs.Ranges.{LineRectangle}
+use Rattle.measuring.proofs.LineLaws.{start-fits, moved-fits}
+use Rattle.measuring.proofs.rendered_dimensions_aligned.move_box.Statement.{statement}
+use Rattle.measuring.proofs.rendered_dimensions_aligned.move_box.Tie as tie
+
+-- there is a box
+module _ (c : tie.After-known-told) where
+  abbrev entry : tie.Start
+  entry = c .before .before .before
+
+  abbrev box : Rectangle
+  box = c .before .bounding-box .given .0 .0
+
+  in-reach : LineRectangle box
+  in-reach = simp (c .before .bounding-box .given .1) at (entry .pre .0)
+
+enum-known-bounding-box : tie.Need-enum-known-bounding-box
+enum-known-bounding-box c = search needs
+
+enum-told : tie.Need-enum-told
+enum-told c = search needs
+
+returns : tie.Need-returns
+returns c = search needs
+
+add-t7 : tie.Need-add-t7
+add-t7 c =
+    let k = c .before .before .before .before in
+    let s = entry k in
+    simp (toZ-ofZ, s .fits .x, start-fits (in-reach k .columns)) (moved-fits (s .pre .1 .0) (in-reach k .columns))
+
+add-t8 : tie.Need-add-t8
+add-t8 c =
+    let k = c .before .before .before .before .before .before in
+    let s = entry k in
+    simp (toZ-ofZ, s .fits .y, start-fits (in-reach k .rows)) (moved-fits (s .pre .1 .1) (in-reach k .rows))
+
+returns-2 : tie.Need-returns-2
+returns-2 c =
+    let k = c .before .before .before .before .before .before in
+    let s = entry k in
+    simp (k .before .bounding-box .given .1)
+    (simp
+    (toZ-ofZ, s .fits .x, s .fits .y, start-fits (in-reach k .columns), start-fits (in-reach k .rows), moved-fits (s .pre .1 .0) (in-reach k .columns), moved-fits (s .pre .1 .1) (in-reach k .rows)))
+
+pub move-box-spec : {M : Type 1} → statement M
+move-box-spec =
+    tie.close (tie.spec enum-known-bounding-box enum-told returns add-t7 add-t8 returns-2)
