@@ -23,7 +23,6 @@ use measuring::rendered_dimensions::get_rendered_dimensions;
 use measuring::rendered_dimensions_aligned::get_rendered_dimensions_aligned;
 use renderer::render::render;
 use reply::BAD_ARGUMENT;
-use reply::number_of;
 use reply::of_bounding_box;
 use reply::of_dimensions;
 use reply::of_rectangle;
@@ -33,6 +32,7 @@ use types::results::FontReaderResult;
 use types::style::FontColor;
 use types::style::FontStyle;
 use types::style::VerticalPosition;
+use utils::error::error_number;
 
 // The header's values and the default line height.
 #[no_mangle]
@@ -43,7 +43,7 @@ pub extern "C" fn papayahelm_open(font: &[u8], out: &mut [i64]) -> u32
         return BAD_ARGUMENT;
     }
     match new_from_raw_data(font) {
-        FontReaderResult::Err(error) => number_of(error),
+        FontReaderResult::Err(error) => error_number(error),
         FontReaderResult::Ok(head) => {
             store_header(out, head);
             0

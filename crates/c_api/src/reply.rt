@@ -4,7 +4,6 @@ ghost use Prim.Native.Nat.{_≤_};
 ghost use lib.IntN.{pos};
 ghost use lib.ListN.{length};
 ghost use Rattle.definitions.specs.Calls.{rectangleOutcome, dimensionsOutcome, boundingBoxOutcome};
-ghost use Rattle.definitions.specs.Refusals.{number, codePoint};
 ghost use Rattle.c_api.specs.Replies.{refusedReply, errorReply, boxedReply, boundsReply, boxReply, textReply, alignedReply, stored};
 use types::error::Error;
 use types::geometry::BoundingBox;
@@ -13,6 +12,8 @@ use types::geometry::Rectangle;
 use types::results::BoundingBoxResult;
 use types::results::DimensionsResult;
 use types::results::RectangleResult;
+use utils::error::error_code_point;
+use utils::error::error_number;
 
 pub const BAD_ARGUMENT: u32 = 255;
 
@@ -59,41 +60,10 @@ fn refused(status: u32, code_point: u32) -> Reply
     }
 }
 
-// 01's number.
-pub fn number_of(error: Error) -> u32
-    ensures { λ r. ⌜ r ≡ number error ⌝ }
-{
-    match error {
-        Error::FontLength => 1,
-        Error::FontHeader => 2,
-        Error::FramebufferSize => 3,
-        Error::TextEncoding => 4,
-        Error::PositionOrLineHeight => 5,
-        Error::BackgroundColorNotSupported => 6,
-        Error::GlyphNotFound(_) => 7,
-        Error::FontEnds(_) => 8,
-    }
-}
-
-fn code_point_of(error: Error) -> u32
-    ensures { λ r. ⌜ r ≡ codePoint error ⌝ }
-{
-    match error {
-        Error::GlyphNotFound(code_point) => code_point,
-        Error::FontEnds(code_point) => code_point,
-        Error::FontLength => 0,
-        Error::FontHeader => 0,
-        Error::FramebufferSize => 0,
-        Error::TextEncoding => 0,
-        Error::PositionOrLineHeight => 0,
-        Error::BackgroundColorNotSupported => 0,
-    }
-}
-
 fn of_error(error: Error) -> Reply
     ensures { λ r. ⌜ r ≡ errorReply error ⌝ }
 {
-    refused(number_of(error), code_point_of(error))
+    refused(error_number(error), error_code_point(error))
 }
 
 fn boxed(advance: Point, area: Rectangle) -> Reply

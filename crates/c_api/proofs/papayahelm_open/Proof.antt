@@ -15,8 +15,8 @@ new-from-raw-data-requires c κs = search needs
 enum-known-error : tie.Need-enum-known-error
 enum-known-error c = search needs
 
-number-of-requires : tie.Need-number-of-requires
-number-of-requires c κs = search needs
+error-number-requires : tie.Need-error-number-requires
+error-number-requires c κs = search needs
 
 enum-known-head : tie.Need-enum-known-head
 enum-known-head c = search needs
@@ -28,7 +28,7 @@ returns-2 : tie.Need-returns-2
 returns-2 c =
     let h = le-ltb _ _ (c .before .before .before .before .before .if1 .left) in
     let e = sym (c .before .before .before .before .new-from-raw-data .ensures) ∙ ap fontReaderOutcome (c .before .before .error .given .1) in
-    (simp (h, e) (c .number-of .ensures), simp (h, e))
+    (simp (h, e) (c .error-number .ensures), simp (h, e))
 
 same-length : tie.Need-same-length
 same-length c = search needs
@@ -46,7 +46,7 @@ papayahelm-open-spec =
     returns
     new-from-raw-data-requires
     enum-known-error
-    number-of-requires
+    error-number-requires
     enum-known-head
     store-header-requires
     returns-2

@@ -4,18 +4,18 @@ use borrow.Author.Needs.{needs}
 use Rattle.c_api.proofs.reply.of_error.Statement.{statement}
 use Rattle.c_api.proofs.reply.of_error.Tie as tie
 
-number-of-requires : tie.Need-number-of-requires
-number-of-requires c κs = search needs
+error-number-requires : tie.Need-error-number-requires
+error-number-requires c κs = search needs
 
-code-point-of-requires : tie.Need-code-point-of-requires
-code-point-of-requires c κs = search needs
+error-code-point-requires : tie.Need-error-code-point-requires
+error-code-point-requires c κs = search needs
 
 refused-requires : tie.Need-refused-requires
 refused-requires c κs = search needs
 
 returns : tie.Need-returns
-returns c = c .refused .ensures ∙ simp (c .before .before .number-of .ensures, c .before .code-point-of .ensures)
+returns c = c .refused .ensures ∙ simp (c .before .before .error-number .ensures, c .before .error-code-point .ensures)
 
 pub of-error-spec : {M : Type 1} → statement M
 of-error-spec =
-    tie.close (tie.spec number-of-requires code-point-of-requires refused-requires returns)
+    tie.close (tie.spec error-number-requires error-code-point-requires refused-requires returns)
