@@ -12,11 +12,11 @@ use Rattle.definitions.specs.Calls.{measuredLetter}
 use Rattle.definitions.proofs.Utf8Laws.{Position, position, none-malformed}
 use Rattle.measuring.specs.Lines.{asState, stateOutcome}
 use Rattle.measuring.proofs.MeasureLaws.{measured-small}
-use Rattle.measuring.proofs.AlignedLaws.{Aligned, aligned-start, aligned-room, aligned-end, aligned-turn, aligned-stop}
-use Rattle.measuring.proofs.rendered_dimensions_aligned.measure_aligned_text.Statement.{
+use Rattle.measuring.proofs.AlignedLaws.{Aligned, aligned-start, aligned-room, aligned-end, aligned-next, aligned-stops}
+use Rattle.measuring.proofs.lines.measure_lines.Statement.{
   statement,
 }
-use Rattle.measuring.proofs.rendered_dimensions_aligned.measure_aligned_text.Tie as tie
+use Rattle.measuring.proofs.lines.measure_lines.Tie as tie
 
 abbrev Inv-loop : tie.InvT-loop
 Inv-loop font head text horizontal-align origin line-height ignore-unknown-chars state₀ at₀ state at =
@@ -70,9 +70,8 @@ returns-2 : tie.Need-returns-2 Inv-loop μ-loop
 returns-2 c =
     let k = c .before .before .before .before in
     let l = k .before .before .before .before .before in
-    sym
-    (aligned-stop (l .before .before .before .pre .1) (l .loop .inv) (first k)
-    (sym (c .before .before .before .add-char .ensures) ∙ ap stateOutcome (c .before .added .given .1)))
+    aligned-stops (l .before .before .before .pre .1) (l .loop .inv) (first k)
+    (sym (c .before .before .before .add-char .ensures) ∙ ap stateOutcome (c .before .added .given .1))
 
 enum-known-added-2 : tie.Need-enum-known-added-2 Inv-loop μ-loop
 enum-known-added-2 c = search needs
@@ -90,20 +89,20 @@ loop-again c =
     let k = c .before .before .before .before in
     let l = k .before .before .before .before .before in
     let s = l .before .before .before in
-    aligned-turn (s .pre .1) (l .loop .inv) (first k) (measured-small (s .pre .0) _)
+    aligned-next (s .pre .1) (l .loop .inv) (first k) (measured-small (s .pre .0) _)
     (sym (c .before .before .before .add-char .ensures) ∙ ap stateOutcome (c .before .added2 .given .1))
 
-end-line-requires : tie.Need-end-line-requires Inv-loop μ-loop
-end-line-requires c κs = aligned-room (c .before .before .before .before .pre .1) (c .before .loop .inv)
+end-text-requires : tie.Need-end-text-requires Inv-loop μ-loop
+end-text-requires c κs = aligned-room (c .before .before .before .before .pre .1) (c .before .loop .inv)
 
 returns-3 : tie.Need-returns-3 Inv-loop μ-loop
 returns-3 c =
     let l = c .before .before in
-    ap success (c .end-line .ensures)
-    ∙ sym (aligned-end (l .before .before .before .pre .1) (l .loop .inv) (c .before .loop-test .left))
+    ap success (c .end-text .ensures)
+    ∙ aligned-end (l .before .before .before .pre .1) (l .loop .inv) (c .before .loop-test .left)
 
-pub measure-aligned-text-spec : {M : Type 1} → statement M
-measure-aligned-text-spec =
+pub measure-lines-spec : {M : Type 1} → statement M
+measure-lines-spec =
     tie.close
     (tie.spec
     Inv-loop
@@ -120,5 +119,5 @@ measure-aligned-text-spec =
     add-at
     loop-less
     loop-again
-    end-line-requires
+    end-text-requires
     returns-3)
