@@ -12,6 +12,7 @@ use Rattle.integers.proofs.Laws.{zarith, plus, minus}
 use Rattle.types.specs.declared.geometry.BoundingBox.{BoundingBox}
 use Rattle.types.specs.declared.geometry.BoundingBox.the-variants.{None, Some}
 use Rattle.types.specs.declared.geometry.Point.{Point}
+use Rattle.types.specs.declared.geometry.Rectangle.{Rectangle}
 use Rattle.types.specs.declared.geometry.RenderedDimensions.{RenderedDimensions}
 use Rattle.types.specs.declared.glyph_reader.GlyphReader.{GlyphReader}
 use Rattle.types.specs.declared.style.FontColor.{FontColor}
@@ -19,8 +20,8 @@ use Rattle.types.specs.declared.style.HorizontalAlignment.{HorizontalAlignment}
 use Rattle.types.specs.declared.style.HorizontalAlignment.the-variants.{Left}
 use Rattle.definitions.specs.Refusals.{Outcome, success, refused}
 use Rattle.definitions.specs.Geometry.{join}
-use Rattle.definitions.specs.Text.{Letter, shows, nothing, stops, Placed, boxOf, joinAll, Layout, point, newline, before, place, layout, dimensionsOf, dimensions, Line, emptyLine, moved, endLine, extend, aligned}
-use Rattle.definitions.specs.TextSteps.{andThen, newlineStep, nextBox, glyphStep, letterStep, step, measureFrom, start, letterShown, stepShown, orKept, drawFrom, movedBox, LineState, withLine, nextLine, letterOfLine, lineStep, measureLinesFrom, startLines, linesDimensions, measureLines}
+use Rattle.definitions.specs.Text.{Letter, shows, nothing, stops, boxAt, Placed, boxOf, joinAll, Layout, point, newline, before, place, layout, dimensionsOf, dimensions, Line, emptyLine, moved, endLine, extend, aligned}
+use Rattle.definitions.specs.TextSteps.{andThen, newlineStep, nextBox, glyphStep, letterStep, step, measureFrom, start, letterShown, stepShown, orKept, drawFrom, movedBox, LineState, withLine, nextLine, letterOfLine, lineStep, measureLinesFrom, linesDimensions, measureLines}
 use Rattle.definitions.specs.Picture.{boxPicture, textPicture}
 use Rattle.definitions.specs.Framebuffer.{shown}
 use Rattle.definitions.specs.Calls.{boxOfLayout}
@@ -113,29 +114,29 @@ module _ (x a b : ℤ) where
   top-moved : (x +ℤ a) -ℤ b ≡ x +ℤ (a -ℤ b)
   top-moved = omega (zarith, plus x a, minus a b, minus (x +ℤ a) b, plus x (a -ℤ b))
 
+-- the rectangle of a glyph that has pixels
+abbrev pub rectangleAt : ℤ → ℤ → GlyphReader → Rectangle
+rectangleAt x y g = record {
+  «top_left» = record { x = x +ℤ g .«offset_x»; y = y -ℤ (pos (g .«glyph_height») +ℤ g .«offset_y») };
+  size = record { width = g .«glyph_width»; height = g .«glyph_height» };
+}
+
+-- what is so of no box and of that rectangle is so of the glyph's box
+pub either-box : (P : BoundingBox → Type 0) (x y : ℤ) (g : GlyphReader) → P None → P (Some (rectangleAt x y g)) → P (boxAt x y g)
+either-box P x y g none some = by (eqb (g .«glyph_width») 0 || eqb (g .«glyph_height») 0)
+  where
+    by : (t : Bool) → P (pick t None (Some (rectangleAt x y g)))
+    by true = none
+    by false = some
+
 module _ (x y : ℤ) where
   -- a glyph's box where the glyph is moved
   box-moved : (p : Placed) → boxOf (moved x y p) ≡ movedBox x y (boxOf p)
   box-moved p = by (eqb (p .glyph .«glyph_width») 0 || eqb (p .glyph .«glyph_height») 0)
     where
       by : (t : Bool)
-          → pick t None
-          (Some record {
-            «top_left» = record {
-              x = (x +ℤ p .x) +ℤ p .glyph .«offset_x»;
-              y = (y +ℤ p .y) -ℤ (pos (p .glyph .«glyph_height») +ℤ p .glyph .«offset_y»);
-            };
-            size = record { width = p .glyph .«glyph_width»; height = p .glyph .«glyph_height» };
-          })
-          ≡ movedBox x y
-          (pick t None
-          (Some record {
-            «top_left» = record {
-              x = p .x +ℤ p .glyph .«offset_x»;
-              y = p .y -ℤ (pos (p .glyph .«glyph_height») +ℤ p .glyph .«offset_y»);
-            };
-            size = record { width = p .glyph .«glyph_width»; height = p .glyph .«glyph_height» };
-          }))
+          → pick t None (Some (rectangleAt (x +ℤ p .x) (y +ℤ p .y) (p .glyph)))
+          ≡ movedBox x y (pick t None (Some (rectangleAt (p .x) (p .y) (p .glyph))))
       by true = refl
       by false = cc (left-moved x (p .x) (p .glyph .«offset_x»), top-moved y (p .y) (pos (p .glyph .«glyph_height») +ℤ p .glyph .«offset_y»))
 

@@ -1,7 +1,7 @@
 -- The ranges of measuring line by line: a line, counted from its own start, stays near 0, and so does the place to which it is moved.
 -- Assumes nothing.
 use mathlib.Core.Path.{_≡_, refl, subst}
-use mathlib.Core.Bool.{Bool, true, false, _||_}
+use mathlib.Core.Bool.{Bool, true, false}
 use mathlib.Core.List.{List, _∷_}
 use Prim.Native.Nat.{ℕ, _+_, _/_, _≤_}
 use native.Mathlib.Omega.{arith}
@@ -23,6 +23,7 @@ use Rattle.definitions.specs.Geometry.{left, spanLength, join, SpanInReach, InR
 use Rattle.definitions.specs.Text.{Letter, shows, nothing, stops, boxAt, point, horizontalOffset}
 use Rattle.definitions.specs.TextSteps.{nextBox, glyphStep, movedBox, LineState, withLine, nextLine, letterOfLine, lineStep}
 use Rattle.definitions.proofs.JoinLaws.{end, join-end, reach-join}
+use Rattle.definitions.proofs.TextLaws.{either-box}
 use Rattle.layout.specs.Ranges.{Near, HasRoom, Checked, LineSpan, LineInReach, LineHasRoom}
 use Rattle.layout.proofs.RangeLaws.{Small, Advanced, advanced-y, near-row, advanced-newline, advanced-letter, advanced-nothing}
 
@@ -62,35 +63,22 @@ moved-in-reach None p q h = tt
 moved-in-reach (Some r) p q h = record { columns = moved-span p (h .columns); rows = moved-span q (h .rows) }
 
 -- a glyph of the line, at the line's advance
-pub line-box : {x y : ℤ} (g : GlyphReader) → negsuc 524288 ≤ℤ x → x ≤ℤ pos 524288 → y ≡ pos 0 → Small g → LineInReach (boxAt x y g)
-line-box {x} {y} g h k z s = by (eqb (g .«glyph_width») 0 || eqb (g .«glyph_height») 0)
-  where
-    columns : LineSpan (x +ℤ g .«offset_x») (g .«glyph_width»)
-    columns =
-        let a = s .x in
-        let w = s .width in
-        let l = x +ℤ g .«offset_x» in
-        record { low = omega (zarith, plus x (g .«offset_x»)); high = omega (zarith, plus x (g .«offset_x»), plus l (pos (g .«glyph_width»))) }
+glyph-span : {start : ℤ} {len : ℕ} → negsuc 1048575 ≤ℤ start → start ≤ℤ pos 1048000 → len ≤ 255 → LineSpan start len
+glyph-span {start} {len} l r h = record { low = l; high = omega (zarith, plus start (pos len)) }
 
-    rows : LineSpan (y -ℤ (pos (g .«glyph_height») +ℤ g .«offset_y»)) (g .«glyph_height»)
-    rows =
-        let b = s .y in
-        let h = s .height in
-        let e = pos (g .«glyph_height») +ℤ g .«offset_y» in
-        record {
-          low = omega (zarith, plus (pos (g .«glyph_height»)) (g .«offset_y»), minus y e);
-          high = omega (zarith, plus (pos (g .«glyph_height»)) (g .«offset_y»), minus y e, plus (y -ℤ e) (pos (g .«glyph_height»)));
-        }
-
-    by : (t : Bool)
-        → LineInReach
-        (pick t None
-        (Some record {
-          «top_left» = record { x = x +ℤ g .«offset_x»; y = y -ℤ (pos (g .«glyph_height») +ℤ g .«offset_y») };
-          size = record { width = g .«glyph_width»; height = g .«glyph_height» };
-        }))
-    by true = tt
-    by false = record { columns = columns; rows = rows }
+line-box : {x y : ℤ} (g : GlyphReader) → negsuc 524288 ≤ℤ x → x ≤ℤ pos 524288 → y ≡ pos 0 → Small g → LineInReach (boxAt x y g)
+line-box {x} {y} g l r z s =
+    let a = s .x in
+    let b = s .y in
+    let h = s .height in
+    let e = pos (g .«glyph_height») +ℤ g .«offset_y» in
+    either-box LineInReach x y g tt
+    record {
+      columns = glyph-span (omega (zarith, plus x (g .«offset_x»))) (omega (zarith, plus x (g .«offset_x»))) (s .width);
+      rows = glyph-span
+          (omega (zarith, plus (pos (g .«glyph_height»)) (g .«offset_y»), minus y e))
+          (omega (zarith, plus (pos (g .«glyph_height»)) (g .«offset_y»), minus y e)) h;
+    }
 
 -- ---- where a line is moved
 
