@@ -163,7 +163,7 @@ module _ (letters : ℕ → Letter) (a : HorizontalAlignment) (lineHeight : ℕ)
   abbrev lines : ℤ → Line → List ℕ → Layout
   lines y line cs = aligned letters lineHeight a origin y line cs
 
-  -- what is measured from a state on
+  -- what is read off the state at the end
   abbrev read : Outcome LineState → Outcome RenderedDimensions
   read o = andThen o (λ s. success (linesDimensions a origin s))
 
@@ -225,8 +225,8 @@ box-of-layout l = by (l .advance)
 
 -- ---- aligning Left is the plain layout
 
--- A layout that ends in success, or the refusal. (Before a refusal the plain layout has the glyphs of the line that it breaks
--- off, and the aligned one, which cannot tell yet where they stand, has not.)
+-- A layout that ends in success, or the refusal. (Of a text that is refused the plain layout has the glyphs of the last line
+-- too; the aligned one has not, since that line has not ended.)
 abbrev pub whole : Layout → Outcome Layout
 whole l = andThen (l .advance) (λ last. success l)
 

@@ -16,7 +16,7 @@ use Rattle.types.specs.declared.style.HorizontalAlignment.the-variants.{Left}
 use Rattle.types.specs.declared.style.VerticalPosition.{VerticalPosition}
 use Rattle.definitions.specs.Refusals.{Outcome, success, refused, Cause, unlessRefused}
 use Rattle.definitions.specs.Utf8.{character, firstCharacter, decode, codePoints}
-use Rattle.definitions.specs.Text.{Letter, shows, Layout, emptyLine, aligned, dimensions}
+use Rattle.definitions.specs.Text.{Letter, shows, dimensions, emptyLine, aligned}
 use Rattle.definitions.specs.TextSteps.{LineState, lineStep, measureLinesFrom, startLines, linesDimensions, measureLines}
 use Rattle.definitions.specs.Calls.{openFont, measureCauses, characters, origin, measuredLetter, measure, measureAligned}
 use Rattle.definitions.proofs.TextLaws.{measure-lines, boxAlone, box-of-layout, left-dimensions, lines-next, lines-stop}
@@ -94,19 +94,18 @@ box-unless (c ∷ cs) o = by (c .applies) (box-unless cs o)
     by true e = refl
     by false e = e
 
-module _ (font text : List ℕ) (position : Point) (v : VerticalPosition) (lineHeight : ℕ) (skip : Bool) where
-  abbrev laid : HorizontalAlignment → Layout
-  laid a = aligned (measuredLetter font skip) lineHeight a (origin font text position v lineHeight) (pos 0) emptyLine (characters text)
-
-  pub plain-is-left : alignedDimensions font text position v Left lineHeight skip ≡ measure font text position v lineHeight skip
+module _ (font text : List ℕ) (position : Point) (v : VerticalPosition) where
+  -- plain measuring is the alignment Left
+  pub plain-is-left : (lineHeight : ℕ) (skip : Bool) → alignedDimensions font text position v Left lineHeight skip ≡ measure font text position v lineHeight skip
   unfolding alignedDimensions measure
-  plain-is-left =
+  plain-is-left lineHeight skip =
       ap (unlessRefused (measureCauses font text position lineHeight))
       (left-dimensions (measuredLetter font skip) lineHeight (origin font text position v lineHeight) (characters text))
 
-  pub aligned-box : (a : HorizontalAlignment) → boxAlone (alignedDimensions font text position v a lineHeight skip) ≡ measureAligned font text position v a lineHeight skip
+  -- aligned measuring answers with the box
+  pub aligned-box : (a : HorizontalAlignment) (lineHeight : ℕ) (skip : Bool)
+      → boxAlone (alignedDimensions font text position v a lineHeight skip) ≡ measureAligned font text position v a lineHeight skip
   unfolding alignedDimensions measureAligned
-  aligned-box a =
-      sym
-      (ap (unlessRefused (measureCauses font text position lineHeight)) (box-of-layout (laid a))
-      ∙ box-unless (measureCauses font text position lineHeight) (dimensions (laid a)))
+  aligned-box a lineHeight skip =
+      let l = aligned (measuredLetter font skip) lineHeight a (origin font text position v lineHeight) (pos 0) emptyLine (characters text) in
+      sym (ap (unlessRefused (measureCauses font text position lineHeight)) (box-of-layout l) ∙ box-unless (measureCauses font text position lineHeight) (dimensions l))

@@ -1,5 +1,4 @@
-// Measuring a text line by line. A line is measured as it stands from its own start, since how far it is moved is known only
-// at its end.
+// Measuring a text line by line. A line is measured from its own start, since how far it is moved is known only at its end.
 ghost use mathlib.Core.Path.{_≡_};
 ghost use Prim.Native.Nat.{_≤_};
 ghost use Rattle.definitions.specs.Header.{Opened};
@@ -28,8 +27,7 @@ use types::style::HorizontalAlignment;
 use types::style::VerticalPosition;
 use utils::combine_bounding_boxes;
 
-// The text so far: the line from its own start, how far it lies below the origin, and the box of the
-// lines that have ended.
+// The text so far: the line from its own start, how far below the origin it lies, and the box of the lines that have ended.
 pub struct LineState {
     pub line: RenderedDimensions,
     pub advance_y: i32,

@@ -19,6 +19,7 @@ use types::style::HorizontalAlignment;
 use types::style::VerticalPosition;
 use utils::combine_bounding_boxes;
 
+// The steps of counting a text: drawing takes them from the text's origin, measuring from each line's start.
 pub const NEWLINE: u32 = 10;
 
 pub fn add_newline(dimensions: RenderedDimensions, line_height: u32) -> RenderedDimensions

@@ -4,16 +4,14 @@ use mir.Syntax.{w8}
 use mir.Val.{SFits}
 use borrow.Author.Needs.{needs}
 use Rattle.types.specs.declared.font_reader.FontReader.{FontReader}
-use Rattle.definitions.specs.Refusals.{success, refused, number, codePoint}
+use Rattle.definitions.specs.Refusals.{success, number, codePoint}
 use Rattle.definitions.specs.Calls.{openFont, fontReaderOutcome}
 use Rattle.definitions.proofs.OpenedLaws.{opened, open-refused}
-use Rattle.measuring.specs.Lines.{alignedDimensions}
 use Rattle.layout.specs.Origins.{checkedOrigin, originOutcome}
 use Rattle.layout.proofs.OriginLaws.{passed, passed-checked}
+use Rattle.measuring.specs.Lines.{alignedDimensions}
 use Rattle.measuring.proofs.AlignedLaws.{aligned-is, aligned-refused}
-use Rattle.measuring.proofs.lines.aligned_dimensions.Statement.{
-  statement,
-}
+use Rattle.measuring.proofs.lines.aligned_dimensions.Statement.{statement}
 use Rattle.measuring.proofs.lines.aligned_dimensions.Tie as tie
 
 -- opening succeeded
