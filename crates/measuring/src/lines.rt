@@ -2,7 +2,7 @@
 ghost use mathlib.Core.Path.{_≡_};
 ghost use Prim.Native.Nat.{_≤_};
 ghost use Rattle.definitions.specs.Header.{Opened};
-ghost use Rattle.definitions.specs.TextSteps.{movedBox, withLine, nextLine, lineStep, linesDimensions, measureLines};
+ghost use Rattle.definitions.specs.TextSteps.{start, movedBox, withLine, nextLine, lineStep, linesDimensions, measureLines};
 ghost use Rattle.definitions.specs.Calls.{characters, measuredLetter, dimensionsOutcome};
 ghost use Rattle.measuring.specs.Lines.{asState, stateOutcome, alignedDimensions};
 ghost use Rattle.layout.specs.Ranges.{Near, LineInReach, LineHasRoom, Checked};
@@ -37,6 +37,15 @@ pub struct LineState {
 pub enum LineResult {
     Ok(LineState),
     Err(Error),
+}
+
+fn empty_line() -> RenderedDimensions
+    ensures { λ r. ⌜ r ≡ start ⌝ }
+{
+    RenderedDimensions {
+        advance: Point { x: 0, y: 0 },
+        bounding_box: BoundingBox::None,
+    }
 }
 
 fn move_box(bounding_box: BoundingBox, x: i32, y: i32) -> BoundingBox
@@ -81,10 +90,7 @@ fn add_newline(
     ensures { λ r. ⌜ asState r ≡ nextLine «horizontal_align» «line_height» origin (asState state) ⌝ }
 {
     LineState {
-        line: RenderedDimensions {
-            advance: Point { x: 0, y: 0 },
-            bounding_box: BoundingBox::None,
-        },
+        line: empty_line(),
         advance_y: state.advance_y + (line_height as i32),
         bounding_box: end_line(state, horizontal_align, origin),
     }
@@ -155,10 +161,7 @@ fn measure_lines(
     ensures { λ r. ⌜ dimensionsOutcome r ≡ measureLines (measuredLetter (now (font .entry)) «ignore_unknown_chars») «horizontal_align» «line_height» origin (characters (now (text .entry))) ⌝ }
 {
     let mut state = LineState {
-        line: RenderedDimensions {
-            advance: Point { x: 0, y: 0 },
-            bounding_box: BoundingBox::None,
-        },
+        line: empty_line(),
         advance_y: 0,
         bounding_box: BoundingBox::None,
     };

@@ -27,20 +27,23 @@ abbrev μ-loop : tie.MeasureT-loop
 
 -- the character that was read
 first : (c : tie.After-known-told Inv-loop μ-loop)
-    → firstCharacter (drop (c .before .before .before .before .before .loop .at) (c .before .before .before .before .before .before .before .before .args .text .now))
+    → firstCharacter (drop (c .before .before .before .before .before .loop .at) (c .before .before .before .before .before .before .before .before .before .args .text .now))
     ≡ character (c .before .next .given .0 .0) (c .before .next .given .0 .1 .0)
 first c = sym (c .before .before .before .next-char .ensures) ∙ ap asCharacter (c .before .next .given .1)
 
 here : (c : tie.After-known-told3 Inv-loop μ-loop)
     → Position
-    (c .before .before .before .before .before .before .before .before .before .before .before .before .args .text .now)
+    (c .before .before .before .before .before .before .before .before .before .before .before .before .before .args .text .now)
     (c .before .before .before .before .before .before .before .before .before .loop .at)
     (c .before .before .before .before .before .next .given .0 .0)
     (c .before .before .before .before .before .next .given .0 .1 .0)
 here c = position _ _ (first (c .before .before .before .before))
 
+empty-line-requires : tie.Need-empty-line-requires Inv-loop μ-loop
+empty-line-requires c κs = search needs
+
 loop-holds : tie.Need-loop-holds Inv-loop μ-loop
-loop-holds c = aligned-start (c .before .before .pre .1)
+loop-holds c = simp (c .empty-line .ensures) (aligned-start (c .before .before .before .pre .1))
 
 next-char-requires : tie.Need-next-char-requires Inv-loop μ-loop
 next-char-requires c κs = search needs
@@ -60,7 +63,7 @@ returns c =
 add-char-requires : tie.Need-add-char-requires Inv-loop μ-loop
 add-char-requires c κs =
     let l = c .before .before .before .before .before in
-    let s = l .before .before .before in
+    let s = l .before .before .before .before in
     (s .pre .0, (aligned-room (s .pre .1) (l .loop .inv), s .pre .1 .line))
 
 enum-known-added : tie.Need-enum-known-added Inv-loop μ-loop
@@ -70,7 +73,7 @@ returns-2 : tie.Need-returns-2 Inv-loop μ-loop
 returns-2 c =
     let k = c .before .before .before .before in
     let l = k .before .before .before .before .before in
-    aligned-stops (l .before .before .before .pre .1) (l .loop .inv) (first k)
+    aligned-stops (l .before .before .before .before .pre .1) (l .loop .inv) (first k)
     (sym (c .before .before .before .add-char .ensures) ∙ ap stateOutcome (c .before .added .given .1))
 
 enum-known-added-2 : tie.Need-enum-known-added-2 Inv-loop μ-loop
@@ -79,7 +82,7 @@ enum-known-added-2 c = search needs
 add-at : tie.Need-add-at Inv-loop μ-loop
 add-at c =
     let p = here c in
-    omega (arith, c .before .before .before .before .before .before .before .before .before .before .before .before .pre .1 .short)
+    omega (arith, c .before .before .before .before .before .before .before .before .before .before .before .before .before .pre .1 .short)
 
 loop-less : tie.Need-loop-less Inv-loop μ-loop
 loop-less c = let p = here c in omega arith
@@ -88,18 +91,18 @@ loop-again : tie.Need-loop-again Inv-loop μ-loop
 loop-again c =
     let k = c .before .before .before .before in
     let l = k .before .before .before .before .before in
-    let s = l .before .before .before in
+    let s = l .before .before .before .before in
     aligned-next (s .pre .1) (l .loop .inv) (first k) (measured-small (s .pre .0) _)
     (sym (c .before .before .before .add-char .ensures) ∙ ap stateOutcome (c .before .added2 .given .1))
 
 end-text-requires : tie.Need-end-text-requires Inv-loop μ-loop
-end-text-requires c κs = aligned-room (c .before .before .before .before .pre .1) (c .before .loop .inv)
+end-text-requires c κs = aligned-room (c .before .before .before .before .before .pre .1) (c .before .loop .inv)
 
 returns-3 : tie.Need-returns-3 Inv-loop μ-loop
 returns-3 c =
     let l = c .before .before in
     ap success (c .end-text .ensures)
-    ∙ aligned-end (l .before .before .before .pre .1) (l .loop .inv) (c .before .loop-test .left)
+    ∙ aligned-end (l .before .before .before .before .pre .1) (l .loop .inv) (c .before .loop-test .left)
 
 pub measure-lines-spec : {M : Type 1} → statement M
 measure-lines-spec =
@@ -107,6 +110,7 @@ measure-lines-spec =
     (tie.spec
     Inv-loop
     μ-loop
+    empty-line-requires
     loop-holds
     next-char-requires
     enum-known-next
