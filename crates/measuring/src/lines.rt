@@ -96,6 +96,7 @@ fn add_newline(
     }
 }
 
+// One character: a newline ends the line, and a letter is added to it as plain text at (0, 0).
 fn add_char(
     font: &[u8],
     head: FontReader,
