@@ -2,7 +2,7 @@
 -- to the layouts of Text.antt. Assumes nothing.
 use mathlib.Core.Path.{_≡_, refl, sym, ap, _∙_}
 use mathlib.Core.Bool.{Bool, true, false, _||_}
-use mathlib.Core.List.{List, [], _∷_, _++_, map}
+use mathlib.Core.List.{List, [], _∷_, _++_, map, map-append, append-assoc, append-nil}
 use Prim.Native.Nat.{ℕ}
 use native.Mathlib.Omega.{arith}
 use lib.Dec.{eqb}
@@ -12,14 +12,16 @@ use Rattle.integers.proofs.Laws.{zarith, plus, minus}
 use Rattle.types.specs.declared.geometry.BoundingBox.{BoundingBox}
 use Rattle.types.specs.declared.geometry.BoundingBox.the-variants.{None, Some}
 use Rattle.types.specs.declared.geometry.Point.{Point}
+use Rattle.types.specs.declared.geometry.Rectangle.{Rectangle}
 use Rattle.types.specs.declared.geometry.RenderedDimensions.{RenderedDimensions}
 use Rattle.types.specs.declared.glyph_reader.GlyphReader.{GlyphReader}
 use Rattle.types.specs.declared.style.FontColor.{FontColor}
 use Rattle.types.specs.declared.style.HorizontalAlignment.{HorizontalAlignment}
+use Rattle.types.specs.declared.style.HorizontalAlignment.the-variants.{Left}
 use Rattle.definitions.specs.Refusals.{Outcome, success, refused}
 use Rattle.definitions.specs.Geometry.{join}
-use Rattle.definitions.specs.Text.{Letter, shows, nothing, stops, Placed, boxOf, joinAll, Layout, point, newline, before, place, layout, dimensionsOf, Line, emptyLine, moved, endLine, extend, aligned}
-use Rattle.definitions.specs.TextSteps.{andThen, newlineStep, nextBox, glyphStep, letterStep, step, measureFrom, letterShown, stepShown, orKept, drawFrom, movedBox, LineState, withLine, newlineAligned, letterAligned, stepAligned, measureAlignedFrom, startAligned}
+use Rattle.definitions.specs.Text.{Letter, shows, nothing, stops, boxAt, Placed, boxOf, joinAll, Layout, point, newline, before, place, layout, dimensionsOf, dimensions, Line, emptyLine, moved, endLine, extend, aligned}
+use Rattle.definitions.specs.TextSteps.{andThen, newlineStep, nextBox, glyphStep, letterStep, step, measureFrom, start, letterShown, stepShown, orKept, drawFrom, movedBox, LineState, withLine, nextLine, letterOfLine, lineStep, measureLinesFrom, linesDimensions, measureLines}
 use Rattle.definitions.specs.Picture.{boxPicture, textPicture}
 use Rattle.definitions.specs.Framebuffer.{shown}
 use Rattle.definitions.specs.Calls.{boxOfLayout}
@@ -103,7 +105,7 @@ module _ (width : ℕ) (color : FontColor) (pixelsOf : GlyphReader → List ℕ)
   draw-from [] d buffer = sym (shown-blank width buffer)
   draw-from (c ∷ cs) d buffer = draw-char cs (draw-from cs) d buffer (eqb c 10) (letters c)
 
--- ---- aligned measuring is the box of the aligned layout
+-- ---- measuring line by line is the aligned layout's dimensions
 
 module _ (x a b : ℤ) where
   left-moved : (x +ℤ a) +ℤ b ≡ x +ℤ (a +ℤ b)
@@ -112,29 +114,29 @@ module _ (x a b : ℤ) where
   top-moved : (x +ℤ a) -ℤ b ≡ x +ℤ (a -ℤ b)
   top-moved = omega (zarith, plus x a, minus a b, minus (x +ℤ a) b, plus x (a -ℤ b))
 
+-- the rectangle of a glyph that has pixels
+abbrev pub rectangleAt : ℤ → ℤ → GlyphReader → Rectangle
+rectangleAt x y g = record {
+  «top_left» = record { x = x +ℤ g .«offset_x»; y = y -ℤ (pos (g .«glyph_height») +ℤ g .«offset_y») };
+  size = record { width = g .«glyph_width»; height = g .«glyph_height» };
+}
+
+-- what is so of no box and of that rectangle is so of the glyph's box
+pub either-box : (P : BoundingBox → Type 0) (x y : ℤ) (g : GlyphReader) → P None → P (Some (rectangleAt x y g)) → P (boxAt x y g)
+either-box P x y g none some = by (eqb (g .«glyph_width») 0 || eqb (g .«glyph_height») 0)
+  where
+    by : (t : Bool) → P (pick t None (Some (rectangleAt x y g)))
+    by true = none
+    by false = some
+
 module _ (x y : ℤ) where
   -- a glyph's box where the glyph is moved
   box-moved : (p : Placed) → boxOf (moved x y p) ≡ movedBox x y (boxOf p)
   box-moved p = by (eqb (p .glyph .«glyph_width») 0 || eqb (p .glyph .«glyph_height») 0)
     where
       by : (t : Bool)
-          → pick t None
-          (Some record {
-            «top_left» = record {
-              x = (x +ℤ p .x) +ℤ p .glyph .«offset_x»;
-              y = (y +ℤ p .y) -ℤ (pos (p .glyph .«glyph_height») +ℤ p .glyph .«offset_y»);
-            };
-            size = record { width = p .glyph .«glyph_width»; height = p .glyph .«glyph_height» };
-          })
-          ≡ movedBox x y
-          (pick t None
-          (Some record {
-            «top_left» = record {
-              x = p .x +ℤ p .glyph .«offset_x»;
-              y = p .y -ℤ (pos (p .glyph .«glyph_height») +ℤ p .glyph .«offset_y»);
-            };
-            size = record { width = p .glyph .«glyph_width»; height = p .glyph .«glyph_height» };
-          }))
+          → pick t None (Some (rectangleAt (x +ℤ p .x) (y +ℤ p .y) (p .glyph)))
+          ≡ movedBox x y (pick t None (Some (rectangleAt (p .x) (p .y) (p .glyph))))
       by true = refl
       by false = cc (left-moved x (p .x) (p .glyph .«offset_x»), top-moved y (p .y) (pos (p .glyph .«glyph_height») +ℤ p .glyph .«offset_y»))
 
@@ -143,69 +145,162 @@ module _ (x y : ℤ) where
   join-all-moved [] = refl
   join-all-moved (p ∷ ps) = rw (box-moved p, join-all-moved ps) (join-moved x y (boxOf p) (joinAll ps))
 
--- a box, where the layout succeeds
-abbrev pub boxIf : BoundingBox → Outcome Point → Outcome BoundingBox
-boxIf b (success a) = success b
-boxIf b (refused n c) = refused n c
-
-box-of-layout : (l : Layout) (o : Outcome Point) → boxIf (joinAll (l .glyphs)) o ≡ boxOfLayout l o
-box-of-layout l (success a) = refl
-box-of-layout l (refused n c) = refl
-
 -- the loop's state for a line so far
 abbrev stateOf : Line → ℤ → BoundingBox → LineState
-stateOf line y box = record { x = line .advance; line = joinAll (line .glyphs); y = y; box = box }
+stateOf line y box = record {
+  line = record { advance = point (line .advance) (pos 0); «bounding_box» = joinAll (line .glyphs) };
+  y = y;
+  box = box;
+}
+
+zero-plus : (x : ℤ) → pos 0 +ℤ x ≡ x
+zero-plus x = omega (zarith, plus (pos 0) x)
+
+plus-zero : (x : ℤ) → x +ℤ pos 0 ≡ x
+plus-zero x = omega (zarith, plus x (pos 0))
 
 module _ (letters : ℕ → Letter) (a : HorizontalAlignment) (lineHeight : ℕ) (origin : Point) where
   abbrev lines : ℤ → Line → List ℕ → Layout
   lines y line cs = aligned letters lineHeight a origin y line cs
 
-  abbrev boxFrom : BoundingBox → Layout → Outcome BoundingBox
-  boxFrom box l = boxIf (join box (joinAll (l .glyphs))) (l .advance)
+  -- what is read off the state at the end
+  abbrev read : Outcome LineState → Outcome RenderedDimensions
+  read o = andThen o (λ s. success (linesDimensions a origin s))
 
   -- what is to be shown of a list of code points, from each state
   abbrev Measures : List ℕ → Type 0
-  Measures cs = (y : ℤ) (line : Line) (box : BoundingBox) → measureAlignedFrom letters a lineHeight origin (stateOf line y box) cs ≡ boxFrom box (lines y line cs)
+  Measures cs =
+      (y : ℤ) (line : Line) (box : BoundingBox)
+      → read (measureLinesFrom letters a lineHeight origin (stateOf line y box) cs) ≡ dimensionsFrom box (lines y line cs)
 
   with-line : (y : ℤ) (line : Line) (box : BoundingBox) → withLine a origin (stateOf line y box) ≡ join box (joinAll (endLine a origin y line))
   with-line y line box = rw join-all-moved
 
-  aligned-newline : (cs : List ℕ) → Measures cs → (y : ℤ) (line : Line) (box : BoundingBox)
-      → measureAlignedFrom letters a lineHeight origin (newlineAligned a lineHeight origin (stateOf line y box)) cs
-      ≡ boxFrom box (before (endLine a origin y line) (lines (y +ℤ pos lineHeight) emptyLine cs))
+  lines-newline : (cs : List ℕ) → Measures cs → (y : ℤ) (line : Line) (box : BoundingBox)
+      → read (measureLinesFrom letters a lineHeight origin (nextLine a lineHeight origin (stateOf line y box)) cs)
+      ≡ dimensionsFrom box (before (endLine a origin y line) (lines (y +ℤ pos lineHeight) emptyLine cs))
   unfolding joinAll
-  aligned-newline cs rest y line box =
+  lines-newline cs rest y line box =
       rest (y +ℤ pos lineHeight) emptyLine (withLine a origin (stateOf line y box))
       ∙ rw (with-line y line box, join-append, join-assoc)
 
-  aligned-letter : (cs : List ℕ) → Measures cs → (y : ℤ) (line : Line) (box : BoundingBox) (l : Letter)
-      → andThen (letterAligned (stateOf line y box) l) (λ next. measureAlignedFrom letters a lineHeight origin next cs)
-      ≡ boxFrom box (extend line l (λ next. lines y next cs))
+  lines-letter : (cs : List ℕ) → Measures cs → (y : ℤ) (line : Line) (box : BoundingBox) (l : Letter)
+      → read (andThen (letterOfLine (stateOf line y box) l) (λ next. measureLinesFrom letters a lineHeight origin next cs))
+      ≡ dimensionsFrom box (extend line l (λ next. lines y next cs))
   unfolding joinAll
-  aligned-letter cs rest y line box (shows g) =
+  lines-letter cs rest y line box (shows g) =
       let p : Placed = record { x = line .advance; y = pos 0; glyph = g } in
       let e : joinAll (line .glyphs ++ p ∷ []) ≡ join (joinAll (line .glyphs)) (boxOf p) = join-append (line .glyphs) (p ∷ []) ∙ rw join-none-right in
-      rw e at (rest y record { glyphs = line .glyphs ++ p ∷ []; advance = line .advance +ℤ g .advance } box)
-  aligned-letter cs rest y line box nothing = rest y line box
-  aligned-letter cs rest y line box (stops n c) = refl
+      rw (zero-plus (line .advance)) (rw e at (rest y record { glyphs = line .glyphs ++ p ∷ []; advance = line .advance +ℤ g .advance } box))
+  lines-letter cs rest y line box nothing = rest y line box
+  lines-letter cs rest y line box (stops n c) = refl
 
-  aligned-char : (cs : List ℕ) → Measures cs → (y : ℤ) (line : Line) (box : BoundingBox) (t : Bool) (l : Letter)
-      → andThen (pick t (success (newlineAligned a lineHeight origin (stateOf line y box))) (letterAligned (stateOf line y box) l)) (λ next.
-      measureAlignedFrom letters a lineHeight origin next cs)
-      ≡ boxFrom box (pick t (before (endLine a origin y line) (lines (y +ℤ pos lineHeight) emptyLine cs)) (extend line l (λ next. lines y next cs)))
-  aligned-char cs rest y line box true l = aligned-newline cs rest y line box
-  aligned-char cs rest y line box false l = aligned-letter cs rest y line box l
+  lines-char : (cs : List ℕ) → Measures cs → (y : ℤ) (line : Line) (box : BoundingBox) (t : Bool) (l : Letter)
+      → read (andThen (pick t (success (nextLine a lineHeight origin (stateOf line y box))) (letterOfLine (stateOf line y box) l)) (λ next.
+      measureLinesFrom letters a lineHeight origin next cs))
+      ≡ dimensionsFrom box (pick t (before (endLine a origin y line) (lines (y +ℤ pos lineHeight) emptyLine cs)) (extend line l (λ next. lines y next cs)))
+  lines-char cs rest y line box true l = lines-newline cs rest y line box
+  lines-char cs rest y line box false l = lines-letter cs rest y line box l
 
-  aligned-from : (cs : List ℕ) → Measures cs
-  unfolding measureAlignedFrom aligned
-  aligned-from [] y line box = ap success (with-line y line box)
-  aligned-from (c ∷ cs) y line box = aligned-char cs (aligned-from cs) y line box (eqb c 10) (letters c)
+  lines-from : (cs : List ℕ) → Measures cs
+  unfolding measureLinesFrom aligned
+  lines-from [] y line box = ap (λ (b : BoundingBox). success record { advance = point (line .advance) y; «bounding_box» = b }) (with-line y line box)
+  lines-from (c ∷ cs) y line box = lines-char cs (lines-from cs) y line box (eqb c 10) (letters c)
 
-  pub measure-aligned : (cs : List ℕ)
-      → measureAlignedFrom letters a lineHeight origin startAligned cs
-      ≡ boxOfLayout (aligned letters lineHeight a origin (pos 0) emptyLine cs) (aligned letters lineHeight a origin (pos 0) emptyLine cs .advance)
+  pub measure-lines : (cs : List ℕ)
+      → measureLines letters a lineHeight origin cs ≡ dimensions (aligned letters lineHeight a origin (pos 0) emptyLine cs)
   unfolding joinAll
-  measure-aligned cs = aligned-from cs (pos 0) emptyLine None ∙ box-of-layout (lines (pos 0) emptyLine cs) (lines (pos 0) emptyLine cs .advance)
+  measure-lines cs = lines-from cs (pos 0) emptyLine None
+
+-- aligned measuring answers with the box alone
+abbrev pub boxAlone : Outcome RenderedDimensions → Outcome BoundingBox
+boxAlone o = andThen o (λ d. success (d .«bounding_box»))
+
+pub box-of-layout : (l : Layout) → boxOfLayout l (l .advance) ≡ boxAlone (dimensions l)
+box-of-layout l = by (l .advance)
+  where
+    by : (o : Outcome Point) → boxOfLayout l o ≡ boxAlone (dimensionsOf (joinAll (l .glyphs)) o)
+    by (success p) = refl
+    by (refused n c) = refl
+
+-- ---- aligning Left is the plain layout
+
+-- A layout that ends in success, or the refusal. (Of a text that is refused the plain layout has the glyphs of the last line
+-- too; the aligned one has not, since that line has not ended.)
+abbrev pub whole : Layout → Outcome Layout
+whole l = andThen (l .advance) (λ last. success l)
+
+whole-before : (ps : List Placed) (l : Layout) → whole (before ps l) ≡ andThen (whole l) (λ rest. success (before ps rest))
+whole-before ps l = by (l .advance)
+  where
+    by : (o : Outcome Point)
+        → andThen o (λ last. success (before ps l)) ≡ andThen (andThen o (λ last. success l)) (λ rest. success (before ps rest))
+    by (success last) = refl
+    by (refused n c) = refl
+
+whole-dimensions : (l : Layout) → dimensions l ≡ andThen (whole l) dimensions
+whole-dimensions l = by (l .advance) refl
+  where
+    by : (o : Outcome Point) → l .advance ≡ o → dimensionsOf (joinAll (l .glyphs)) o ≡ andThen (andThen o (λ last. success l)) dimensions
+    by (success last) e = rw e
+    by (refused n c) e = refl
+
+module _ (letters : ℕ → Letter) (lineHeight : ℕ) (origin : Point) where
+  -- the plain layout from a line so far
+  abbrev plain : ℤ → Line → List ℕ → Layout
+  plain y line cs = before (endLine Left origin y line) (layout letters lineHeight origin (point (line .advance) y) cs)
+
+  -- what is to be shown of a list of code points, from each line
+  abbrev Plain : List ℕ → Type 0
+  Plain cs = (y : ℤ) (line : Line) → whole (aligned letters lineHeight Left origin y line cs) ≡ whole (plain y line cs)
+
+  left-newline : (cs : List ℕ) → Plain cs → (y : ℤ) (line : Line)
+      → whole (before (endLine Left origin y line) (aligned letters lineHeight Left origin (y +ℤ pos lineHeight) emptyLine cs))
+      ≡ whole (before (endLine Left origin y line) (layout letters lineHeight origin (point (pos 0) (y +ℤ pos lineHeight)) cs))
+  left-newline cs rest y line =
+      let below = y +ℤ pos lineHeight in
+      whole-before (endLine Left origin y line) (aligned letters lineHeight Left origin below emptyLine cs)
+      ∙ ap (λ (o : Outcome Layout). andThen o (λ l. success (before (endLine Left origin y line) l))) (rest below emptyLine)
+      ∙ sym (whole-before (endLine Left origin y line) (layout letters lineHeight origin (point (pos 0) below) cs))
+
+  left-letter : (cs : List ℕ) → Plain cs → (y : ℤ) (line : Line) (l : Letter)
+      → whole (extend line l (λ next. aligned letters lineHeight Left origin y next cs))
+      ≡ whole (before (endLine Left origin y line) (place origin (point (line .advance) y) l (λ next. layout letters lineHeight origin next cs)))
+  left-letter cs rest y line (shows g) =
+      let p : Placed = record { x = line .advance; y = pos 0; glyph = g } in
+      rest y record { glyphs = line .glyphs ++ p ∷ []; advance = line .advance +ℤ g .advance }
+      ∙ rw (map-append (moved (origin .x +ℤ pos 0) (origin .y +ℤ y)) (line .glyphs) (p ∷ []), append-assoc, plus-zero (origin .x), plus-zero (origin .y +ℤ y))
+  left-letter cs rest y line nothing = rest y line
+  left-letter cs rest y line (stops n c) = refl
+
+  left-char : (cs : List ℕ) → Plain cs → (y : ℤ) (line : Line) (t : Bool) (l : Letter)
+      → whole (pick t (before (endLine Left origin y line) (aligned letters lineHeight Left origin (y +ℤ pos lineHeight) emptyLine cs)) (extend line l (λ next. aligned letters lineHeight Left origin y next cs)))
+      ≡ whole
+      (before (endLine Left origin y line)
+      (pick t (layout letters lineHeight origin (point (pos 0) (y +ℤ pos lineHeight)) cs) (place origin (point (line .advance) y) l (λ next. layout letters lineHeight origin next cs))))
+  left-char cs rest y line true l = left-newline cs rest y line
+  left-char cs rest y line false l = left-letter cs rest y line l
+
+  left-from : (cs : List ℕ) → Plain cs
+  unfolding aligned layout
+  left-from [] y line = rw append-nil
+  left-from (c ∷ cs) y line = left-char cs (left-from cs) y line (eqb c 10) (letters c)
+
+  -- The same glyphs at the same places and the same last advance, or the same refusal.
+  pub left-is-plain : (cs : List ℕ)
+      → whole (aligned letters lineHeight Left origin (pos 0) emptyLine cs) ≡ whole (layout letters lineHeight origin (point (pos 0) (pos 0)) cs)
+  left-is-plain cs = left-from cs (pos 0) emptyLine
+
+  -- so it has the same dimensions, and measuring line by line is plain measuring
+  pub left-dimensions : (cs : List ℕ)
+      → dimensions (aligned letters lineHeight Left origin (pos 0) emptyLine cs) ≡ dimensions (layout letters lineHeight origin (point (pos 0) (pos 0)) cs)
+  left-dimensions cs =
+      whole-dimensions (aligned letters lineHeight Left origin (pos 0) emptyLine cs)
+      ∙ ap (λ (o : Outcome Layout). andThen o dimensions) (left-is-plain cs)
+      ∙ sym (whole-dimensions (layout letters lineHeight origin (point (pos 0) (pos 0)) cs))
+
+  pub left-measures : (cs : List ℕ) → measureLines letters Left lineHeight origin cs ≡ measureFrom letters lineHeight origin start cs
+  left-measures cs = measure-lines letters Left lineHeight origin cs ∙ left-dimensions cs ∙ sym (measure-from letters lineHeight origin cs start)
 
 -- ---- one turn of each loop
 
@@ -239,15 +334,15 @@ module _ (letters : ℕ → Letter) (lineHeight : ℕ) (origin : Point) (d : Ren
     draw-stops e = rw e (stops-shown (eqb c 10) (letters c) e)
 
 module _ (letters : ℕ → Letter) (a : HorizontalAlignment) (lineHeight : ℕ) (origin : Point) (s : LineState) (c : ℕ) (cs : List ℕ) where
-  pub aligned-next : {next : LineState} → stepAligned letters a lineHeight origin s c ≡ success next
-      → measureAlignedFrom letters a lineHeight origin s (c ∷ cs) ≡ measureAlignedFrom letters a lineHeight origin next cs
-  unfolding measureAlignedFrom
-  aligned-next e = rw e
+  pub lines-next : {next : LineState} → lineStep letters a lineHeight origin s c ≡ success next
+      → measureLinesFrom letters a lineHeight origin s (c ∷ cs) ≡ measureLinesFrom letters a lineHeight origin next cs
+  unfolding measureLinesFrom
+  lines-next e = rw e
 
-  pub aligned-stops : {n k : ℕ} → stepAligned letters a lineHeight origin s c ≡ refused n k
-      → measureAlignedFrom letters a lineHeight origin s (c ∷ cs) ≡ refused n k
-  unfolding measureAlignedFrom
-  aligned-stops e = rw e
+  pub lines-stop : {n k : ℕ} → lineStep letters a lineHeight origin s c ≡ refused n k
+      → measureLinesFrom letters a lineHeight origin s (c ∷ cs) ≡ refused n k
+  unfolding measureLinesFrom
+  lines-stop e = rw e
 
 -- ---- letters of another font
 

@@ -80,7 +80,7 @@ drawFrom width color pixelsOf letters lineHeight origin d buffer (c ∷ cs) =
     let after = stepShown width color pixelsOf letters origin d c buffer in
     orKept (step letters lineHeight origin d c) after (λ next. drawFrom width color pixelsOf letters lineHeight origin next after cs)
 
--- ---- aligned measuring: a line is moved once it has ended
+-- ---- measuring line by line: each line is measured from its own start, and moved once it has ended
 
 abbrev pub movedRectangle : ℤ → ℤ → Rectangle → Rectangle
 movedRectangle x y r = record { «top_left» = record { x = x +ℤ left r; y = y +ℤ top r }; size = r .size }
@@ -90,35 +90,40 @@ movedBox x y None = None
 movedBox x y (Some r) = Some (movedRectangle x y r)
 
 pub record LineState : Type 0 where
-  pub x : ℤ  -- the advance of the line
-  pub line : BoundingBox  -- the line's box, counted from the line's start
+  pub line : RenderedDimensions  -- the line's advance and box, counted from the line's start
   pub y : ℤ  -- the advance so far in y
   pub box : BoundingBox  -- the box of the lines that have ended
 
 -- the box with the line, moved to its place
 abbrev pub withLine : HorizontalAlignment → Point → LineState → BoundingBox
 withLine a origin s =
-    join (s .box) (movedBox (origin .x +ℤ horizontalOffset a (s .line) (s .x)) (origin .y +ℤ s .y) (s .line))
+    join (s .box)
+    (movedBox (origin .x +ℤ horizontalOffset a (s .line .«bounding_box») (s .line .advance .x)) (origin .y +ℤ s .y) (s .line .«bounding_box»))
 
-abbrev pub newlineAligned : HorizontalAlignment → ℕ → Point → LineState → LineState
-newlineAligned a lineHeight origin s = record { x = pos 0; line = None; y = s .y +ℤ pos lineHeight; box = withLine a origin s }
+abbrev pub nextLine : HorizontalAlignment → ℕ → Point → LineState → LineState
+nextLine a lineHeight origin s = record { line = start; y = s .y +ℤ pos lineHeight; box = withLine a origin s }
 
-abbrev pub glyphAligned : LineState → GlyphReader → LineState
-glyphAligned s g = record { x = s .x +ℤ g .advance; line = join (s .line) (boxAt (s .x) (pos 0) g); y = s .y; box = s .box }
+-- A letter of the line is measured as in plain measuring at (0, 0).
+abbrev pub letterOfLine : LineState → Letter → Outcome LineState
+letterOfLine s l =
+    andThen (letterStep (point (pos 0) (pos 0)) (s .line) l) (λ line. success record { line = line; y = s .y; box = s .box })
 
-abbrev pub letterAligned : LineState → Letter → Outcome LineState
-letterAligned s (shows g) = success (glyphAligned s g)
-letterAligned s nothing = success s
-letterAligned s (stops n c) = refused n c
+abbrev pub lineStep : (ℕ → Letter) → HorizontalAlignment → ℕ → Point → LineState → ℕ → Outcome LineState
+lineStep letters a lineHeight origin s c =
+    pick (eqb c 10) (success (nextLine a lineHeight origin s)) (letterOfLine s (letters c))
 
-abbrev pub stepAligned : (ℕ → Letter) → HorizontalAlignment → ℕ → Point → LineState → ℕ → Outcome LineState
-stepAligned letters a lineHeight origin s c =
-    pick (eqb c 10) (success (newlineAligned a lineHeight origin s)) (letterAligned s (letters c))
+unfoldable pub measureLinesFrom : (ℕ → Letter) → HorizontalAlignment → ℕ → Point → LineState → List ℕ → Outcome LineState
+measureLinesFrom letters a lineHeight origin s [] = success s
+measureLinesFrom letters a lineHeight origin s (c ∷ cs) =
+    andThen (lineStep letters a lineHeight origin s c) (λ next. measureLinesFrom letters a lineHeight origin next cs)
 
-unfoldable pub measureAlignedFrom : (ℕ → Letter) → HorizontalAlignment → ℕ → Point → LineState → List ℕ → Outcome BoundingBox
-measureAlignedFrom letters a lineHeight origin s [] = success (withLine a origin s)
-measureAlignedFrom letters a lineHeight origin s (c ∷ cs) =
-    andThen (stepAligned letters a lineHeight origin s c) (λ next. measureAlignedFrom letters a lineHeight origin next cs)
+abbrev pub startLines : LineState
+startLines = record { line = start; y = pos 0; box = None }
 
-abbrev pub startAligned : LineState
-startAligned = record { x = pos 0; line = None; y = pos 0; box = None }
+-- what the lines come to at the end, the last one among them
+abbrev pub linesDimensions : HorizontalAlignment → Point → LineState → RenderedDimensions
+linesDimensions a origin s = record { advance = point (s .line .advance .x) (s .y); «bounding_box» = withLine a origin s }
+
+abbrev pub measureLines : (ℕ → Letter) → HorizontalAlignment → ℕ → Point → List ℕ → Outcome RenderedDimensions
+measureLines letters a lineHeight origin cs =
+    andThen (measureLinesFrom letters a lineHeight origin startLines cs) (λ s. success (linesDimensions a origin s))

@@ -39,7 +39,7 @@ pub record Checked (text : List ℕ) (origin : Point) (lineHeight : ℕ) : Type 
   pub top : negsuc 269480063 ≤ℤ origin .y
   pub bottom : origin .y ≤ℤ pos 1048704
 
--- ---- aligned measuring: a line, counted from its own start
+-- ---- measuring line by line: a line, counted from its own start
 
 pub record LineSpan (start : ℤ) (len : ℕ) : Type 0 where
   pub low : negsuc 1048575 ≤ℤ start
@@ -53,17 +53,14 @@ abbrev pub LineInReach : BoundingBox → Type 0
 LineInReach None = Unit {0}
 LineInReach (Some r) = LineRectangle r
 
--- the lines so far leave room for one more letter ..
-pub record LineFits (s : LineState) : Type 0 where
-  pub left : negsuc 1048575 ≤ℤ s .x
-  pub right : s .x ≤ℤ pos 1048575
-  pub line : LineInReach (s .line)
+-- the lines so far leave room for one more letter, and the line may end here
+pub record LineHasRoom (origin : Point) (s : LineState) : Type 0 where
+  pub left : negsuc 1048575 ≤ℤ s .line .advance .x
+  pub right : s .line .advance .x ≤ℤ pos 1048575
+  pub level : s .line .advance .y ≡ pos 0
+  pub line : LineInReach (s .line .«bounding_box»)
   pub y : Near (s .y)
   pub box : InReach (s .box)
-
--- .. and the line may end here
-pub record LineHasRoom (origin : Point) (s : LineState) : Type 0 where
-  pub fits : LineFits s
   pub origin-left : negsuc 1048575 ≤ℤ origin .x
   pub origin-right : origin .x ≤ℤ pos 1048576
   pub row : Near (origin .y +ℤ s .y)

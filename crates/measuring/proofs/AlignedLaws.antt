@@ -1,40 +1,48 @@
--- The loop that measures an aligned text, and the call. Assumes nothing.
-use mathlib.Core.Path.{_≡_, sym, ap, _∙_}
-use mathlib.Core.Bool.{Bool}
-use mathlib.Core.List.{List}
+-- The loop that measures a text line by line, and the calls. Assumes nothing.
+use mathlib.Core.Path.{_≡_, refl, sym, ap, _∙_}
+use mathlib.Core.Bool.{Bool, true, false}
+use mathlib.Core.List.{List, [], _∷_}
 use Prim.Native.Nat.{ℕ, _+_, _≤_}
 use native.Mathlib.Omega.{arith}
+use lib.IntN.{pos}
 use lib.ListN.{length, drop}
+use Rattle.integers.specs.Integers.{pick}
 use Rattle.types.specs.declared.font_reader.FontReader.{FontReader}
 use Rattle.types.specs.declared.geometry.Point.{Point}
+use Rattle.types.specs.declared.geometry.RenderedDimensions.{RenderedDimensions}
 use Rattle.types.specs.declared.glyph_reader.GlyphReader.{GlyphReader}
 use Rattle.types.specs.declared.style.HorizontalAlignment.{HorizontalAlignment}
+use Rattle.types.specs.declared.style.HorizontalAlignment.the-variants.{Left}
 use Rattle.types.specs.declared.style.VerticalPosition.{VerticalPosition}
-use Rattle.definitions.specs.Refusals.{success, refused}
+use Rattle.definitions.specs.Refusals.{Outcome, success, refused, Cause, unlessRefused}
 use Rattle.definitions.specs.Utf8.{character, firstCharacter, decode, codePoints}
-use Rattle.definitions.specs.Text.{Letter, shows}
-use Rattle.definitions.specs.TextSteps.{LineState, withLine, stepAligned, measureAlignedFrom, startAligned}
-use Rattle.definitions.specs.Calls.{openFont, origin, measuredLetter, measureAligned}
-use Rattle.definitions.proofs.TextLaws.{measure-aligned, aligned-next, aligned-stops}
+use Rattle.definitions.specs.Text.{Letter, shows, dimensions, emptyLine, aligned}
+use Rattle.definitions.specs.TextSteps.{LineState, lineStep, measureLinesFrom, startLines, linesDimensions, measureLines}
+use Rattle.definitions.specs.Calls.{openFont, measureCauses, characters, origin, measuredLetter, measure, measureAligned}
+use Rattle.definitions.proofs.TextLaws.{measure-lines, boxAlone, box-of-layout, left-dimensions, lines-next, lines-stop}
 use Rattle.definitions.proofs.Utf8Laws.{position, character-count}
 use Rattle.layout.specs.Origins.{checkedOrigin}
 use Rattle.layout.specs.Ranges.{Checked, LineHasRoom}
 use Rattle.layout.proofs.RangeLaws.{Small, advanced-start}
-use Rattle.measuring.proofs.LineLaws.{InLines, line-has-room, lines-next}
 use Rattle.layout.proofs.OriginLaws.{origin-is, call-refused, call-goes-on}
+use Rattle.measuring.specs.Lines.{alignedDimensions}
+use Rattle.measuring.proofs.LineLaws.{InLines, line-has-room, in-lines-next}
 use Rattle.measuring.proofs.LoopLaws.{Reached, reached-start, reached-end, reached-next, reached-stops}
 use Rattle.measuring.proofs.MeasureLaws.{checked-characters}
 
 -- ---- the loop
 
 pub record Aligned (letters : ℕ → Letter) (a : HorizontalAlignment) (lineHeight : ℕ) (origin : Point) (text : List ℕ) (s : LineState) (at : ℕ) : Type 0 where
-  pub reached : Reached (measureAlignedFrom letters a lineHeight origin) (InLines lineHeight) startAligned text s at
+  pub reached : Reached (measureLinesFrom letters a lineHeight origin) (InLines lineHeight) startLines text s at
 
 module _ {letters : ℕ → Letter} {a : HorizontalAlignment} {lineHeight : ℕ} {origin : Point} {text : List ℕ} (k : Checked text origin lineHeight) where
-  pub aligned-start : Aligned letters a lineHeight origin text startAligned 0
+  pub aligned-start : Aligned letters a lineHeight origin text startLines 0
   aligned-start =
       let e = checked-characters k in
-      record { reached = reached-start e record { advance = advanced-start _ (omega (arith, character-count text e, k .short)) (k .line); line = tt; box = tt } }
+      record {
+        reached = reached-start e
+            record { advance = advanced-start _ (omega (arith, character-count text e, k .short)) (k .line); level = refl; line = tt; box = tt };
+      }
 
   module _ {s : LineState} {at : ℕ} (r : Aligned letters a lineHeight origin text s at) where
     short : at ≤ 4096
@@ -43,34 +51,61 @@ module _ {letters : ℕ → Letter} {a : HorizontalAlignment} {lineHeight : ℕ}
     pub aligned-room : LineHasRoom origin s
     aligned-room = line-has-room short (r .reached .within) k
 
-    pub aligned-end : length text ≤ at → measureAlignedFrom letters a lineHeight origin startAligned (codePoints (decode text)) ≡ success (withLine a origin s)
-    unfolding measureAlignedFrom
-    aligned-end h = reached-end (r .reached) h
+    pub aligned-end : length text ≤ at → success (linesDimensions a origin s) ≡ measureLines letters a lineHeight origin (codePoints (decode text))
+    unfolding measureLinesFrom
+    aligned-end h = rw (reached-end (r .reached) h)
 
     module _ {c n : ℕ} (first : firstCharacter (drop at text) ≡ character c n) where
-      pub aligned-turn : (small : (c : ℕ) (g : GlyphReader) → letters c ≡ shows g → Small g) {s′ : LineState}
-          → stepAligned letters a lineHeight origin s c ≡ success s′ → Aligned letters a lineHeight origin text s′ (at + n)
-      aligned-turn small e =
+      pub aligned-next : (small : (c : ℕ) (g : GlyphReader) → letters c ≡ shows g → Small g) {s′ : LineState}
+          → lineStep letters a lineHeight origin s c ≡ success s′ → Aligned letters a lineHeight origin text s′ (at + n)
+      aligned-next small e =
           record {
-            reached = reached-next (r .reached) first (λ cs. aligned-next letters a lineHeight origin s c cs e) (λ cs w.
-                lines-next small a short aligned-room w (position text at first .some) e);
+            reached = reached-next (r .reached) first (λ cs. lines-next letters a lineHeight origin s c cs e) (λ cs w.
+                in-lines-next small a short aligned-room w (position text at first .some) e);
           }
 
-      pub aligned-stop : {m e : ℕ} → stepAligned letters a lineHeight origin s c ≡ refused m e
-          → measureAlignedFrom letters a lineHeight origin startAligned (codePoints (decode text)) ≡ refused m e
-      aligned-stop e = reached-stops (r .reached) first (λ cs. aligned-stops letters a lineHeight origin s c cs e)
+      pub aligned-stops : {m e : ℕ} → lineStep letters a lineHeight origin s c ≡ refused m e
+          → refused m e ≡ measureLines letters a lineHeight origin (codePoints (decode text))
+      aligned-stops e = rw (reached-stops (r .reached) first (λ cs. lines-stop letters a lineHeight origin s c cs e))
 
--- ---- the call
+-- ---- what the calls share
 
 module _ (font : List ℕ) {head : FontReader} (opens : openFont font ≡ success head) (text : List ℕ) (position : Point) (v : VerticalPosition) (a : HorizontalAlignment) (lineHeight : ℕ) (skip : Bool) where
   pub aligned-is : {o : Point} → checkedOrigin head text position v lineHeight ≡ success o
-      → measureAlignedFrom (measuredLetter font skip) a lineHeight o startAligned (codePoints (decode text)) ≡ measureAligned font text position v a lineHeight skip
-  unfolding measureAligned
+      → measureLines (measuredLetter font skip) a lineHeight o (codePoints (decode text)) ≡ alignedDimensions font text position v a lineHeight skip
+  unfolding alignedDimensions
   aligned-is {o} e =
-      ap (λ (p : Point). measureAlignedFrom (measuredLetter font skip) a lineHeight p startAligned (codePoints (decode text))) (sym (origin-is font opens text position v lineHeight e))
-      ∙ measure-aligned (measuredLetter font skip) a lineHeight (origin font text position v lineHeight) (codePoints (decode text))
+      ap (λ (p : Point). measureLines (measuredLetter font skip) a lineHeight p (codePoints (decode text))) (sym (origin-is font opens text position v lineHeight e))
+      ∙ measure-lines (measuredLetter font skip) a lineHeight (origin font text position v lineHeight) (codePoints (decode text))
       ∙ sym (call-goes-on font opens text position v lineHeight _ e)
 
-  pub aligned-refused : {n c : ℕ} → checkedOrigin head text position v lineHeight ≡ refused n c → refused n c ≡ measureAligned font text position v a lineHeight skip
-  unfolding measureAligned
+  pub aligned-refused : {n c : ℕ} → checkedOrigin head text position v lineHeight ≡ refused n c → refused n c ≡ alignedDimensions font text position v a lineHeight skip
+  unfolding alignedDimensions
   aligned-refused e = sym (call-refused font opens text position v lineHeight _ e)
+
+-- ---- and what each reads off
+
+box-unless : (cs : List Cause) (o : Outcome RenderedDimensions) → unlessRefused cs (boxAlone o) ≡ boxAlone (unlessRefused cs o)
+box-unless [] o = refl
+box-unless (c ∷ cs) o = by (c .applies) (box-unless cs o)
+  where
+    by : (t : Bool) → unlessRefused cs (boxAlone o) ≡ boxAlone (unlessRefused cs o)
+        → pick t (refused (c .number) 0) (unlessRefused cs (boxAlone o)) ≡ boxAlone (pick t (refused (c .number) 0) (unlessRefused cs o))
+    by true e = refl
+    by false e = e
+
+module _ (font text : List ℕ) (position : Point) (v : VerticalPosition) where
+  -- plain measuring is the alignment Left
+  pub plain-is-left : (lineHeight : ℕ) (skip : Bool) → alignedDimensions font text position v Left lineHeight skip ≡ measure font text position v lineHeight skip
+  unfolding alignedDimensions measure
+  plain-is-left lineHeight skip =
+      ap (unlessRefused (measureCauses font text position lineHeight))
+      (left-dimensions (measuredLetter font skip) lineHeight (origin font text position v lineHeight) (characters text))
+
+  -- aligned measuring answers with the box
+  pub aligned-box : (a : HorizontalAlignment) (lineHeight : ℕ) (skip : Bool)
+      → boxAlone (alignedDimensions font text position v a lineHeight skip) ≡ measureAligned font text position v a lineHeight skip
+  unfolding alignedDimensions measureAligned
+  aligned-box a lineHeight skip =
+      let l = aligned (measuredLetter font skip) lineHeight a (origin font text position v lineHeight) (pos 0) emptyLine (characters text) in
+      sym (ap (unlessRefused (measureCauses font text position lineHeight)) (box-of-layout l) ∙ box-unless (measureCauses font text position lineHeight) (dimensions l))

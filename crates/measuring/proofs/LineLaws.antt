@@ -1,7 +1,7 @@
--- The ranges of aligned measuring: a line, counted from its own start, stays near 0, and so does the place to which it is moved.
+-- The ranges of measuring line by line: a line, counted from its own start, stays near 0, and so does the place to which it is moved.
 -- Assumes nothing.
 use mathlib.Core.Path.{_≡_, refl, subst}
-use mathlib.Core.Bool.{Bool, true, false, _||_}
+use mathlib.Core.Bool.{Bool, true, false}
 use mathlib.Core.List.{List, _∷_}
 use Prim.Native.Nat.{ℕ, _+_, _/_, _≤_}
 use native.Mathlib.Omega.{arith}
@@ -20,10 +20,11 @@ use Rattle.types.specs.declared.style.HorizontalAlignment.{HorizontalAlignment}
 use Rattle.types.specs.declared.style.HorizontalAlignment.the-variants.{Left, Center, Right}
 use Rattle.definitions.specs.Refusals.{success}
 use Rattle.definitions.specs.Geometry.{left, spanLength, join, SpanInReach, InReach}
-use Rattle.definitions.specs.Text.{Letter, shows, nothing, stops, boxAt, horizontalOffset}
-use Rattle.definitions.specs.TextSteps.{movedBox, LineState, withLine, newlineAligned, glyphAligned, letterAligned, stepAligned}
+use Rattle.definitions.specs.Text.{Letter, shows, nothing, stops, boxAt, point, horizontalOffset}
+use Rattle.definitions.specs.TextSteps.{nextBox, glyphStep, movedBox, LineState, withLine, nextLine, letterOfLine, lineStep}
 use Rattle.definitions.proofs.JoinLaws.{end, join-end, reach-join}
-use Rattle.layout.specs.Ranges.{Near, Checked, LineSpan, LineInReach, LineFits, LineHasRoom}
+use Rattle.definitions.proofs.TextLaws.{either-box}
+use Rattle.layout.specs.Ranges.{Near, HasRoom, Checked, LineSpan, LineInReach, LineHasRoom}
 use Rattle.layout.proofs.RangeLaws.{Small, Advanced, advanced-y, near-row, advanced-newline, advanced-letter, advanced-nothing}
 
 -- ---- boxes
@@ -62,35 +63,22 @@ moved-in-reach None p q h = tt
 moved-in-reach (Some r) p q h = record { columns = moved-span p (h .columns); rows = moved-span q (h .rows) }
 
 -- a glyph of the line, at the line's advance
-pub line-box : {x : ℤ} (g : GlyphReader) → negsuc 524288 ≤ℤ x → x ≤ℤ pos 524288 → Small g → LineInReach (boxAt x (pos 0) g)
-line-box {x} g h k s = by (eqb (g .«glyph_width») 0 || eqb (g .«glyph_height») 0)
-  where
-    columns : LineSpan (x +ℤ g .«offset_x») (g .«glyph_width»)
-    columns =
-        let a = s .x in
-        let w = s .width in
-        let l = x +ℤ g .«offset_x» in
-        record { low = omega (zarith, plus x (g .«offset_x»)); high = omega (zarith, plus x (g .«offset_x»), plus l (pos (g .«glyph_width»))) }
+glyph-span : {start : ℤ} {len : ℕ} → negsuc 1048575 ≤ℤ start → start ≤ℤ pos 1048000 → len ≤ 255 → LineSpan start len
+glyph-span {start} {len} l r h = record { low = l; high = omega (zarith, plus start (pos len)) }
 
-    rows : LineSpan (pos 0 -ℤ (pos (g .«glyph_height») +ℤ g .«offset_y»)) (g .«glyph_height»)
-    rows =
-        let b = s .y in
-        let h = s .height in
-        let e = pos (g .«glyph_height») +ℤ g .«offset_y» in
-        record {
-          low = omega (zarith, plus (pos (g .«glyph_height»)) (g .«offset_y»), minus (pos 0) e);
-          high = omega (zarith, plus (pos (g .«glyph_height»)) (g .«offset_y»), minus (pos 0) e, plus (pos 0 -ℤ e) (pos (g .«glyph_height»)));
-        }
-
-    by : (t : Bool)
-        → LineInReach
-        (pick t None
-        (Some record {
-          «top_left» = record { x = x +ℤ g .«offset_x»; y = pos 0 -ℤ (pos (g .«glyph_height») +ℤ g .«offset_y») };
-          size = record { width = g .«glyph_width»; height = g .«glyph_height» };
-        }))
-    by true = tt
-    by false = record { columns = columns; rows = rows }
+line-box : {x y : ℤ} (g : GlyphReader) → negsuc 524288 ≤ℤ x → x ≤ℤ pos 524288 → y ≡ pos 0 → Small g → LineInReach (boxAt x y g)
+line-box {x} {y} g l r z s =
+    let a = s .x in
+    let b = s .y in
+    let h = s .height in
+    let e = pos (g .«glyph_height») +ℤ g .«offset_y» in
+    either-box LineInReach x y g tt
+    record {
+      columns = glyph-span (omega (zarith, plus x (g .«offset_x»))) (omega (zarith, plus x (g .«offset_x»))) (s .width);
+      rows = glyph-span
+          (omega (zarith, plus (pos (g .«glyph_height»)) (g .«offset_y»), minus y e))
+          (omega (zarith, plus (pos (g .«glyph_height»)) (g .«offset_y»), minus y e)) h;
+    }
 
 -- ---- where a line is moved
 
@@ -104,80 +92,91 @@ offset-bounds Center (Some r) x p q h =
     omega (zarith, plus (left r) (pos (r .size .width)), plus (pos (r .size .width / 2)) (left r), neg m)
 offset-bounds Right b x p q h = omega (zarith, minus x (pos 1), neg (x -ℤ pos 1))
 
-pub x-near : {s : LineState} → LineFits s → Near (s .x)
-x-near f = let l = f .left in let r = f .right in record { low = omega zarith; high = omega zarith }
-
 module _ {origin : Point} {s : LineState} (room : LineHasRoom origin s) where
-  pub offset-near : (a : HorizontalAlignment) → Near (horizontalOffset a (s .line) (s .x))
-  offset-near a =
-      let o = offset-bounds a (s .line) (s .x) (room .fits .left) (room .fits .right) (room .fits .line) in
-      record { low = omega zarith; high = omega zarith }
+  pub x-near : Near (s .line .advance .x)
+  x-near = let l = room .left in let r = room .right in record { low = omega zarith; high = omega zarith }
 
-  pub column-near : (a : HorizontalAlignment) → Near (origin .x +ℤ horizontalOffset a (s .line) (s .x))
+  pub column-near : (a : HorizontalAlignment) → Near (origin .x +ℤ horizontalOffset a (s .line .«bounding_box») (s .line .advance .x))
   column-near a =
-      let o = offset-bounds a (s .line) (s .x) (room .fits .left) (room .fits .right) (room .fits .line) in
+      let o = offset-bounds a (s .line .«bounding_box») (s .line .advance .x) (room .left) (room .right) (room .line) in
       let l = room .origin-left in
       let r = room .origin-right in
-      let z = horizontalOffset a (s .line) (s .x) in
+      let z = horizontalOffset a (s .line .«bounding_box») (s .line .advance .x) in
       record { low = omega (zarith, plus (origin .x) z); high = omega (zarith, plus (origin .x) z) }
 
   pub with-line-in-reach : (a : HorizontalAlignment) → InReach (withLine a origin s)
-  with-line-in-reach a = reach-join (s .box) _ (room .fits .box) (moved-in-reach (s .line) (column-near a) (room .row) (room .fits .line))
+  with-line-in-reach a = reach-join (s .box) _ (room .box) (moved-in-reach (s .line .«bounding_box») (column-near a) (room .row) (room .line))
+
+  -- one more letter of the line
+  pub letter-room : HasRoom (point (pos 0) (pos 0)) (s .line)
+  letter-room =
+      let x = x-near in
+      let z = room .level in
+      record {
+        x = x;
+        y = record { low = omega zarith; high = omega zarith };
+        column = record { low = omega (zarith, plus (pos 0) (s .line .advance .x)); high = omega (zarith, plus (pos 0) (s .line .advance .x)) };
+        row = record { low = omega (zarith, plus (pos 0) (s .line .advance .y)); high = omega (zarith, plus (pos 0) (s .line .advance .y)) };
+        box = line-in-reach (s .line .«bounding_box») (room .line);
+      }
 
 -- ---- the lines after `at` bytes
 
 pub record InLines (lineHeight at : ℕ) (rest : List ℕ) (s : LineState) : Type 0 where
-  pub advance : Advanced lineHeight at rest (s .x) (s .y)
-  pub line : LineInReach (s .line)
+  pub advance : Advanced lineHeight at rest (s .line .advance .x) (s .y)
+  pub level : s .line .advance .y ≡ pos 0
+  pub line : LineInReach (s .line .«bounding_box»)
   pub box : InReach (s .box)
 
 module _ {lineHeight at : ℕ} {rest : List ℕ} {s : LineState} (h : at ≤ 4096) (w : InLines lineHeight at rest s) where
-  x-left : negsuc 524288 ≤ℤ s .x
-  x-left = let l = w .advance .left in omega zarith
-
-  x-right : s .x ≤ℤ pos 524288
-  x-right = let r = w .advance .right in omega zarith
-
   pub line-has-room : {text : List ℕ} {origin : Point} → Checked text origin lineHeight → LineHasRoom origin s
   line-has-room k =
-      let l = x-left in
-      let r = x-right in
+      let l = w .advance .left in
+      let r = w .advance .right in
       let y = advanced-y h (w .advance) in
       record {
-        fits = record {
-          left = omega zarith;
-          right = omega zarith;
-          line = w .line;
-          y = record { low = omega zarith; high = omega zarith };
-          box = w .box;
-        };
+        left = omega zarith;
+        right = omega zarith;
+        level = w .level;
+        line = w .line;
+        y = record { low = omega zarith; high = omega zarith };
+        box = w .box;
         origin-left = k .left;
         origin-right = k .right;
         row = near-row h (w .advance) k;
       }
 
+  -- the line's box, with a glyph that comes next
+  longer-in-reach : (g : GlyphReader) → Small g → LineInReach (join (s .line .«bounding_box») (nextBox (point (pos 0) (pos 0)) (s .line) g))
+  longer-in-reach g q =
+      let l = w .advance .left in
+      let r = w .advance .right in
+      let z = w .level in
+      let x = s .line .advance .x in
+      let y = s .line .advance .y in
+      line-join (s .line .«bounding_box») (nextBox (point (pos 0) (pos 0)) (s .line) g) (w .line)
+      (line-box {x = pos 0 +ℤ x} {y = pos 0 +ℤ y} g (omega (zarith, plus (pos 0) x)) (omega (zarith, plus (pos 0) x)) (omega (zarith, plus (pos 0) y)) q)
+
 module _ {letters : ℕ → Letter} (small : (c : ℕ) (g : GlyphReader) → letters c ≡ shows g → Small g) (a : HorizontalAlignment) where
   module _ {lineHeight at c : ℕ} {cs : List ℕ} {s next : LineState} {origin : Point} {n : ℕ} (h : at ≤ 4096) (room : LineHasRoom origin s) (w : InLines lineHeight at (c ∷ cs) s) (some : 1 ≤ n) where
-    pub lines-next : stepAligned letters a lineHeight origin s c ≡ success next → InLines lineHeight (at + n) cs next
-    lines-next e = by (eqb c 10) refl (letters c) refl e
+    pub in-lines-next : lineStep letters a lineHeight origin s c ≡ success next → InLines lineHeight (at + n) cs next
+    in-lines-next e = by (eqb c 10) refl (letters c) refl e
       where
         by : (t : Bool) → eqb c 10 ≡ t → (l : Letter) → letters c ≡ l
-            → pick t (success (newlineAligned a lineHeight origin s)) (letterAligned s l) ≡ success next
+            → pick t (success (nextLine a lineHeight origin s)) (letterOfLine s l) ≡ success next
             → InLines lineHeight (at + n) cs next
         by true p l f e =
-            let same : newlineAligned a lineHeight origin s ≡ next = cc in
+            let same : nextLine a lineHeight origin s ≡ next = cc in
             subst (InLines lineHeight (at + n) cs) same
-            record { advance = advanced-newline some (w .advance) p; line = tt; box = with-line-in-reach room a }
+            record { advance = advanced-newline some (w .advance) p; level = refl; line = tt; box = with-line-in-reach room a }
         by false p (shows g) f e =
             let q = small c g f in
-            let same : glyphAligned s g ≡ next = cc in
+            let longer : LineState = record { line = glyphStep (point (pos 0) (pos 0)) (s .line) g; y = s .y; box = s .box } in
+            let same : longer ≡ next = cc in
             subst (InLines lineHeight (at + n) cs) same
-            record {
-              advance = advanced-letter some (w .advance) p (q .advance);
-              line = line-join (s .line) (boxAt (s .x) (pos 0) g) (w .line) (line-box g (x-left h w) (x-right h w) q);
-              box = w .box;
-            }
+            record { advance = advanced-letter some (w .advance) p (q .advance); level = w .level; line = longer-in-reach h w g q; box = w .box }
         by false p nothing f e =
             let same : s ≡ next = cc in
-            subst (InLines lineHeight (at + n) cs) same record { advance = advanced-nothing some (w .advance) p; line = w .line; box = w .box }
+            subst (InLines lineHeight (at + n) cs) same
+            record { advance = advanced-nothing some (w .advance) p; level = w .level; line = w .line; box = w .box }
         by false p (stops m k) f e = let z : _≡_ {A = ℕ} 0 1 = cc in absurd (omega arith)

@@ -1,5 +1,6 @@
--- The loop that measures a text: what holds after `at` bytes, and one turn of it. Assumes nothing.
-use mathlib.Core.Path.{_≡_, sym, ap, _∙_}
+-- The letters of a text, and a loop that counts them as plain measuring does (drawing's): what holds after `at` bytes, and one
+-- turn of it. Assumes nothing.
+use mathlib.Core.Path.{_≡_}
 use mathlib.Core.Bool.{Bool, true, false, _&&_}
 use mathlib.Core.List.{List}
 use Prim.Native.Nat.{ℕ, _+_, _≤_}
@@ -11,20 +12,17 @@ use Rattle.types.specs.declared.font_reader.FontReader.{FontReader}
 use Rattle.types.specs.declared.geometry.Point.{Point}
 use Rattle.types.specs.declared.geometry.RenderedDimensions.{RenderedDimensions}
 use Rattle.types.specs.declared.glyph_reader.GlyphReader.{GlyphReader}
-use Rattle.types.specs.declared.style.VerticalPosition.{VerticalPosition}
 use Rattle.definitions.specs.Refusals.{Outcome, success, refused}
 use Rattle.definitions.specs.Header.{Opened}
 use Rattle.definitions.specs.Glyph.{glyph}
 use Rattle.definitions.specs.Utf8.{character, firstCharacter, characters, decode, codePoints}
 use Rattle.definitions.specs.Text.{Letter, shows, nothing, stops, letter}
 use Rattle.definitions.specs.TextSteps.{step, measureFrom, start}
-use Rattle.definitions.specs.Calls.{openFont, origin, measuredLetter, measure}
+use Rattle.definitions.specs.Calls.{measuredLetter}
 use Rattle.definitions.proofs.GlyphLaws.{glyph-range}
-use Rattle.definitions.proofs.TextLaws.{measure-from, measure-next, measure-stops}
+use Rattle.definitions.proofs.TextLaws.{measure-next, measure-stops}
 use Rattle.definitions.proofs.Utf8Laws.{position, utf8-characters, character-count}
 use Rattle.layout.specs.Ranges.{HasRoom, Checked}
-use Rattle.layout.specs.Origins.{checkedOrigin}
-use Rattle.layout.proofs.OriginLaws.{origin-is, call-refused, call-goes-on}
 use Rattle.measuring.proofs.LoopLaws.{Reached, reached-start, reached-end, reached-next, reached-stops}
 use Rattle.layout.proofs.RangeLaws.{Small, in-range-small, Within, advanced-start, has-room, within-next}
 
@@ -74,18 +72,3 @@ module _ {letters : ℕ → Letter} {lineHeight : ℕ} {origin : Point} {text : 
 
       pub measured-stops : {m e : ℕ} → step letters lineHeight origin d c ≡ refused m e → measureFrom letters lineHeight origin start (codePoints (decode text)) ≡ refused m e
       measured-stops e = reached-stops (r .reached) first (λ cs. measure-stops letters lineHeight origin d c cs e)
-
--- ---- the call
-
-module _ (font : List ℕ) {head : FontReader} (opens : openFont font ≡ success head) (text : List ℕ) (position : Point) (v : VerticalPosition) (lineHeight : ℕ) (skip : Bool) where
-  pub measure-is : {o : Point} → checkedOrigin head text position v lineHeight ≡ success o
-      → measureFrom (measuredLetter font skip) lineHeight o start (codePoints (decode text)) ≡ measure font text position v lineHeight skip
-  unfolding measure
-  measure-is {o} e =
-      ap (λ (p : Point). measureFrom (measuredLetter font skip) lineHeight p start (codePoints (decode text))) (sym (origin-is font opens text position v lineHeight e))
-      ∙ measure-from (measuredLetter font skip) lineHeight (origin font text position v lineHeight) (codePoints (decode text)) start
-      ∙ sym (call-goes-on font opens text position v lineHeight _ e)
-
-  pub measure-refused : {n c : ℕ} → checkedOrigin head text position v lineHeight ≡ refused n c → refused n c ≡ measure font text position v lineHeight skip
-  unfolding measure
-  measure-refused e = sym (call-refused font opens text position v lineHeight _ e)

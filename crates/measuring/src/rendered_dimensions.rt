@@ -2,31 +2,24 @@
 ghost use mathlib.Core.Path.{_≡_};
 ghost use Prim.Native.Nat.{_≤_};
 ghost use Rattle.definitions.specs.Geometry.{InReach};
-ghost use Rattle.definitions.specs.Header.{Opened};
-ghost use Rattle.definitions.specs.TextSteps.{newlineStep, nextBox, glyphStep, letterStep, step, measureFrom, start};
-ghost use Rattle.definitions.specs.Calls.{characters, measuredLetter, measure, dimensionsOutcome};
+ghost use Rattle.definitions.specs.TextSteps.{newlineStep, nextBox, glyphStep, letterStep};
+ghost use Rattle.definitions.specs.Calls.{measure, dimensionsOutcome};
 ghost use Rattle.layout.specs.Letters.{asLetter};
-ghost use Rattle.layout.specs.Ranges.{Near, HasRoom, Checked};
-use content::text::NextChar;
-use content::text::next_char;
-use font_reader::new_from_raw_data;
-use layout::origin::OriginResult;
-use layout::origin::checked_origin;
+ghost use Rattle.layout.specs.Ranges.{Near, HasRoom};
+use crate::lines::aligned_dimensions;
 use layout::render_actions::Letter;
 use layout::render_actions::get_glyph_bounding_box;
 use layout::render_actions::moved;
-use layout::render_actions::try_retrieve_glyph_data;
-use types::error::Error;
-use types::font_reader::FontReader;
 use types::geometry::BoundingBox;
 use types::geometry::Point;
 use types::geometry::RenderedDimensions;
 use types::glyph_reader::GlyphReader;
 use types::results::DimensionsResult;
-use types::results::FontReaderResult;
+use types::style::HorizontalAlignment;
 use types::style::VerticalPosition;
 use utils::combine_bounding_boxes;
 
+// The steps of counting a text: drawing takes them from the text's origin, measuring from each line's start.
 pub const NEWLINE: u32 = 10;
 
 pub fn add_newline(dimensions: RenderedDimensions, line_height: u32) -> RenderedDimensions
@@ -89,65 +82,6 @@ pub fn add_letter(dimensions: RenderedDimensions, origin: Point, letter: Letter)
     }
 }
 
-fn add_char(
-    font: &[u8],
-    head: FontReader,
-    ch: u32,
-    dimensions: RenderedDimensions,
-    origin: Point,
-    line_height: u32,
-    ignore_unknown_chars: bool,
-) -> DimensionsResult
-    requires { ⌜ Opened (now font) head × (HasRoom origin dimensions × («line_height» ≤ 65535)) ⌝ }
-    ensures { λ r. ⌜ dimensionsOutcome r ≡ step (measuredLetter (now (font .entry)) «ignore_unknown_chars») «line_height» origin dimensions ch ⌝ }
-{
-    if ch == NEWLINE {
-        return DimensionsResult::Ok(add_newline(dimensions, line_height));
-    }
-    let letter = try_retrieve_glyph_data(font, head, ch, ignore_unknown_chars);
-    add_letter(dimensions, origin, letter)
-}
-
-// The letters of a checked text, one after the other. The first that stops the text is the answer.
-fn measure_text(
-    font: &[u8],
-    head: FontReader,
-    text: &[u8],
-    origin: Point,
-    line_height: u32,
-    ignore_unknown_chars: bool,
-) -> DimensionsResult
-    requires { ⌜ Opened (now font) head × Checked (now text) origin «line_height» ⌝ }
-    ensures { λ r. ⌜ dimensionsOutcome r ≡ measureFrom (measuredLetter (now (font .entry)) «ignore_unknown_chars») «line_height» origin start (characters (now (text .entry))) ⌝ }
-{
-    let mut dimensions = RenderedDimensions {
-        advance: Point { x: 0, y: 0 },
-        bounding_box: BoundingBox::None,
-    };
-    let mut at: usize = 0;
-    while at < text.len() {
-        let next = next_char(text, at);
-        let NextChar::Char(ch, len) = next else {
-            return DimensionsResult::Err(Error::TextEncoding);
-        };
-        let added = add_char(
-            font,
-            head,
-            ch,
-            dimensions,
-            origin,
-            line_height,
-            ignore_unknown_chars,
-        );
-        let DimensionsResult::Ok(sum) = added else {
-            return added;
-        };
-        dimensions = sum;
-        at += len;
-    }
-    DimensionsResult::Ok(dimensions)
-}
-
 // The dimensions of the text as it would be drawn at the position, or the refusal.
 pub fn get_rendered_dimensions(
     font: &[u8],
@@ -159,15 +93,13 @@ pub fn get_rendered_dimensions(
 ) -> DimensionsResult
     ensures { λ r. ⌜ dimensionsOutcome r ≡ measure (now (font .entry)) (now (text .entry)) position «vertical_pos» «line_height» «ignore_unknown_chars» ⌝ }
 {
-    match new_from_raw_data(font) {
-        FontReaderResult::Err(error) => DimensionsResult::Err(error),
-        FontReaderResult::Ok(head) => {
-            match checked_origin(head, text, position, vertical_pos, line_height) {
-                OriginResult::Err(error) => DimensionsResult::Err(error),
-                OriginResult::Ok(origin) => {
-                    measure_text(font, head, text, origin, line_height, ignore_unknown_chars)
-                }
-            }
-        }
-    }
+    aligned_dimensions(
+        font,
+        text,
+        position,
+        vertical_pos,
+        HorizontalAlignment::Left,
+        line_height,
+        ignore_unknown_chars,
+    )
 }

@@ -7,25 +7,28 @@ use mir.Facts.{toZ-ofZ, toZ-pos}
 use borrow.Author.Needs.{needs}
 use Rattle.integers.proofs.Laws.{zarith, plus}
 use Rattle.layout.proofs.RangeLaws.{near-fits}
-use Rattle.measuring.proofs.rendered_dimensions_aligned.add_newline.Statement.{statement}
-use Rattle.measuring.proofs.rendered_dimensions_aligned.add_newline.Tie as tie
+use Rattle.measuring.proofs.lines.add_newline.Statement.{statement}
+use Rattle.measuring.proofs.lines.add_newline.Tie as tie
 
 module _ (c : tie.Start) where
   line-is : toZ w32 (c .args .line-height) ≡ pos (c .args .line-height)
   line-is = toZ-pos w32 (search needs)
 
   y-fits : SFits w32 (c .args .state .«advance_y»)
-  y-fits = near-fits (c .pre .0 .fits .y)
+  y-fits = near-fits (c .pre .0 .y)
 
   sum-fits : SFits w32 (c .args .state .«advance_y» +ℤ pos (c .args .line-height))
-  sum-fits = let y = c .pre .0 .fits .y in omega (zarith, plus (c .args .state .«advance_y») (pos (c .args .line-height)))
+  sum-fits = let y = c .pre .0 .y in omega (zarith, plus (c .args .state .«advance_y») (pos (c .args .line-height)))
+
+empty-line-requires : tie.Need-empty-line-requires
+empty-line-requires c κs = search needs
 
 cast-t6 : tie.Need-cast-t6
 cast-t6 c = search needs
 
 add-t7 : tie.Need-add-t7
 add-t7 c =
-    let s = c .before .before in
+    let s = c .before .before .before in
     simp (line-is s, toZ-ofZ, y-fits s) (sum-fits s)
 
 end-line-requires : tie.Need-end-line-requires
@@ -33,8 +36,8 @@ end-line-requires c κs = search needs
 
 returns : tie.Need-returns
 returns c =
-    let s = c .before .before .before in
-    simp (line-is s, toZ-ofZ, y-fits s, sum-fits s, c .end-line .ensures)
+    let s = c .before .before .before .before in
+    simp (line-is s, toZ-ofZ, y-fits s, sum-fits s, c .before .before .before .empty-line .ensures, c .end-line .ensures)
 
 pub add-newline-spec : {M : Type 1} → statement M
-add-newline-spec = tie.close (tie.spec cast-t6 add-t7 end-line-requires returns)
+add-newline-spec = tie.close (tie.spec empty-line-requires cast-t6 add-t7 end-line-requires returns)

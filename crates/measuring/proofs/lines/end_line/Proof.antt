@@ -11,8 +11,8 @@ use Rattle.definitions.specs.TextSteps.{movedBox}
 use lib.IntN.{ℤ, _+ℤ_}
 use Rattle.layout.proofs.RangeLaws.{near-fits}
 use Rattle.measuring.proofs.LineLaws.{x-near, column-near, moved-in-reach}
-use Rattle.measuring.proofs.rendered_dimensions_aligned.end_line.Statement.{statement}
-use Rattle.measuring.proofs.rendered_dimensions_aligned.end_line.Tie as tie
+use Rattle.measuring.proofs.lines.end_line.Statement.{statement}
+use Rattle.measuring.proofs.lines.end_line.Tie as tie
 
 module _ (c : tie.Start) where
   origin-x : SFits w32 (c .args .origin .x)
@@ -21,14 +21,14 @@ module _ (c : tie.Start) where
   origin-y : SFits w32 (c .args .origin .y)
   origin-y = search needs
 
-  advance-x : SFits w32 (c .args .state .«line_advance»)
-  advance-x = near-fits (x-near (c .pre .fits))
+  advance-x : SFits w32 (c .args .state .line .advance .x)
+  advance-x = near-fits (x-near (c .pre))
 
   advance-y : SFits w32 (c .args .state .«advance_y»)
-  advance-y = near-fits (c .pre .fits .y)
+  advance-y = near-fits (c .pre .y)
 
   abbrev offset : ℤ
-  offset = horizontalOffset (c .args .horizontal-align) (c .args .state .«line_box») (c .args .state .«line_advance»)
+  offset = horizontalOffset (c .args .horizontal-align) (c .args .state .line .«bounding_box») (c .args .state .line .advance .x)
 
   column-fits : SFits w32 (c .args .origin .x +ℤ offset)
   column-fits = near-fits (column-near (c .pre) (c .args .horizontal-align))
@@ -38,13 +38,13 @@ module _ (c : tie.Start) where
 
 compute-horizontal-offset-requires : tie.Need-compute-horizontal-offset-requires
 compute-horizontal-offset-requires c κs =
-    let s = c .before in
-    simp (toZ-ofZ, advance-x s) (s .pre .fits .line, x-near (s .pre .fits))
+    let s = c .before .before .before in
+    simp (toZ-ofZ, advance-x s) (s .pre .line, x-near (s .pre))
 
 -- by how much the line is moved
 module _ (c : tie.After-compute-horizontal-offset) where
   abbrev entry : tie.Start
-  entry = c .before .before
+  entry = c .before .before .before .before
 
   offset-is : toZ w32 (ofZ w32 (c .compute-horizontal-offset .result)) ≡ offset entry
   offset-is = stored w32 (c .compute-horizontal-offset .ok) (simp (toZ-ofZ, advance-x entry) at (c .compute-horizontal-offset .ensures))
@@ -54,7 +54,7 @@ module _ (c : tie.After-move-box) where
   abbrev offset-known : tie.After-compute-horizontal-offset
   offset-known = c .before .before .before .before .before .before .before
 
-  line-is : c .move-box .result ≡ movedBox (entry offset-known .args .origin .x +ℤ offset (entry offset-known)) (entry offset-known .args .origin .y +ℤ entry offset-known .args .state .«advance_y») (entry offset-known .args .state .«line_box»)
+  line-is : c .move-box .result ≡ movedBox (entry offset-known .args .origin .x +ℤ offset (entry offset-known)) (entry offset-known .args .origin .y +ℤ entry offset-known .args .state .«advance_y») (entry offset-known .args .state .line .«bounding_box»)
   line-is =
       let s = entry offset-known in
       simp (toZ-ofZ, column-fits s, row-fits s) at (simp (offset-is offset-known, toZ-ofZ, origin-x s, origin-y s, advance-y s) at (c .move-box .ensures))
@@ -66,7 +66,7 @@ add-move-box c =
 
 add-move-box-2 : tie.Need-add-move-box-2
 add-move-box-2 c =
-    let s = c .before .before .before .before .before .before .before .before in
+    let s = c .before .before .before .before .before .before .before .before .before .before in
     simp (toZ-ofZ, origin-y s, advance-y s) (row-fits s)
 
 move-box-requires : tie.Need-move-box-requires
@@ -74,13 +74,13 @@ move-box-requires c κs =
     let k = c .before .before .before .before .before .before in
     let s = entry k in
     simp (offset-is k, toZ-ofZ, origin-x s, origin-y s, advance-y s)
-    (simp (toZ-ofZ, column-fits s, row-fits s) (s .pre .fits .line, (column-near (s .pre) (s .args .horizontal-align), s .pre .row)))
+    (simp (toZ-ofZ, column-fits s, row-fits s) (s .pre .line, (column-near (s .pre) (s .args .horizontal-align), s .pre .row)))
 
 combine-bounding-boxes-requires : tie.Need-combine-bounding-boxes-requires
 combine-bounding-boxes-requires c κs =
     let s = entry (offset-known c) in
-    let ended : InReach (s .args .state .«bounding_box») = s .pre .fits .box in
-    let line : InReach (c .move-box .result) = subst InReach (sym (line-is c)) (moved-in-reach (s .args .state .«line_box») (column-near (s .pre) (s .args .horizontal-align)) (s .pre .row) (s .pre .fits .line)) in
+    let ended : InReach (s .args .state .«bounding_box») = s .pre .box in
+    let line : InReach (c .move-box .result) = subst InReach (sym (line-is c)) (moved-in-reach (s .args .state .line .«bounding_box») (column-near (s .pre) (s .args .horizontal-align)) (s .pre .row) (s .pre .line)) in
     search needs
 
 returns : tie.Need-returns

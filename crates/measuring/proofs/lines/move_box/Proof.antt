@@ -4,8 +4,8 @@ use borrow.Author.Needs.{needs}
 use Rattle.types.specs.declared.geometry.Rectangle.{Rectangle}
 use Rattle.layout.specs.Ranges.{LineRectangle}
 use Rattle.measuring.proofs.LineLaws.{start-fits, moved-fits}
-use Rattle.measuring.proofs.rendered_dimensions_aligned.move_box.Statement.{statement}
-use Rattle.measuring.proofs.rendered_dimensions_aligned.move_box.Tie as tie
+use Rattle.measuring.proofs.lines.move_box.Statement.{statement}
+use Rattle.measuring.proofs.lines.move_box.Tie as tie
 
 -- there is a box
 module _ (c : tie.After-known-told) where

@@ -1,0 +1,64 @@
+-- A newline is code point 10; any other is looked up.
+use mathlib.Core.Path.{_≡_, sym, ap, _∙_}
+use lib.IntN.{pos}
+use mir.Facts.{toZ-ofZ}
+use borrow.Author.Needs.{needs}
+use borrow.Author.Tests.{eq-eqb, ne-eqb}
+use Rattle.definitions.specs.Text.{point}
+use Rattle.definitions.specs.TextSteps.{letterStep}
+use Rattle.definitions.specs.Calls.{measuredLetter, dimensionsOutcome}
+use Rattle.layout.proofs.RangeLaws.{near-fits}
+use Rattle.measuring.proofs.LineLaws.{letter-room}
+use Rattle.measuring.proofs.lines.add_char.Statement.{statement}
+use Rattle.measuring.proofs.lines.add_char.Tie as tie
+
+add-newline-requires : tie.Need-add-newline-requires
+add-newline-requires c κs = search needs
+
+returns : tie.Need-returns
+returns c = simp (c .add-newline .ensures, eq-eqb _ _ (c .before .if1 .taken))
+
+try-retrieve-glyph-data-requires : tie.Need-try-retrieve-glyph-data-requires
+try-retrieve-glyph-data-requires c κs = search needs
+
+add-letter-requires : tie.Need-add-letter-requires
+add-letter-requires c κs = letter-room (c .before .before .before .before .pre .1 .0)
+
+enum-known-error : tie.Need-enum-known-error
+enum-known-error c = search needs
+
+enum-known-line : tie.Need-enum-known-line
+enum-known-line c = search needs
+
+-- the letter is added to the line
+module _ (c : tie.After-add-letter) where
+  abbrev entry : tie.Start
+  entry = c .before .before .before .before .before
+
+  added : dimensionsOutcome (c .add-letter .result) ≡ letterStep (point (pos 0) (pos 0)) (entry .args .state .line) (measuredLetter (entry .args .font .now) (entry .args .ignore-unknown-chars) (entry .args .ch))
+  added = simp (c .before .before .try-retrieve-glyph-data .ensures) at (c .add-letter .ensures)
+
+returns-2 : tie.Need-returns-2
+returns-2 c =
+    let k = c .before .before .before in
+    let e = sym (added k) ∙ ap dimensionsOutcome (c .before .error .given .1) in
+    simp (ne-eqb _ _ (k .before .before .before .if1 .left), e)
+
+returns-3 : tie.Need-returns-3
+returns-3 c =
+    let k = c .before .before .before .before in
+    let e = sym (added k) ∙ ap dimensionsOutcome (c .before .before .line .given .1) in
+    simp (ne-eqb _ _ (k .before .before .before .if1 .left), e, toZ-ofZ, near-fits (entry k .pre .1 .0 .y))
+
+pub add-char-spec : {M : Type 1} → statement M
+add-char-spec =
+    tie.close
+    (tie.spec
+    add-newline-requires
+    returns
+    try-retrieve-glyph-data-requires
+    add-letter-requires
+    enum-known-error
+    enum-known-line
+    returns-2
+    returns-3)

@@ -1,0 +1,229 @@
+// Measuring a text line by line. A line is measured from its own start, since how far it is moved is known only at its end.
+ghost use mathlib.Core.Path.{_≡_};
+ghost use Prim.Native.Nat.{_≤_};
+ghost use Rattle.definitions.specs.Header.{Opened};
+ghost use Rattle.definitions.specs.TextSteps.{start, movedBox, withLine, nextLine, lineStep, linesDimensions, measureLines};
+ghost use Rattle.definitions.specs.Calls.{characters, measuredLetter, dimensionsOutcome};
+ghost use Rattle.measuring.specs.Lines.{asState, stateOutcome, alignedDimensions};
+ghost use Rattle.layout.specs.Ranges.{Near, LineInReach, LineHasRoom, Checked};
+use crate::rendered_dimensions::NEWLINE;
+use crate::rendered_dimensions::add_letter;
+use content::text::NextChar;
+use content::text::next_char;
+use font_reader::new_from_raw_data;
+use layout::origin::OriginResult;
+use layout::origin::checked_origin;
+use layout::render_actions::compute_horizontal_offset;
+use layout::render_actions::try_retrieve_glyph_data;
+use types::error::Error;
+use types::font_reader::FontReader;
+use types::geometry::BoundingBox;
+use types::geometry::Point;
+use types::geometry::Rectangle;
+use types::geometry::RenderedDimensions;
+use types::results::DimensionsResult;
+use types::results::FontReaderResult;
+use types::style::HorizontalAlignment;
+use types::style::VerticalPosition;
+use utils::combine_bounding_boxes;
+
+// The text so far: the line from its own start, how far below the origin it lies, and the box of the lines that have ended.
+pub struct LineState {
+    pub line: RenderedDimensions,
+    pub advance_y: i32,
+    pub bounding_box: BoundingBox,
+}
+
+pub enum LineResult {
+    Ok(LineState),
+    Err(Error),
+}
+
+fn empty_line() -> RenderedDimensions
+    ensures { λ r. ⌜ r ≡ start ⌝ }
+{
+    RenderedDimensions {
+        advance: Point { x: 0, y: 0 },
+        bounding_box: BoundingBox::None,
+    }
+}
+
+fn move_box(bounding_box: BoundingBox, x: i32, y: i32) -> BoundingBox
+    requires { ⌜ LineInReach «bounding_box» × (Near x × Near y) ⌝ }
+    ensures { λ r. ⌜ r ≡ movedBox x y «bounding_box» ⌝ }
+{
+    let BoundingBox::Some(rectangle) = bounding_box else {
+        return BoundingBox::None;
+    };
+    let top_left = rectangle.top_left;
+    let size = rectangle.size;
+    BoundingBox::Some(Rectangle {
+        top_left: Point {
+            x: x + top_left.x,
+            y: y + top_left.y,
+        },
+        size,
+    })
+}
+
+// The box of the lines that have ended, with this one.
+fn end_line(state: LineState, horizontal_align: HorizontalAlignment, origin: Point) -> BoundingBox
+    requires { ⌜ LineHasRoom origin (asState state) ⌝ }
+    ensures { λ r. ⌜ r ≡ withLine «horizontal_align» origin (asState state) ⌝ }
+{
+    let line = state.line;
+    let line_advance = line.advance;
+    let line_box = line.bounding_box;
+    let bounding_box = state.bounding_box;
+    let offset = compute_horizontal_offset(horizontal_align, line_box, line_advance.x);
+    let line_there = move_box(line_box, origin.x + offset, origin.y + state.advance_y);
+    combine_bounding_boxes(bounding_box, line_there)
+}
+
+fn add_newline(
+    state: LineState,
+    horizontal_align: HorizontalAlignment,
+    line_height: u32,
+    origin: Point,
+) -> LineState
+    requires { ⌜ LineHasRoom origin (asState state) × («line_height» ≤ 65535) ⌝ }
+    ensures { λ r. ⌜ asState r ≡ nextLine «horizontal_align» «line_height» origin (asState state) ⌝ }
+{
+    LineState {
+        line: empty_line(),
+        advance_y: state.advance_y + (line_height as i32),
+        bounding_box: end_line(state, horizontal_align, origin),
+    }
+}
+
+// One character: a newline ends the line, and a letter is added to it as plain text at (0, 0).
+fn add_char(
+    font: &[u8],
+    head: FontReader,
+    ch: u32,
+    state: LineState,
+    horizontal_align: HorizontalAlignment,
+    origin: Point,
+    line_height: u32,
+    ignore_unknown_chars: bool,
+) -> LineResult
+    requires { ⌜ Opened (now font) head × (LineHasRoom origin (asState state) × («line_height» ≤ 65535)) ⌝ }
+    ensures { λ r. ⌜ stateOutcome r ≡ lineStep (measuredLetter (now (font .entry)) «ignore_unknown_chars») «horizontal_align» «line_height» origin (asState state) ch ⌝ }
+{
+    if ch == NEWLINE {
+        return LineResult::Ok(add_newline(state, horizontal_align, line_height, origin));
+    }
+    let letter = try_retrieve_glyph_data(font, head, ch, ignore_unknown_chars);
+    let line_so_far = state.line;
+    let bounding_box = state.bounding_box;
+    match add_letter(line_so_far, Point { x: 0, y: 0 }, letter) {
+        DimensionsResult::Err(error) => LineResult::Err(error),
+        DimensionsResult::Ok(line) => {
+            LineResult::Ok(LineState {
+                line,
+                advance_y: state.advance_y,
+                bounding_box,
+            })
+        }
+    }
+}
+
+// What the lines come to at the text's end.
+fn end_text(
+    state: LineState,
+    horizontal_align: HorizontalAlignment,
+    origin: Point,
+) -> RenderedDimensions
+    requires { ⌜ LineHasRoom origin (asState state) ⌝ }
+    ensures { λ r. ⌜ r ≡ linesDimensions «horizontal_align» origin (asState state) ⌝ }
+{
+    let line = state.line;
+    let line_advance = line.advance;
+    RenderedDimensions {
+        advance: Point {
+            x: line_advance.x,
+            y: state.advance_y,
+        },
+        bounding_box: end_line(state, horizontal_align, origin),
+    }
+}
+
+// The letters of a checked text, one after the other. The first that stops the text is the answer.
+fn measure_lines(
+    font: &[u8],
+    head: FontReader,
+    text: &[u8],
+    horizontal_align: HorizontalAlignment,
+    origin: Point,
+    line_height: u32,
+    ignore_unknown_chars: bool,
+) -> DimensionsResult
+    requires { ⌜ Opened (now font) head × Checked (now text) origin «line_height» ⌝ }
+    ensures { λ r. ⌜ dimensionsOutcome r ≡ measureLines (measuredLetter (now (font .entry)) «ignore_unknown_chars») «horizontal_align» «line_height» origin (characters (now (text .entry))) ⌝ }
+{
+    let mut state = LineState {
+        line: empty_line(),
+        advance_y: 0,
+        bounding_box: BoundingBox::None,
+    };
+    let mut at: usize = 0;
+    while at < text.len() {
+        let next = next_char(text, at);
+        let NextChar::Char(ch, len) = next else {
+            return DimensionsResult::Err(Error::TextEncoding);
+        };
+        let added = add_char(
+            font,
+            head,
+            ch,
+            state,
+            horizontal_align,
+            origin,
+            line_height,
+            ignore_unknown_chars,
+        );
+        match added {
+            LineResult::Err(error) => {
+                return DimensionsResult::Err(error);
+            }
+            LineResult::Ok(sum) => {
+                state = sum;
+            }
+        }
+        at += len;
+    }
+    DimensionsResult::Ok(end_text(state, horizontal_align, origin))
+}
+
+// The dimensions of the aligned text at the position, or the refusal. The public calls read their answers off them.
+pub fn aligned_dimensions(
+    font: &[u8],
+    text: &[u8],
+    position: Point,
+    vertical_pos: VerticalPosition,
+    horizontal_align: HorizontalAlignment,
+    line_height: u32,
+    ignore_unknown_chars: bool,
+) -> DimensionsResult
+    ensures { λ r. ⌜ dimensionsOutcome r ≡ alignedDimensions (now (font .entry)) (now (text .entry)) position «vertical_pos» «horizontal_align» «line_height» «ignore_unknown_chars» ⌝ }
+{
+    match new_from_raw_data(font) {
+        FontReaderResult::Err(error) => DimensionsResult::Err(error),
+        FontReaderResult::Ok(head) => {
+            match checked_origin(head, text, position, vertical_pos, line_height) {
+                OriginResult::Err(error) => DimensionsResult::Err(error),
+                OriginResult::Ok(origin) => {
+                    measure_lines(
+                        font,
+                        head,
+                        text,
+                        horizontal_align,
+                        origin,
+                        line_height,
+                        ignore_unknown_chars,
+                    )
+                }
+            }
+        }
+    }
+}
