@@ -17,5 +17,6 @@ pub mod Agreement
 pub mod AgreementCase
 pub mod RedrawLaws
 pub mod MovedLaws
+pub mod WholeLaws
 pub mod LineCases
 pub mod LineLaws
