@@ -20,7 +20,6 @@ use Rattle.types.specs.declared.geometry.Rectangle.{Rectangle}
 use Rattle.types.specs.declared.geometry.RenderedDimensions.{RenderedDimensions}
 use Rattle.types.specs.declared.glyph_reader.GlyphReader.{GlyphReader}
 use Rattle.types.specs.declared.style.FontColor.{FontColor}
-use Rattle.types.specs.declared.style.FontStyle.{FontStyle}
 use Rattle.types.specs.declared.style.VerticalPosition.the-variants.{Baseline}
 use Rattle.definitions.specs.Refusals.{Outcome, success, refused, Cause, unlessRefused, anyApplies}
 use Rattle.definitions.specs.Header.{header, Opened}
@@ -33,7 +32,7 @@ use Rattle.definitions.specs.Runs.{Pixels, pixels, cut, glyphPixels}
 use Rattle.definitions.specs.Framebuffer.{sideOff, framebufferCause}
 use Rattle.definitions.specs.Limits.{coordinateOff, placeCause, backgroundCause}
 use Rattle.definitions.specs.Calls.{measureCauses, characters, measuredLetter, measure, withRuns, drawable, drawnLetter, draw}
-use Rattle.definitions.specs.Whole.{opposite, inCorner, boxed, SeenWhole}
+use Rattle.definitions.specs.Whole.{atZero, measuredAtZero, opposite, drawnWhole, inCorner, boxed, SeenWhole}
 use Rattle.definitions.proofs.OpenedLaws.{or-false, opened-limits}
 use Rattle.definitions.proofs.RefusalLaws.{succeeded, each-off, NoneApplies}
 use Rattle.definitions.proofs.JoinLaws.{HasCell, end, join-end}
@@ -249,36 +248,26 @@ side-in n l h =
     let b : ltb 256 n ≡ false = le-ltb 256 n h in
     rw (a, b)
 
-module _ (font text : List ℕ) (color : FontColor) (lineHeight : ℕ) (advance : Point) (r : Rectangle) (buffer : List ℕ)
-    (low : lineHeight ≤ 128) (wide : r .size .width ≤ 256) (high : r .size .height ≤ 256)
-    (area : length buffer ≡ r .size .width * r .size .height)
-    (measured : measure font text (point (pos 0) (pos 0)) Baseline lineHeight false ≡ success (boxed advance r)) where
+module _ (font text : List ℕ) (lineHeight : ℕ) (advance : Point) (r : Rectangle) (low : lineHeight ≤ 128) (measured : measuredAtZero font text lineHeight ≡ success (boxed advance r)) where
   abbrev laid : (ℕ → Letter) → Point → Layout
   laid letters position = laidAt font text Baseline lineHeight letters position
 
-  abbrev style : FontStyle
-  style = record { color = color; «vertical_pos» = Baseline }
-
-  at-zero : (anyApplies (measureCauses font text (point (pos 0) (pos 0)) lineHeight) ≡ false)
-      × (dimensions (laid (measuredLetter font false) (point (pos 0) (pos 0))) ≡ success (boxed advance r))
+  at-zero : (anyApplies (measureCauses font text atZero lineHeight) ≡ false)
+      × (dimensions (laid (measuredLetter font false) atZero) ≡ success (boxed advance r))
   unfolding measure
   at-zero =
-      succeeded (dimensions (laid (measuredLetter font false) (point (pos 0) (pos 0)))) (boxed advance r) (measureCauses font text (point (pos 0) (pos 0)) lineHeight) measured
+      succeeded (dimensions (laid (measuredLetter font false) atZero)) (boxed advance r) (measureCauses font text atZero lineHeight) measured
 
-  off : NoneApplies (measureCauses font text (point (pos 0) (pos 0)) lineHeight)
-  off = each-off (measureCauses font text (point (pos 0) (pos 0)) lineHeight) (at-zero .0)
+  off : NoneApplies (measureCauses font text atZero lineHeight)
+  off = each-off (measureCauses font text atZero lineHeight) (at-zero .0)
 
-  near : Near r
+  -- so its opposite is within the limits for places
+  pub near : Near r
   near =
-      let start : Advanced 0 (point (pos 0) (pos 0)) = record { left = omega zarith; right = omega zarith; top = omega zarith; bottom = omega zarith } in
-      let box = dimensions-success (joinAll (laid (measuredLetter font false) (point (pos 0) (pos 0)) .glyphs)) (laid (measuredLetter font false) (point (pos 0) (pos 0)) .advance) (boxed advance r) (at-zero .1) in
+      let start : Advanced 0 atZero = record { left = omega zarith; right = omega zarith; top = omega zarith; bottom = omega zarith } in
+      let box = dimensions-success (joinAll (laid (measuredLetter font false) atZero .glyphs)) (laid (measuredLetter font false) atZero .advance) (boxed advance r) (at-zero .1) in
       subst NearBox box
-      (near-text font (opened-limits font (off .0) (off .1 .0)) lineHeight low (characters text) 0 (point (pos 0) (pos 0)) (omega (arith, few-characters text (off .1 .1 .0))) start)
-
-  -- neither the framebuffer's size nor the place is a cause to refuse
-  sized : framebufferCause (r .size .width) (r .size .height) buffer .applies ≡ false
-  sized =
-      rw (side-in (r .size .width) (near .some .wide) wide, side-in (r .size .height) (near .some .high) high, eq-eqb (length buffer) (r .size .width * r .size .height) area)
+      (near-text font (opened-limits font (off .0) (off .1 .0)) lineHeight low (characters text) 0 atZero (omega (arith, few-characters text (off .1 .1 .0))) start)
 
   stands : placeCause (opposite r) lineHeight .applies ≡ false
   stands =
@@ -288,14 +277,14 @@ module _ (font text : List ℕ) (color : FontColor) (lineHeight : ℕ) (advance 
   abbrev letters : Outcome RenderedDimensions
   letters = dimensions (laid (drawnLetter font false) (opposite r))
 
-  moved-there : letters ≡ movedDimensions (pos 0 -ℤ left r) (pos 0 -ℤ top r) (dimensions (laid (drawnLetter font false) (point (pos 0) (pos 0))))
+  moved-there : letters ≡ movedDimensions (pos 0 -ℤ left r) (pos 0 -ℤ top r) (dimensions (laid (drawnLetter font false) atZero))
   moved-there =
       let x : pos 0 -ℤ left r ≡ (pos 0 -ℤ left r) +ℤ pos 0 = omega (zarith, plus (pos 0 -ℤ left r) (pos 0)) in
       let y : pos 0 -ℤ top r ≡ (pos 0 -ℤ top r) +ℤ pos 0 = omega (zarith, plus (pos 0 -ℤ top r) (pos 0)) in
-      let p : opposite r ≡ movedPoint (pos 0 -ℤ left r) (pos 0 -ℤ top r) (point (pos 0) (pos 0)) = cc (x, y) in
+      let p : opposite r ≡ movedPoint (pos 0 -ℤ left r) (pos 0 -ℤ top r) atZero = cc (x, y) in
       ap (λ (q : Point). dimensions (laid (drawnLetter font false) q)) p
-      ∙ ap dimensions (text-moved (pos 0 -ℤ left r) (pos 0 -ℤ top r) font text (point (pos 0) (pos 0)) Baseline lineHeight (drawnLetter font false))
-      ∙ dimensions-moved (pos 0 -ℤ left r) (pos 0 -ℤ top r) (laid (drawnLetter font false) (point (pos 0) (pos 0)))
+      ∙ ap dimensions (text-moved (pos 0 -ℤ left r) (pos 0 -ℤ top r) font text atZero Baseline lineHeight (drawnLetter font false))
+      ∙ dimensions-moved (pos 0 -ℤ left r) (pos 0 -ℤ top r) (laid (drawnLetter font false) atZero)
 
   to-corner : movedRectangle (pos 0 -ℤ left r) (pos 0 -ℤ top r) r ≡ inCorner r
   to-corner =
@@ -304,18 +293,24 @@ module _ (font text : List ℕ) (color : FontColor) (lineHeight : ℕ) (advance 
       cc (x, y)
 
   seen-letters : SeenWhole advance r letters
-  seen-letters = subst (SeenWhole advance r) (sym moved-there) (by (alike-or-cut font lineHeight (point (pos 0) (pos 0)) (characters text) (point (pos 0) (pos 0))))
+  seen-letters = subst (SeenWhole advance r) (sym moved-there) (by (alike-or-cut font lineHeight atZero (characters text) atZero))
     where
-      by : AlikeOrCut (laid (drawnLetter font false) (point (pos 0) (pos 0))) (laid (measuredLetter font false) (point (pos 0) (pos 0)))
-          → SeenWhole advance r (movedDimensions (pos 0 -ℤ left r) (pos 0 -ℤ top r) (dimensions (laid (drawnLetter font false) (point (pos 0) (pos 0)))))
+      by : AlikeOrCut (laid (drawnLetter font false) atZero) (laid (measuredLetter font false) atZero)
+          → SeenWhole advance r (movedDimensions (pos 0 -ℤ left r) (pos 0 -ℤ top r) (dimensions (laid (drawnLetter font false) atZero)))
       by (inl e) = rw (e, at-zero .1) (ap (boxed advance) to-corner)
       by (inr e) = rw (e .1) (inr refl)
 
-  by-background : (t : Bool) → SeenWhole advance r (pick t (refused 6 0) letters)
-  by-background true = inl refl
-  by-background false = seen-letters
+  -- on a framebuffer of the box's size
+  module _ (color : FontColor) (pixels : List ℕ) (wide : r .size .width ≤ 256) (high : r .size .height ≤ 256) (area : length pixels ≡ r .size .width * r .size .height) where
+    sized : framebufferCause (r .size .width) (r .size .height) pixels .applies ≡ false
+    sized =
+        rw (side-in (r .size .width) (near .some .wide) wide, side-in (r .size .height) (near .some .high) high, eq-eqb (length pixels) (r .size .width * r .size .height) area)
 
-  -- All of the text is seen.
-  pub seen-whole : SeenWhole advance r (draw font text (opposite r) style lineHeight false (r .size .width) (r .size .height) buffer)
-  unfolding draw
-  seen-whole = rw (off .0, off .1 .0, off .1 .1 .0, sized, stands) (by-background (backgroundCause color font .applies))
+    by-background : (t : Bool) → SeenWhole advance r (pick t (refused 6 0) letters)
+    by-background true = inl refl
+    by-background false = seen-letters
+
+    -- All of the text is seen.
+    pub seen-whole : SeenWhole advance r (drawnWhole font text lineHeight color r pixels)
+    unfolding draw
+    seen-whole = rw (off .0, off .1 .0, off .1 .1 .0, sized, stands) (by-background (backgroundCause color font .applies))
