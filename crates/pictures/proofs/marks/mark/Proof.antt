@@ -1,8 +1,8 @@
 -- `mark` meets its contract: `shade` makes the same tests. Assumes nothing.
 use borrow.Author.Tests.{eq-eqb, ne-eqb}
 use borrow.Author.Needs.{needs}
-use Rattle.draw.proofs.picture.mark.Statement.{statement}
-use Rattle.draw.proofs.picture.mark.Tie as tie
+use Rattle.pictures.proofs.marks.mark.Statement.{statement}
+use Rattle.pictures.proofs.marks.mark.Tie as tie
 
 returns : tie.Need-returns
 returns c = simp (eq-eqb _ _ (c .if1 .taken))

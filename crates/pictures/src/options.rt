@@ -1,4 +1,8 @@
 // What the program is asked for: the words `pgm` and `background`, in any order.
+ghost use mathlib.Core.Path.{_≡_};
+ghost use mathlib.Core.List.{List};
+ghost use Prim.Native.Nat.{ℕ};
+ghost use Rattle.pictures.specs.Words.{withWord, withWords, noWords};
 use redraw::comparison::is_same;
 
 pub struct Options {
@@ -8,7 +12,9 @@ pub struct Options {
     pub right: bool,
 }
 
-fn with_word(options: Options, word: &[u8]) -> Options {
+fn with_word(options: Options, word: &[u8]) -> Options
+    ensures { λ r. ⌜ r ≡ withWord options (now (word .entry)) ⌝ }
+{
     if is_same(word, b"pgm") {
         return Options {
             pgm: true,
@@ -30,13 +36,18 @@ fn with_word(options: Options, word: &[u8]) -> Options {
     }
 }
 
-fn with_argument(options: Options, i: usize) -> Options {
+// No contract can say what an argument is: it is some word.
+fn with_argument(options: Options, i: usize) -> Options
+    ensures { λ r. ⌜ ((word : List ℕ) × (r ≡ withWord options word)) ⌝ }
+{
     let mut word = io::buffer();
     let n = os::arg(i, &mut word);
     with_word(options, &word[..n])
 }
 
-pub fn read() -> Options {
+pub fn read() -> Options
+    ensures { λ r. ⌜ ((words : List (List ℕ)) × (r ≡ withWords noWords words)) ⌝ }
+{
     let mut options = Options {
         pgm: false,
         background: false,
