@@ -2,6 +2,7 @@
 ghost use mathlib.Core.Path.{_≡_};
 ghost use Prim.Native.Nat.{ℕ, _*_, _≤_, _<_};
 ghost use lib.ListN.{length, getD};
+ghost use Rattle.io.specs.Counts.{Counts};
 ghost use Rattle.pictures.specs.Marks.{inkOf, shade};
 use types::style::FontColor;
 
@@ -36,24 +37,25 @@ fn mark(pixel: u8) -> u8
     b'.'
 }
 
-// The characters that show the pixels.
-fn write_marks(pixels: &[u8], out: &mut [u8])
-    requires { ⌜ length (now pixels) ≡ length (now out) ⌝ }
-    ensures { λ r. ⌜ ((k : ℕ) → k < length (now (out .exit)) → getD (now (out .exit)) k 0 ≡ shade (getD (now (pixels .entry)) k 0)) ⌝ }
+// Writes the characters that show the pixels to the start of `out` and answers how many there are.
+fn write_marks(pixels: &[u8], out: &mut [u8]) -> usize
+    requires { ⌜ length (now pixels) ≤ length (now out) ⌝ }
+    ensures { λ r. ⌜ Counts r (now (out .exit)) × (r ≡ length (now (pixels .entry))) ⌝ }
+    ensures { λ r. ⌜ ((k : ℕ) → k < r → getD (now (out .exit)) k 0 ≡ shade (getD (now (pixels .entry)) k 0)) ⌝ }
 {
     let mut i: usize = 0;
-    while i < out.len() {
+    while i < pixels.len() {
         out[i] = mark(pixels[i]);
         i += 1;
     }
+    i
 }
 
 fn print_row(row: &[u8])
     requires { ⌜ length (now row) ≤ 256 ⌝ }
 {
     let mut line = [0u8; 256];
-    let n = row.len();
-    write_marks(row, &mut line[..n]);
+    let n = write_marks(row, &mut line);
     printing::text(&line[..n]);
     printing::text(b"\n");
 }

@@ -1,16 +1,13 @@
+-- `read` meets its contract: each argument is one word more. Assumes nothing.
+use mathlib.Core.List.{List, [], _∷_, _++_}
+use mathlib.Core.Path.{_≡_, refl, sym, ap, _∙_}
+use Prim.Native.Nat.{ℕ, _-_}
 use borrow.Author.Needs.{needs}
 use Rattle.pictures.proofs.WordsLaws.{one-more}
 use Rattle.pictures.specs.Words.{withWord, withWords, noWords}
 use Rattle.pictures.specs.declared.options.Options.{Options}
-use Prim.Native.Nat.{ℕ, _-_}
-use mathlib.Core.List.{List, [], _∷_, _++_}
-use mathlib.Core.Path.{_≡_, refl, sym, ap, _∙_}
 use Rattle.pictures.proofs.options.read.Statement.{statement}
 use Rattle.pictures.proofs.options.read.Tie as tie
-use Rattle.pictures.proofs.options.read.Reads as reads
-use Rattle.pictures.proofs.options.read.Lts as lts
-use Rattle.os.proofs.arg_count.Reads as arg-count-reads
-use Rattle.pictures.proofs.options.with_argument.Reads as with-argument-reads
 
 no-words : noWords ≡ withWords noWords []
 unfolding withWords
@@ -22,34 +19,27 @@ Inv-loop options₀ n i₀ options i = (words : List (List ℕ)) × (options ≡
 abbrev μ-loop : tie.MeasureT-loop
 μ-loop options₀ n i₀ options i = n - i
 
--- src/options.rt:56:9
 arg-count-requires : tie.Need-arg-count-requires Inv-loop μ-loop
 arg-count-requires c κs = search needs
 
--- src/options.rt:58:5
 loop-holds : tie.Need-loop-holds Inv-loop μ-loop
 loop-holds c = ([], no-words)
 
--- src/options.rt:59:9
 with-argument-requires : tie.Need-with-argument-requires Inv-loop μ-loop
 with-argument-requires c κs = search needs
 
--- src/options.rt:60:9
 add-i : tie.Need-add-i Inv-loop μ-loop
 add-i c = search needs
 
--- src/options.rt:58:5
 loop-less : tie.Need-loop-less Inv-loop μ-loop
 loop-less c = search needs
 
--- src/options.rt:58:5
 loop-again : tie.Need-loop-again Inv-loop μ-loop
 loop-again c =
     let words = c .before .before .loop .inv in
     let word = c .with-argument .ensures in
     (words .0 ++ word .0 ∷ [], word .1 ∙ ap (λ (o : Options). withWord o (word .0)) (words .1) ∙ sym (one-more noWords (words .0) (word .0)))
 
--- src/options.rt:48:1
 returns : tie.Need-returns Inv-loop μ-loop
 returns c = c .before .loop .inv
 

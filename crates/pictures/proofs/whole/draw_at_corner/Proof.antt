@@ -1,16 +1,13 @@
-use Rattle.pictures.proofs.CornerLaws.{corner-near, call-answers, call-shows, call-seen}
+-- `draw_at_corner` meets its contract: CornerLaws.antt has what the call comes to. Assumes nothing.
+use mathlib.Core.Path.{_∙_}
 use mir.Val.{SFits}
 use mir.Facts.{toZ-ofZ}
-use Rattle.integers.proofs.Laws.{stored}
 use mir.Syntax.{w32}
-use mathlib.Core.Path.{_∙_}
 use borrow.Author.Needs.{needs}
+use Rattle.integers.proofs.Laws.{stored}
+use Rattle.pictures.proofs.CornerLaws.{corner-near, call-answers, call-shows, call-seen}
 use Rattle.pictures.proofs.whole.draw_at_corner.Statement.{statement}
 use Rattle.pictures.proofs.whole.draw_at_corner.Tie as tie
-use Rattle.pictures.proofs.whole.draw_at_corner.Reads as reads
-use Rattle.pictures.proofs.whole.draw_at_corner.Lts as lts
-use Rattle.pictures.proofs.whole.opposite.Reads as opposite-reads
-use Rattle.renderer.proofs.render.render.Reads as render-reads
 
 fits-x : (c : tie.Start) → SFits w32 (c .args .rectangle .«top_left» .x)
 fits-x c = search needs
@@ -23,21 +20,17 @@ opposite-requires c κs =
     let s = c .before .before .before .before in
     simp (toZ-ofZ, fits-x s) (corner-near (s .pre .0) .left-low)
 
--- src/whole.rt:63:12
 opposite-requires-2 : tie.Need-opposite-requires-2
 opposite-requires-2 c κs =
     let s = c .before .before .before .before .before .before in
     simp (toZ-ofZ, fits-y s) (corner-near (s .pre .0) .top-low)
 
--- src/whole.rt:69:5
 render-requires : tie.Need-render-requires
 render-requires c κs = search needs
 
--- src/whole.rt:46:1
 same-length : tie.Need-same-length
 same-length c = search needs
 
--- src/whole.rt:46:1
 returns : tie.Need-returns
 returns c =
     let s = c .before .before .before .before .before .before .before .before .before .before .before in
@@ -47,7 +40,7 @@ returns c =
     let x = stored w32 (first .ok) (simp (toZ-ofZ, fits-x s) at (first .ensures)) in
     let y = stored w32 (second .ok) (simp (toZ-ofZ, fits-y s) at (second .ensures)) in
     let answer =
-        c .before .before .render .ensures .0 ∙ call-answers (a .font .now) (a .text .now) (a .line-height) (a .color) (a .rectangle) _ _ (a .width) (a .height) (a .pixels .now) x y (s .pre .0) (s .pre .1) in
+    c .before .before .render .ensures .0 ∙ call-answers (a .font .now) (a .text .now) (a .line-height) (a .color) (a .rectangle) _ _ (a .width) (a .height) (a .pixels .now) x y (s .pre .0) (s .pre .1) in
     (answer, (c .before .before .render .ensures .1 ∙ call-shows (a .font .now) (a .text .now) (a .line-height) (a .color) (a .rectangle) _ _ (a .width) (a .height) (a .pixels .now) x y (s .pre .0) (s .pre .1), call-seen (a .font .now) (a .text .now) (a .line-height) (a .color) (a .rectangle) _ _ (a .width) (a .height) (a .pixels .now) x y (s .pre .0) (s .pre .1) answer))
 
 pub draw-at-corner-spec : {M : Type 1} → statement M

@@ -1,68 +1,54 @@
-use Rattle.pictures.proofs.DrawingLaws.{area-most, part-length, framed, called}
-use Rattle.definitions.specs.Calls.{dimensionsOutcome}
-use native.Mathlib.Omega.{arith}
+-- `draw_box` meets its contract: DrawingLaws.antt has what the call leaves. Assumes nothing.
 use mathlib.Core.Logic.{inl, inr}
 use mathlib.Core.Path.{refl, sym, ap}
+use native.Mathlib.Omega.{arith}
 use borrow.Author.Needs.{needs}
+use Rattle.definitions.specs.Calls.{dimensionsOutcome}
+use Rattle.pictures.proofs.DrawingLaws.{area-most, part-length, framed, called}
 use Rattle.pictures.proofs.whole.draw_box.Statement.{statement}
 use Rattle.pictures.proofs.whole.draw_box.Tie as tie
-use Rattle.pictures.proofs.whole.draw_box.Reads as reads
-use Rattle.pictures.proofs.whole.draw_box.Lts as lts
-use Rattle.pictures.proofs.whole.draw_at_corner.Reads as draw-at-corner-reads
 
--- src/whole.rt:95:17
 cast-width : tie.Need-cast-width
 cast-width c = search needs
 
--- src/whole.rt:96:18
 cast-height : tie.Need-cast-height
 cast-height c = search needs
 
--- src/whole.rt:98:9
 returns : tie.Need-returns
 returns c =
     let m = c .before .before .before .before .before .before .before .pre .0 in
     (refl, ((m .advance, m .box), inl (c .if1 .taken)))
 
--- src/whole.rt:101:9
 returns-2 : tie.Need-returns-2
 returns-2 c =
     let m = c .before .before .before .before .before .before .before .before .pre .0 in
     (refl, ((m .advance, m .box), inr (c .if2 .taken)))
 
--- src/whole.rt:103:13
 mul-n : tie.Need-mul-n
 mul-n c = omega (arith, area-most (c .before .if1 .left) (c .if2 .left))
 
--- src/whole.rt:112:9
 slice-relend-prefix-draw-at-corner : tie.Need-slice-relend-prefix-draw-at-corner
 slice-relend-prefix-draw-at-corner c = omega (arith, area-most (c .before .if1 .left) (c .if2 .left), c .before .before .before .before .before .before .before .before .pre .1)
 
--- src/whole.rt:112:9
 slice-aggregate-draw-at-corner : tie.Need-slice-aggregate-draw-at-corner
 slice-aggregate-draw-at-corner c =
     let s = c .before .before .before .before .before .before .before .before .before in
     sym (part-length (s .args .rectangle) (s .args .buffer .now) (c .before .before .if1 .left) (c .before .if2 .left) (s .pre .1))
 
--- src/whole.rt:104:9
 draw-at-corner-requires : tie.Need-draw-at-corner-requires
 draw-at-corner-requires c κs =
     let s = c .before .before .before .before .before .before .before .before .before in
     (s .pre .0, framed (s .args .rectangle) (s .args .buffer .now) (c .before .before .if1 .left) (c .before .if2 .left) (s .pre .1))
 
--- src/whole.rt:115:31
 enum-known-answer : tie.Need-enum-known-answer
 enum-known-answer c = search needs
 
--- src/whole.rt:116:30
 enum-known-answer-2 : tie.Need-enum-known-answer-2
 enum-known-answer-2 c = search needs
 
--- src/whole.rt:83:1
 same-length : tie.Need-same-length
 same-length c = search needs
 
--- src/whole.rt:83:1
 returns-3 : tie.Need-returns-3
 returns-3 c =
     let s = c .before .before .before .before .before .before .before .before .before .before .before .before .before .before .before in
@@ -70,11 +56,9 @@ returns-3 c =
     inr
     (s .args .rectangle, called (s .args .rectangle) (s .args .buffer .now) (c .before .before .before .before .before .before .before .before .if1 .left) (c .before .before .before .before .before .before .before .if2 .left) (s .pre .1) (s .args .color) (s .pre .0) (ap dimensionsOutcome (c .before .answer .given .1)) (call .0) (call .1 .0) (call .1 .1))
 
--- src/whole.rt:83:1
 same-length-2 : tie.Need-same-length-2
 same-length-2 c = search needs
 
--- src/whole.rt:83:1
 returns-4 : tie.Need-returns-4
 returns-4 c =
     let s = c .before .before .before .before .before .before .before .before .before .before .before .before .before .before .before in

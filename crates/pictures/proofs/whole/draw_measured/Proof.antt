@@ -1,54 +1,41 @@
-use Rattle.pictures.proofs.DrawingLaws.{measured-box}
-use Rattle.definitions.specs.Calls.{dimensionsOutcome}
+-- `draw_measured` meets its contract. Assumes nothing.
 use mathlib.Core.Logic.{inl}
 use mathlib.Core.Path.{refl, sym, ap, _∙_}
 use borrow.Author.Needs.{needs}
+use Rattle.definitions.specs.Calls.{dimensionsOutcome}
+use Rattle.pictures.proofs.DrawingLaws.{measured-box}
 use Rattle.pictures.proofs.whole.draw_measured.Statement.{statement}
 use Rattle.pictures.proofs.whole.draw_measured.Tie as tie
-use Rattle.pictures.proofs.whole.draw_measured.Reads as reads
-use Rattle.pictures.proofs.whole.draw_measured.Lts as lts
-use Rattle.pictures.proofs.whole.draw_box.Reads as draw-box-reads
-use Rattle.renderer.proofs.rendered_dimensions.get_rendered_dimensions.Reads as get-rendered-dimensions-reads
 
--- src/whole.rt:132:11
 get-rendered-dimensions-requires : tie.Need-get-rendered-dimensions-requires
 get-rendered-dimensions-requires c κs = search needs
 
--- src/whole.rt:140:31
 enum-known-error : tie.Need-enum-known-error
 enum-known-error c = search needs
 
--- src/whole.rt:141:30
 enum-known-dimensions : tie.Need-enum-known-dimensions
 enum-known-dimensions c = search needs
 
--- src/whole.rt:144:38
 enum-told : tie.Need-enum-told
 enum-told c = search needs
 
--- src/whole.rt:145:35
 enum-known-bounding-box : tie.Need-enum-known-bounding-box
 enum-known-bounding-box c = search needs
 
--- src/whole.rt:146:21
 draw-box-requires : tie.Need-draw-box-requires
 draw-box-requires c κs =
     let s = c .before .before .before .before .before .before .before .before .before .before .before in
     (measured-box (s .pre .0) (c .before .before .before .before .before .before .before .get-rendered-dimensions .ensures) (ap dimensionsOutcome (c .before .before .before .before .before .dimensions .given .1)) (c .before .before .bounding-box .given .1), s .pre .1)
 
--- src/whole.rt:121:1
 returns : tie.Need-returns
 returns c = inl (refl, sym (c .before .before .before .get-rendered-dimensions .ensures) ∙ ap dimensionsOutcome (c .before .error .given .1))
 
--- src/whole.rt:121:1
 returns-2 : tie.Need-returns-2
 returns-2 c = (refl, (sym (c .before .before .before .before .before .get-rendered-dimensions .ensures) ∙ ap dimensionsOutcome (c .before .before .before .dimensions .given .1), c .enum-told .given .1))
 
--- src/whole.rt:121:1
 same-length : tie.Need-same-length
 same-length c = search needs
 
--- src/whole.rt:121:1
 returns-3 : tie.Need-returns-3
 returns-3 c = c .before .before .draw-box .ensures
 
