@@ -24,7 +24,7 @@ draw-measured-requires : tie.Need-draw-measured-requires
 draw-measured-requires c κs =
     let s = c .before .before .before .before .before .before .before .before in
     let opens = sym (c .before .before .before .before .new-from-raw-data .ensures) ∙ ap fontReaderOutcome (c .before .before .head .given .1) in
-    (default-low (s .args .font .now) _ opens (omega (arith, c .before .before .before .before .before .before .before .shared-slice-known .given 10)), s .pre)
+    (omega (arith, default-low (s .args .font .now) _ opens (omega (arith, c .before .before .before .before .before .before .before .shared-slice-known .given 10))), s .pre)
 
 returns : tie.Need-returns
 returns c =
