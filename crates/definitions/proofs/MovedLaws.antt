@@ -12,7 +12,7 @@ use Rattle.types.specs.declared.geometry.Point.{Point}
 use Rattle.types.specs.declared.geometry.RenderedDimensions.{RenderedDimensions}
 use Rattle.types.specs.declared.style.VerticalPosition.{VerticalPosition}
 use Rattle.definitions.specs.Refusals.{Outcome, success, refused, anyApplies}
-use Rattle.definitions.specs.Text.{Letter, shows, nothing, stops, Placed, joinAll, Layout, point, newline, place, layout, dimensionsOf, dimensions, moved}
+use Rattle.definitions.specs.Text.{Letter, shows, nothing, stops, joinAll, Layout, point, newline, place, layout, dimensionsOf, dimensions, moved}
 use Rattle.definitions.specs.TextSteps.{movedBox}
 use Rattle.definitions.specs.Header.{header}
 use Rattle.definitions.specs.VerticalOffset.{verticalOffset}

@@ -21,12 +21,12 @@ use Rattle.types.specs.declared.geometry.RenderedDimensions.{RenderedDimensions
 use Rattle.types.specs.declared.glyph_reader.GlyphReader.{GlyphReader}
 use Rattle.types.specs.declared.style.FontColor.{FontColor}
 use Rattle.types.specs.declared.style.VerticalPosition.the-variants.{Baseline}
-use Rattle.definitions.specs.Refusals.{Outcome, success, refused, Cause, unlessRefused, anyApplies}
+use Rattle.definitions.specs.Refusals.{Outcome, success, refused, anyApplies}
 use Rattle.definitions.specs.Header.{header, Opened}
 use Rattle.definitions.specs.Geometry.{left, top, spanLength, join}
 use Rattle.definitions.specs.Glyph.{glyph}
 use Rattle.definitions.specs.Utf8.{decode, isUtf8}
-use Rattle.definitions.specs.Text.{Letter, letter, shows, nothing, stops, boxAt, joinAll, Layout, point, newline, place, layout, dimensionsOf, dimensions}
+use Rattle.definitions.specs.Text.{Letter, letter, nothing, stops, boxAt, joinAll, Layout, point, newline, place, layout, dimensionsOf, dimensions}
 use Rattle.definitions.specs.TextSteps.{movedRectangle}
 use Rattle.definitions.specs.Runs.{Pixels, pixels, cut, glyphPixels}
 use Rattle.definitions.specs.Framebuffer.{sideOff, framebufferCause}
@@ -39,7 +39,7 @@ use Rattle.definitions.proofs.JoinLaws.{HasCell, end, join-end}
 use Rattle.definitions.proofs.GlyphLaws.{InRange, glyph-range}
 use Rattle.definitions.proofs.BitsLaws.{SignedByte}
 use Rattle.definitions.proofs.Utf8Laws.{utf8-characters, character-count}
-use Rattle.definitions.proofs.MovedLaws.{movedPoint, movedLayout, movedDimensions, dimensions-moved, laidAt, text-moved}
+use Rattle.definitions.proofs.MovedLaws.{movedPoint, movedDimensions, dimensions-moved, laidAt, text-moved}
 
 -- ---- drawing lays a text out as measuring does, or stops at a glyph whose runs are cut off
 

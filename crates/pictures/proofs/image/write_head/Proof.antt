@@ -1,7 +1,6 @@
 -- `write_head` meets its contract: the pieces of the head, one after the other. Assumes nothing.
 use mathlib.Core.List.{[], _∷_, append-assoc}
 use mathlib.Core.Path.{_∙_}
-use native.Mathlib.Omega.{arith}
 use borrow.Author.Needs.{needs}
 use Rattle.definitions.specs.Line.{decimal}
 use Rattle.io.proofs.Counting.{counts}

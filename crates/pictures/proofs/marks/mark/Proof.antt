@@ -1,6 +1,5 @@
 -- `mark` meets its contract: `shade` makes the same tests. Assumes nothing.
 use borrow.Author.Tests.{eq-eqb, ne-eqb}
-use borrow.Author.Needs.{needs}
 use Rattle.pictures.proofs.marks.mark.Statement.{statement}
 use Rattle.pictures.proofs.marks.mark.Tie as tie
 

@@ -1,5 +1,4 @@
 -- `draw_input` is safe: what is drawn can be shown. Assumes nothing.
-use native.Mathlib.Omega.{arith}
 use borrow.Author.Needs.{needs}
 use Rattle.pictures.proofs.DrawingLaws.{showable}
 use Rattle.pictures.proofs.program.draw_input.Statement.{statement}
