@@ -16,5 +16,7 @@ pub mod RefusalLaws
 pub mod Agreement
 pub mod AgreementCase
 pub mod RedrawLaws
+pub mod MovedLaws
+pub mod WholeLaws
 pub mod LineCases
 pub mod LineLaws

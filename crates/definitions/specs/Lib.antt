@@ -17,5 +17,6 @@ pub mod Calls
 pub mod Line
 pub mod Agreement
 pub mod Redraw
+pub mod Whole
 pub mod FontT
 pub mod Cases

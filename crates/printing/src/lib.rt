@@ -1,4 +1,6 @@
 // What the programs print: numbers, and answers in 01's words (`ok` or `no`, then numbers).
+pub mod digits;
+
 use libc::STDOUT_FILENO;
 use types::error::Error;
 use types::geometry::BoundingBox;
@@ -53,8 +55,10 @@ pub fn dimensions(d: RenderedDimensions) {
 }
 
 fn code_point(c: u32) {
+    let mut out = [0u8; 8];
+    let start = digits::write_digits(c, &mut out);
     text(b"U+");
-    io::print_hex(STDOUT_FILENO, c as u64, 4);
+    text(&out[start..]);
 }
 
 // Why a call is refused, in words.

@@ -1,0 +1,103 @@
+-- Where a text stands moves its glyphs and its box, and changes nothing else. Assumes nothing.
+use mathlib.Core.Path.{_≡_, refl, sym, ap, _∙_}
+use mathlib.Core.Bool.{Bool, true, false}
+use mathlib.Core.List.{List, [], _∷_, map}
+use Prim.Native.Nat.{ℕ, _*_}
+use lib.Dec.{eqb}
+use lib.IntN.{ℤ, pos, _+ℤ_}
+use Rattle.integers.specs.Integers.{pick}
+use Rattle.integers.proofs.Laws.{zarith, plus}
+use Rattle.types.specs.declared.geometry.BoundingBox.{BoundingBox}
+use Rattle.types.specs.declared.geometry.Point.{Point}
+use Rattle.types.specs.declared.geometry.RenderedDimensions.{RenderedDimensions}
+use Rattle.types.specs.declared.style.VerticalPosition.{VerticalPosition}
+use Rattle.definitions.specs.Refusals.{Outcome, success, refused, anyApplies}
+use Rattle.definitions.specs.Text.{Letter, shows, nothing, stops, joinAll, Layout, point, newline, place, layout, dimensionsOf, dimensions, moved}
+use Rattle.definitions.specs.TextSteps.{movedBox}
+use Rattle.definitions.specs.Header.{header}
+use Rattle.definitions.specs.VerticalOffset.{verticalOffset}
+use Rattle.definitions.specs.Utf8.{newlines}
+use Rattle.definitions.specs.Calls.{measureCauses, characters, origin, measuredLetter, measure}
+use Rattle.definitions.proofs.RefusalLaws.{none-applies}
+use Rattle.definitions.proofs.TextLaws.{join-all-moved}
+
+sum-moved : (x a b : ℤ) → (x +ℤ a) +ℤ b ≡ x +ℤ (a +ℤ b)
+sum-moved x a b = omega (zarith, plus x a, plus a b, plus (x +ℤ a) b, plus x (a +ℤ b))
+
+module _ (x y : ℤ) where
+  abbrev pub movedPoint : Point → Point
+  movedPoint p = point (x +ℤ p .x) (y +ℤ p .y)
+
+  abbrev pub movedLayout : Layout → Layout
+  movedLayout l = record { glyphs = map (moved x y) (l .glyphs); advance = l .advance }
+
+  -- the advance is counted from the text's start, and stays
+  abbrev pub movedDimensions : Outcome RenderedDimensions → Outcome RenderedDimensions
+  movedDimensions (success d) = success record { advance = d .advance; «bounding_box» = movedBox x y (d .«bounding_box») }
+  movedDimensions (refused n c) = refused n c
+
+  by-advance : (box : BoundingBox) (o : Outcome Point) → dimensionsOf (movedBox x y box) o ≡ movedDimensions (dimensionsOf box o)
+  by-advance box (success a) = refl
+  by-advance box (refused n c) = refl
+
+  pub dimensions-moved : (l : Layout) → dimensions (movedLayout l) ≡ movedDimensions (dimensions l)
+  dimensions-moved l =
+      ap (λ (b : BoundingBox). dimensionsOf b (l .advance)) (join-all-moved x y (l .glyphs))
+      ∙ by-advance (joinAll (l .glyphs)) (l .advance)
+
+  module _ (letters : ℕ → Letter) (lineHeight : ℕ) (origin : Point) where
+    -- what is to be shown of a list of code points, from each advance
+    abbrev Moves : List ℕ → Type 0
+    Moves cs =
+        (advance : Point)
+        → layout letters lineHeight (movedPoint origin) advance cs ≡ movedLayout (layout letters lineHeight origin advance cs)
+
+    place-moved : (cs : List ℕ) → Moves cs → (advance : Point) (l : Letter)
+        → place (movedPoint origin) advance l (λ next. layout letters lineHeight (movedPoint origin) next cs)
+        ≡ movedLayout (place origin advance l (λ next. layout letters lineHeight origin next cs))
+    place-moved cs rest advance (shows g) =
+        rw (rest (point (advance .x +ℤ g .advance) (advance .y)), sum-moved x (origin .x) (advance .x), sum-moved y (origin .y) (advance .y))
+    place-moved cs rest advance nothing = rest advance
+    place-moved cs rest advance (stops n c) = refl
+
+    char-moved : (cs : List ℕ) → Moves cs → (advance : Point) (t : Bool) (l : Letter)
+        → pick t (layout letters lineHeight (movedPoint origin) (newline lineHeight advance) cs) (place (movedPoint origin) advance l (λ next. layout letters lineHeight (movedPoint origin) next cs))
+        ≡ movedLayout (pick t (layout letters lineHeight origin (newline lineHeight advance) cs) (place origin advance l (λ next. layout letters lineHeight origin next cs)))
+    char-moved cs rest advance true l = rest (newline lineHeight advance)
+    char-moved cs rest advance false l = place-moved cs rest advance l
+
+    pub layout-moved : (cs : List ℕ) (advance : Point)
+        → layout letters lineHeight (movedPoint origin) advance cs ≡ movedLayout (layout letters lineHeight origin advance cs)
+    unfolding layout
+    layout-moved [] advance = refl
+    layout-moved (c ∷ cs) advance = char-moved cs (layout-moved cs) advance (eqb c 10) (letters c)
+
+-- ---- the calls
+
+-- the letters of a text, at a place
+abbrev pub laidAt : List ℕ → List ℕ → VerticalPosition → ℕ → (ℕ → Letter) → Point → Layout
+laidAt font text v lineHeight letters position =
+    layout letters lineHeight (origin font text position v lineHeight) (point (pos 0) (pos 0)) (characters text)
+
+module _ (x y : ℤ) (font text : List ℕ) (position : Point) (v : VerticalPosition) (lineHeight : ℕ) where
+  origin-moved : origin font text (movedPoint x y position) v lineHeight ≡ movedPoint x y (origin font text position v lineHeight)
+  origin-moved =
+      rw (sum-moved y (position .y) (verticalOffset v (pos (newlines (characters text) * lineHeight)) (header font .ascent) (header font .descent)))
+
+  pub text-moved : (letters : ℕ → Letter)
+      → laidAt font text v lineHeight letters (movedPoint x y position) ≡ movedLayout x y (laidAt font text v lineHeight letters position)
+  text-moved letters =
+      rw origin-moved
+      (layout-moved x y letters lineHeight (origin font text position v lineHeight) (characters text) (point (pos 0) (pos 0)))
+
+  -- Measuring at a place moved is measuring, moved, where both places are within the limits.
+  pub measure-moved : (skip : Bool)
+      → anyApplies (measureCauses font text position lineHeight) ≡ false
+      → anyApplies (measureCauses font text (movedPoint x y position) lineHeight) ≡ false
+      → measure font text (movedPoint x y position) v lineHeight skip ≡ movedDimensions x y (measure font text position v lineHeight skip)
+  unfolding measure
+  measure-moved skip here there =
+      none-applies _ (measureCauses font text (movedPoint x y position) lineHeight) there
+      ∙ ap dimensions (text-moved (measuredLetter font skip))
+      ∙ dimensions-moved x y (laidAt font text v lineHeight (measuredLetter font skip) position)
+      ∙ ap (movedDimensions x y) (sym (none-applies _ (measureCauses font text position lineHeight) here))

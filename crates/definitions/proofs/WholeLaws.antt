@@ -1,0 +1,316 @@
+-- A text that is measured at (0, 0) and drawn at the opposite of its box's corner is seen whole (Whole.antt): the box's corner is
+-- within 01's limits for places, the box has a pixel, and drawing comes to what measuring does, moved. Assumes nothing.
+use mathlib.Core.Path.{_≡_, refl, sym, ap, subst, _∙_}
+use mathlib.Core.Logic.{_⊎_, inl, inr}
+use mathlib.Core.Bool.{Bool, true, false, _||_, not}
+use mathlib.Core.List.{List, [], _∷_}
+use Prim.Native.Nat.{ℕ, _+_, _*_, _≤_}
+use native.Mathlib.Omega.{arith}
+use lib.Dec.{ltb, eqb}
+use lib.IntN.{ℤ, pos, negsuc, _+ℤ_, _-ℤ_}
+use lib.ListN.{length}
+use lib.Signed.{ltZ, _≤ℤ_}
+use borrow.Author.Tests.{ltb-false, eqb-false, le-ltb, ne-eqb, eq-eqb, not-false}
+use Rattle.integers.specs.Integers.{pick, minZ}
+use Rattle.integers.proofs.Laws.{zarith, plus, minus, min-is, max-is}
+use Rattle.types.specs.declared.geometry.BoundingBox.{BoundingBox}
+use Rattle.types.specs.declared.geometry.BoundingBox.the-variants.{None, Some}
+use Rattle.types.specs.declared.geometry.Point.{Point}
+use Rattle.types.specs.declared.geometry.Rectangle.{Rectangle}
+use Rattle.types.specs.declared.geometry.RenderedDimensions.{RenderedDimensions}
+use Rattle.types.specs.declared.glyph_reader.GlyphReader.{GlyphReader}
+use Rattle.types.specs.declared.style.FontColor.{FontColor}
+use Rattle.types.specs.declared.style.VerticalPosition.the-variants.{Baseline}
+use Rattle.definitions.specs.Refusals.{Outcome, success, refused, anyApplies}
+use Rattle.definitions.specs.Header.{header, Opened}
+use Rattle.definitions.specs.Geometry.{left, top, spanLength, join}
+use Rattle.definitions.specs.Glyph.{glyph}
+use Rattle.definitions.specs.Utf8.{decode, isUtf8}
+use Rattle.definitions.specs.Text.{Letter, letter, nothing, stops, boxAt, joinAll, Layout, point, newline, place, layout, dimensionsOf, dimensions}
+use Rattle.definitions.specs.TextSteps.{movedRectangle}
+use Rattle.definitions.specs.Runs.{Pixels, pixels, cut, glyphPixels}
+use Rattle.definitions.specs.Framebuffer.{sideOff, framebufferCause}
+use Rattle.definitions.specs.Limits.{coordinateOff, placeCause, backgroundCause}
+use Rattle.definitions.specs.Calls.{measureCauses, characters, measuredLetter, measure, withRuns, drawable, drawnLetter, draw}
+use Rattle.definitions.specs.Whole.{atZero, measuredAtZero, opposite, drawnWhole, inCorner, boxed, SeenWhole}
+use Rattle.definitions.proofs.OpenedLaws.{or-false, opened-limits}
+use Rattle.definitions.proofs.RefusalLaws.{succeeded, each-off, NoneApplies}
+use Rattle.definitions.proofs.JoinLaws.{HasCell, end, join-end}
+use Rattle.definitions.proofs.GlyphLaws.{InRange, glyph-range}
+use Rattle.definitions.proofs.BitsLaws.{SignedByte}
+use Rattle.definitions.proofs.Utf8Laws.{utf8-characters, character-count}
+use Rattle.definitions.proofs.MovedLaws.{movedPoint, movedDimensions, dimensions-moved, laidAt, text-moved}
+
+-- ---- drawing lays a text out as measuring does, or stops at a glyph whose runs are cut off
+
+abbrev AlikeOrCut : Layout → Layout → Type 0
+AlikeOrCut drawn measured = (drawn ≡ measured) ⊎ ((c : ℕ) × (drawn .advance ≡ refused 8 c))
+
+module _ (font : List ℕ) (lineHeight : ℕ) (origin : Point) where
+  abbrev drawnFrom : Point → List ℕ → Layout
+  drawnFrom advance cs = layout (drawnLetter font false) lineHeight origin advance cs
+
+  abbrev measuredFrom : Point → List ℕ → Layout
+  measuredFrom advance cs = layout (measuredLetter font false) lineHeight origin advance cs
+
+  module _ (cs : List ℕ) (rest : (advance : Point) → AlikeOrCut (drawnFrom advance cs) (measuredFrom advance cs)) (advance : Point) (c : ℕ) where
+    abbrev Placed : Outcome GlyphReader → Outcome GlyphReader → Type 0
+    Placed d m =
+        AlikeOrCut
+        (place origin advance (letter false d) (λ next. drawnFrom next cs))
+        (place origin advance (letter false m) (λ next. measuredFrom next cs))
+
+    after-glyph : (g : GlyphReader)
+        → AlikeOrCut (drawnFrom (point (advance .x +ℤ g .advance) (advance .y)) cs) (measuredFrom (point (advance .x +ℤ g .advance) (advance .y)) cs)
+        → Placed (success g) (success g)
+    after-glyph g (inl e) = inl (rw e)
+    after-glyph g (inr e) = inr e
+
+    with-pixels : (g : GlyphReader) (p : Pixels) → Placed (withRuns c g p) (success g)
+    with-pixels g (pixels ps) = after-glyph g (rest (point (advance .x +ℤ g .advance) (advance .y)))
+    with-pixels g cut = inr (c, refl)
+
+    placed : (o : Outcome GlyphReader) → Placed (drawable font c o) o
+    placed (success g) = with-pixels g (glyphPixels font (header font) g)
+    placed (refused n d) = inl refl
+
+    next-char : (t : Bool)
+        → AlikeOrCut
+        (pick t (drawnFrom (newline lineHeight advance) cs) (place origin advance (drawnLetter font false c) (λ next. drawnFrom next cs)))
+        (pick t (measuredFrom (newline lineHeight advance) cs) (place origin advance (measuredLetter font false c) (λ next. measuredFrom next cs)))
+    next-char true = rest (newline lineHeight advance)
+    next-char false = placed (glyph font c)
+
+  pub alike-or-cut : (cs : List ℕ) (advance : Point) → AlikeOrCut (drawnFrom advance cs) (measuredFrom advance cs)
+  unfolding layout
+  alike-or-cut [] advance = inl refl
+  alike-or-cut (c ∷ cs) advance = next-char cs (alike-or-cut cs) advance c (eqb c 10)
+
+-- ---- the box lies near its text's place, and has a pixel
+
+pub record Near (r : Rectangle) : Type 0 where
+  pub left-low : negsuc 1048575 ≤ℤ left r
+  pub left-high : left r ≤ℤ pos 1048576
+  pub top-low : negsuc 1048575 ≤ℤ top r
+  pub top-high : top r ≤ℤ pos 1048576
+  pub some : HasCell r
+
+abbrev pub NearBox : BoundingBox → Type 0
+NearBox None = Unit {0}
+NearBox (Some r) = Near r
+
+join-some : (a b : ℤ) (m n : ℕ) → 1 ≤ m → 1 ≤ spanLength a b m n
+join-some a b m n h =
+    let e = join-end a b m n in
+    omega (zarith, plus (minZ a b) (pos (spanLength a b m n)), plus a (pos m), min-is a b, max-is (end a m) (end b n))
+
+near-join : (a b : BoundingBox) → NearBox a → NearBox b → NearBox (join a b)
+near-join None b h k = k
+near-join (Some p) None h k = h
+near-join (Some p) (Some q) h k = record {
+  left-low = let u = h .left-low in let v = k .left-low in omega (zarith, min-is (left p) (left q));
+  left-high = let u = h .left-high in let v = k .left-high in omega (zarith, min-is (left p) (left q));
+  top-low = let u = h .top-low in let v = k .top-low in omega (zarith, min-is (top p) (top q));
+  top-high = let u = h .top-high in let v = k .top-high in omega (zarith, min-is (top p) (top q));
+  some = record {
+    wide = join-some (left p) (left q) (p .size .width) (q .size .width) (h .some .wide);
+    high = join-some (top p) (top q) (p .size .height) (q .size .height) (h .some .high);
+  };
+}
+
+-- the advance after n characters, where the line height is at most 128
+pub record Advanced (n : ℕ) (advance : Point) : Type 0 where
+  pub left : negsuc (128 * n) ≤ℤ advance .x
+  pub right : advance .x ≤ℤ pos (128 * n)
+  pub top : pos 0 ≤ℤ advance .y
+  pub bottom : advance .y ≤ℤ pos (128 * n)
+
+module _ {n : ℕ} {advance : Point} (a : Advanced n advance) where
+  after-newline : {lineHeight : ℕ} → lineHeight ≤ 128 → Advanced (n + 1) (newline lineHeight advance)
+  after-newline {lineHeight} h =
+      let t = a .top in
+      let b = a .bottom in
+      record {
+        left = omega zarith;
+        right = omega zarith;
+        top = omega (zarith, plus (advance .y) (pos lineHeight));
+        bottom = omega (zarith, plus (advance .y) (pos lineHeight));
+      }
+
+  after-letter : {d : ℤ} → SignedByte d → Advanced (n + 1) (point (advance .x +ℤ d) (advance .y))
+  after-letter {d} s =
+      let l = a .left in
+      let r = a .right in
+      let t = a .top in
+      let b = a .bottom in
+      record { left = omega (zarith, plus (advance .x) d); right = omega (zarith, plus (advance .x) d); top = omega zarith; bottom = omega zarith }
+
+  module _ (few : n ≤ 4096) {font : List ℕ} {g : GlyphReader} (range : InRange font g) where
+    near-left : (negsuc 1048575 ≤ℤ ((pos 0 +ℤ advance .x) +ℤ g .«offset_x»)) × (((pos 0 +ℤ advance .x) +ℤ g .«offset_x») ≤ℤ pos 1048576)
+    near-left =
+        let l = a .left in
+        let r = a .right in
+        let o = range .x in
+        omega (zarith, plus (pos 0) (advance .x), plus (pos 0 +ℤ advance .x) (g .«offset_x»))
+
+    near-top : (negsuc 1048575 ≤ℤ ((pos 0 +ℤ advance .y) -ℤ (pos (g .«glyph_height») +ℤ g .«offset_y»)))
+        × (((pos 0 +ℤ advance .y) -ℤ (pos (g .«glyph_height») +ℤ g .«offset_y»)) ≤ℤ pos 1048576)
+    near-top =
+        let t = a .top in
+        let b = a .bottom in
+        let o = range .y in
+        let h = range .height in
+        let e = pos (g .«glyph_height») +ℤ g .«offset_y» in
+        omega (zarith, plus (pos 0) (advance .y), plus (pos (g .«glyph_height»)) (g .«offset_y»), minus (pos 0 +ℤ advance .y) e)
+
+    near-glyph : NearBox (boxAt (pos 0 +ℤ advance .x) (pos 0 +ℤ advance .y) g)
+    near-glyph = by (eqb (g .«glyph_width») 0) refl (eqb (g .«glyph_height») 0) refl
+      where
+        by : (s : Bool) → eqb (g .«glyph_width») 0 ≡ s → (t : Bool) → eqb (g .«glyph_height») 0 ≡ t
+            → NearBox
+            (pick (s || t) None
+            (Some record {
+              «top_left» = record {
+                x = (pos 0 +ℤ advance .x) +ℤ g .«offset_x»;
+                y = (pos 0 +ℤ advance .y) -ℤ (pos (g .«glyph_height») +ℤ g .«offset_y»);
+              };
+              size = record { width = g .«glyph_width»; height = g .«glyph_height» };
+            }))
+        by true p t q = tt
+        by false p true q = tt
+        by false p false q =
+            let u = eqb-false (g .«glyph_width») 0 p in
+            let v = eqb-false (g .«glyph_height») 0 q in
+            record {
+              left-low = near-left .0;
+              left-high = near-left .1;
+              top-low = near-top .0;
+              top-high = near-top .1;
+              some = record { wide = omega arith; high = omega arith };
+            }
+
+module _ (font : List ℕ) (opened : Opened font (header font)) (lineHeight : ℕ) (low : lineHeight ≤ 128) where
+  abbrev boxFrom : Point → List ℕ → BoundingBox
+  boxFrom advance cs = joinAll (layout (measuredLetter font false) lineHeight (point (pos 0) (pos 0)) advance cs .glyphs)
+
+  -- what is to be shown of a list of code points, from each advance
+  abbrev Nears : List ℕ → Type 0
+  Nears cs = (n : ℕ) (advance : Point) → n + length cs ≤ 4096 → Advanced n advance → NearBox (boxFrom advance cs)
+
+  near-letter : (c : ℕ) (cs : List ℕ) → Nears cs → (n : ℕ) (advance : Point) → n + length (c ∷ cs) ≤ 4096 → Advanced n advance
+      → (o : Outcome GlyphReader) → glyph font c ≡ o
+      → NearBox (joinAll (place (point (pos 0) (pos 0)) advance (letter false o) (λ next. layout (measuredLetter font false) lineHeight (point (pos 0) (pos 0)) next cs) .glyphs))
+  unfolding joinAll
+  near-letter c cs rest n advance few a (success g) e =
+      let range = glyph-range font (header font) c g opened e in
+      near-join (boxAt (pos 0 +ℤ advance .x) (pos 0 +ℤ advance .y) g) (boxFrom (point (advance .x +ℤ g .advance) (advance .y)) cs)
+      (near-glyph a (omega arith) range)
+      (rest (n + 1) (point (advance .x +ℤ g .advance) (advance .y)) (omega arith) (after-letter a (range .advance)))
+  near-letter c cs rest n advance few a (refused m d) e = tt
+
+  near-char : (c : ℕ) (cs : List ℕ) → Nears cs → (n : ℕ) (advance : Point) → n + length (c ∷ cs) ≤ 4096 → Advanced n advance
+      → (t : Bool)
+      → NearBox
+      (joinAll
+      (pick t (layout (measuredLetter font false) lineHeight (point (pos 0) (pos 0)) (newline lineHeight advance) cs)
+      (place (point (pos 0) (pos 0)) advance (measuredLetter font false c) (λ next. layout (measuredLetter font false) lineHeight (point (pos 0) (pos 0)) next cs))
+      .glyphs))
+  near-char c cs rest n advance few a true = rest (n + 1) (newline lineHeight advance) (omega arith) (after-newline a low)
+  near-char c cs rest n advance few a false = near-letter c cs rest n advance few a (glyph font c) refl
+
+  near-text : (cs : List ℕ) → Nears cs
+  unfolding layout joinAll
+  near-text [] n advance few a = tt
+  near-text (c ∷ cs) n advance few a = near-char c cs (near-text cs) n advance few a (eqb c 10)
+
+-- ---- drawing at the opposite of the corner
+
+dimensions-success : (b : BoundingBox) (o : Outcome Point) (d : RenderedDimensions) → dimensionsOf b o ≡ success d → b ≡ d .«bounding_box»
+dimensions-success b (success a) d e =
+    let same : record { advance = a; «bounding_box» = b } ≡ d = cc in
+    ap (λ (x : RenderedDimensions). x .«bounding_box») same
+dimensions-success b (refused n c) d e = let z : _≡_ {A = ℕ} 0 1 = cc in absurd (omega arith)
+
+few-characters : (text : List ℕ) → (ltb 4096 (length text) || not (isUtf8 (decode text))) ≡ false → length (characters text) ≤ 4096
+few-characters text e =
+    let l = or-false (ltb 4096 (length text)) (not (isUtf8 (decode text))) e in
+    omega (arith, ltb-false 4096 (length text) (l .0), character-count text (utf8-characters (decode text) (not-false (isUtf8 (decode text)) (l .1))))
+
+coordinate-in : (z : ℤ) → negsuc 1048575 ≤ℤ z → z ≤ℤ pos 1048576 → coordinateOff (pos 0 -ℤ z) ≡ false
+coordinate-in z l h =
+    let a : ltZ (pos 0 -ℤ z) (negsuc 1048575) ≡ false = omega (zarith, minus (pos 0) z) in
+    let b : ltZ (pos 1048576) (pos 0 -ℤ z) ≡ false = omega (zarith, minus (pos 0) z) in
+    rw (a, b)
+
+side-in : (n : ℕ) → 1 ≤ n → n ≤ 256 → sideOff n ≡ false
+side-in n l h =
+    let a : eqb n 0 ≡ false = ne-eqb n 0 (λ e. omega arith) in
+    let b : ltb 256 n ≡ false = le-ltb 256 n h in
+    rw (a, b)
+
+module _ (font text : List ℕ) (lineHeight : ℕ) (advance : Point) (r : Rectangle) (low : lineHeight ≤ 128) (measured : measuredAtZero font text lineHeight ≡ success (boxed advance r)) where
+  abbrev laid : (ℕ → Letter) → Point → Layout
+  laid letters position = laidAt font text Baseline lineHeight letters position
+
+  at-zero : (anyApplies (measureCauses font text atZero lineHeight) ≡ false)
+      × (dimensions (laid (measuredLetter font false) atZero) ≡ success (boxed advance r))
+  unfolding measure
+  at-zero =
+      succeeded (dimensions (laid (measuredLetter font false) atZero)) (boxed advance r) (measureCauses font text atZero lineHeight) measured
+
+  off : NoneApplies (measureCauses font text atZero lineHeight)
+  off = each-off (measureCauses font text atZero lineHeight) (at-zero .0)
+
+  -- so its opposite is within the limits for places
+  pub near : Near r
+  near =
+      let start : Advanced 0 atZero = record { left = omega zarith; right = omega zarith; top = omega zarith; bottom = omega zarith } in
+      let box = dimensions-success (joinAll (laid (measuredLetter font false) atZero .glyphs)) (laid (measuredLetter font false) atZero .advance) (boxed advance r) (at-zero .1) in
+      subst NearBox box
+      (near-text font (opened-limits font (off .0) (off .1 .0)) lineHeight low (characters text) 0 atZero (omega (arith, few-characters text (off .1 .1 .0))) start)
+
+  stands : placeCause (opposite r) lineHeight .applies ≡ false
+  stands =
+      rw (coordinate-in (left r) (near .left-low) (near .left-high), coordinate-in (top r) (near .top-low) (near .top-high), le-ltb 65535 lineHeight (omega arith))
+
+  -- what the letters come to, once they are drawn there
+  abbrev letters : Outcome RenderedDimensions
+  letters = dimensions (laid (drawnLetter font false) (opposite r))
+
+  moved-there : letters ≡ movedDimensions (pos 0 -ℤ left r) (pos 0 -ℤ top r) (dimensions (laid (drawnLetter font false) atZero))
+  moved-there =
+      let x : pos 0 -ℤ left r ≡ (pos 0 -ℤ left r) +ℤ pos 0 = omega (zarith, plus (pos 0 -ℤ left r) (pos 0)) in
+      let y : pos 0 -ℤ top r ≡ (pos 0 -ℤ top r) +ℤ pos 0 = omega (zarith, plus (pos 0 -ℤ top r) (pos 0)) in
+      let p : opposite r ≡ movedPoint (pos 0 -ℤ left r) (pos 0 -ℤ top r) atZero = cc (x, y) in
+      ap (λ (q : Point). dimensions (laid (drawnLetter font false) q)) p
+      ∙ ap dimensions (text-moved (pos 0 -ℤ left r) (pos 0 -ℤ top r) font text atZero Baseline lineHeight (drawnLetter font false))
+      ∙ dimensions-moved (pos 0 -ℤ left r) (pos 0 -ℤ top r) (laid (drawnLetter font false) atZero)
+
+  to-corner : movedRectangle (pos 0 -ℤ left r) (pos 0 -ℤ top r) r ≡ inCorner r
+  to-corner =
+      let x : (pos 0 -ℤ left r) +ℤ left r ≡ pos 0 = omega (zarith, minus (pos 0) (left r), plus (pos 0 -ℤ left r) (left r)) in
+      let y : (pos 0 -ℤ top r) +ℤ top r ≡ pos 0 = omega (zarith, minus (pos 0) (top r), plus (pos 0 -ℤ top r) (top r)) in
+      cc (x, y)
+
+  seen-letters : SeenWhole advance r letters
+  seen-letters = subst (SeenWhole advance r) (sym moved-there) (by (alike-or-cut font lineHeight atZero (characters text) atZero))
+    where
+      by : AlikeOrCut (laid (drawnLetter font false) atZero) (laid (measuredLetter font false) atZero)
+          → SeenWhole advance r (movedDimensions (pos 0 -ℤ left r) (pos 0 -ℤ top r) (dimensions (laid (drawnLetter font false) atZero)))
+      by (inl e) = rw (e, at-zero .1) (ap (boxed advance) to-corner)
+      by (inr e) = rw (e .1) (inr refl)
+
+  -- on a framebuffer of the box's size
+  module _ (color : FontColor) (pixels : List ℕ) (wide : r .size .width ≤ 256) (high : r .size .height ≤ 256) (area : length pixels ≡ r .size .width * r .size .height) where
+    sized : framebufferCause (r .size .width) (r .size .height) pixels .applies ≡ false
+    sized =
+        rw (side-in (r .size .width) (near .some .wide) wide, side-in (r .size .height) (near .some .high) high, eq-eqb (length pixels) (r .size .width * r .size .height) area)
+
+    by-background : (t : Bool) → SeenWhole advance r (pick t (refused 6 0) letters)
+    by-background true = inl refl
+    by-background false = seen-letters
+
+    -- All of the text is seen.
+    pub seen-whole : SeenWhole advance r (drawnWhole font text lineHeight color r pixels)
+    unfolding draw
+    seen-whole = rw (off .0, off .1 .0, off .1 .1 .0, sized, stands) (by-background (backgroundCause color font .applies))

@@ -1,0 +1,40 @@
+-- Drawing at the opposite of the corner of a text's box: the call is the definition's, and all of the text is seen. Assumes nothing.
+use mathlib.Core.Path.{_≡_, sym, subst, _∙_}
+use mathlib.Core.Bool.{false}
+use mathlib.Core.List.{List}
+use Prim.Native.Nat.{ℕ, _≤_}
+use lib.IntN.{ℤ, pos, _-ℤ_}
+use lib.ListN.{length}
+use Rattle.types.specs.declared.geometry.Point.{Point}
+use Rattle.types.specs.declared.geometry.Rectangle.{Rectangle}
+use Rattle.types.specs.declared.geometry.RenderedDimensions.{RenderedDimensions}
+use Rattle.types.specs.declared.style.FontColor.{FontColor}
+use Rattle.definitions.specs.Refusals.{Outcome, success}
+use Rattle.definitions.specs.Geometry.{left, top}
+use Rattle.definitions.specs.Text.{point}
+use Rattle.definitions.specs.Calls.{draw, drawBuffer}
+use Rattle.definitions.specs.Whole.{measuredAtZero, opposite, onBaseline, drawnWhole, shownWhole, boxed, SeenWhole}
+use Rattle.definitions.proofs.WholeLaws.{Near, near, seen-whole}
+use Rattle.pictures.specs.Drawings.{Measured, Framed}
+
+pub corner-near : {font text : List ℕ} {lineHeight : ℕ} {r : Rectangle} → Measured font text lineHeight r → Near r
+corner-near {font} {text} {lineHeight} {r} m = near font text lineHeight (m .advance) r (m .low) (m .box)
+
+module _ (font text : List ℕ) (lineHeight : ℕ) (color : FontColor) (r : Rectangle) (x y : ℤ) (width height : ℕ) (pixels : List ℕ) (at-x : x ≡ pos 0 -ℤ left r) (at-y : y ≡ pos 0 -ℤ top r) (m : Measured font text lineHeight r) (f : Framed r width height (length pixels)) where
+  place : point x y ≡ opposite r
+  place = cc (at-x, at-y)
+
+  pub call-answers : draw font text (point x y) (onBaseline color) lineHeight false width height pixels ≡ drawnWhole font text lineHeight color r pixels
+  call-answers = rw (place, f .width-is, f .height-is)
+
+  pub call-shows : drawBuffer font text (point x y) (onBaseline color) lineHeight false width height pixels ≡ shownWhole font text lineHeight color r pixels
+  call-shows = rw (place, f .width-is, f .height-is)
+
+  pub call-seen : {o : Outcome RenderedDimensions} → o ≡ drawnWhole font text lineHeight color r pixels
+      → (advance : Point) → measuredAtZero font text lineHeight ≡ success (boxed advance r) → SeenWhole advance r o
+  call-seen e advance k =
+      subst (SeenWhole advance r) (sym e)
+      (seen-whole font text lineHeight advance r (m .low) k color pixels
+      (subst (λ (n : ℕ). n ≤ 256) (f .width-is) (f .wide))
+      (subst (λ (n : ℕ). n ≤ 256) (f .height-is) (f .high))
+      (f .area ∙ rw (f .width-is, f .height-is)))

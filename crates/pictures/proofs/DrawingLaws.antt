@@ -1,0 +1,113 @@
+-- What each step of drawing a text on a framebuffer of its own comes to. Assumes nothing.
+use mathlib.Core.Path.{_≡_, refl, sym, ap, subst, _∙_}
+use mathlib.Core.Bool.{false}
+use mathlib.Core.List.{List, [], _∷_, _++_}
+use Prim.Native.Nat.{ℕ, _+_, _*_, _≤_, _<_}
+use native.Mathlib.Nat.{mul-le-mul, mul-le-mul-right, mul-comm}
+use native.Mathlib.Omega.{arith}
+use lib.IntN.{pos, natAbs, _+ℤ_}
+use lib.ListN.{length, getD, take, drop}
+use lib.Seq.{length-take-le}
+use lib.Signed.{_≤ℤ_}
+use Rattle.integers.specs.Integers.{signed8}
+use Rattle.integers.proofs.Laws.{zarith, plus, range, size, signed8-fits}
+use Rattle.types.specs.declared.font_reader.FontReader.{FontReader}
+use Rattle.types.specs.declared.geometry.BoundingBox.{BoundingBox}
+use Rattle.types.specs.declared.geometry.BoundingBox.the-variants.{Some}
+use Rattle.types.specs.declared.geometry.Point.{Point}
+use Rattle.types.specs.declared.geometry.Rectangle.{Rectangle}
+use Rattle.types.specs.declared.geometry.RenderedDimensions.{RenderedDimensions}
+use Rattle.types.specs.declared.geometry.Size.{Size}
+use Rattle.types.specs.declared.style.FontColor.{FontColor}
+use Rattle.types.specs.declared.style.VerticalPosition.the-variants.{Baseline}
+use Rattle.definitions.specs.Refusals.{Outcome, success, refused, unlessRefused}
+use Rattle.definitions.specs.Header.{header, signedByte}
+use Rattle.definitions.specs.Text.{dimensions}
+use Rattle.definitions.specs.Limits.{textCause, placeCause}
+use Rattle.definitions.specs.Calls.{openFont, measuredLetter, measure}
+use Rattle.definitions.specs.Whole.{atZero, measuredAtZero, drawnWhole, shownWhole, boxed, SeenWhole}
+use Rattle.definitions.proofs.OpenedLaws.{opened, open-refused}
+use Rattle.definitions.proofs.MovedLaws.{laidAt}
+use Rattle.pictures.specs.declared.whole.Drawing.{Drawing}
+use Rattle.pictures.specs.declared.whole.Drawing.the-variants.{Drawn, Blank, TooLarge, Refused}
+use Rattle.pictures.specs.Drawings.{Measured, Framed, area, Called, IsDrawing, Showable}
+
+-- the largest framebuffer
+pub area-most : {width height : ℕ} → width ≤ 256 → height ≤ 256 → width * height ≤ 65536
+area-most w h = mul-le-mul w h
+
+module _ (r : Rectangle) (before : List ℕ) (wide : r .size .width ≤ 256) (high : r .size .height ≤ 256) (room : length before ≡ 65536) where
+  pub part-length : length (take (area r) before) ≡ area r
+  part-length = length-take-le (area r) before (omega (arith, area-most wide high))
+
+  pub framed : Framed r (r .size .width) (r .size .height) (length (take (area r) before))
+  framed = record { width-is = refl; height-is = refl; wide = wide; high = high; area = part-length }
+
+  module _ {font text : List ℕ} {lineHeight : ℕ} (color : FontColor) (m : Measured font text lineHeight r) where
+    -- the call's answer, read, and the pixels it left
+    pub called : {after : List ℕ} {answer o : Outcome RenderedDimensions} → answer ≡ o
+        → answer ≡ drawnWhole font text lineHeight color r (take (area r) before)
+        → after ≡ shownWhole font text lineHeight color r (take (area r) before)
+        → ((advance : Point) → measuredAtZero font text lineHeight ≡ success (boxed advance r) → SeenWhole advance r answer)
+        → Called font text lineHeight color before (after ++ drop (area r) before) r o
+    called {after} {answer} {o} is answered shown seen = record {
+      advance = m .advance;
+      measured = m .box;
+      wide = wide;
+      high = high;
+      answered = sym answered ∙ is;
+      shown = ap (λ (l : List ℕ). l ++ drop (area r) before) shown;
+      seen = subst (SeenWhole (m .advance) r) is (seen (m .advance) (m .box));
+    }
+
+-- a measuring that succeeded with a box
+pub measured-box : {font text : List ℕ} {lineHeight : ℕ} {answer : Outcome RenderedDimensions} {d : RenderedDimensions} {r : Rectangle}
+    → lineHeight ≤ 128 → answer ≡ measuredAtZero font text lineHeight → answer ≡ success d → d .«bounding_box» ≡ Some r → Measured font text lineHeight r
+measured-box {d = d} low call is box = record {
+  low = low;
+  advance = d .advance;
+  box = sym call ∙ is ∙ ap (λ (b : BoundingBox). success record { advance = d .advance; «bounding_box» = b }) box;
+}
+
+-- ---- an opened font
+
+module _ (font text : List ℕ) (lineHeight : ℕ) where
+  pub opening-refused : {n c : ℕ} → openFont font ≡ refused n c → measuredAtZero font text lineHeight ≡ refused n c
+  unfolding measure
+  opening-refused {n} {c} e =
+      open-refused font
+      (unlessRefused (textCause text ∷ placeCause atZero lineHeight ∷ [])
+      (dimensions (laidAt font text Baseline lineHeight (measuredLetter font false) atZero)))
+      n c e
+
+low-height : (b : ℕ) → b < 256 → pos 0 ≤ℤ signed8 b → natAbs (signed8 b +ℤ pos 1) ≤ 128
+low-height b h k = omega (zarith, range (signed8-fits b h), plus (signed8 b) (pos 1), size (signed8 b +ℤ pos 1))
+
+module _ (font : List ℕ) (head : FontReader) (opens : openFont font ≡ success head) where
+  pub is-default : head .«line_height» ≡ header font .«line_height»
+  is-default = ap (λ (h : FontReader). h .«line_height») (opened font head opens .read)
+
+  -- a default line height is at most 128
+  pub default-low : getD font 10 0 < 256 → head .«line_height» ≤ 128
+  unfolding header
+  default-low h =
+      let o = opened font head opens in
+      let height : pos 0 ≤ℤ signedByte font 10 = subst (λ (x : FontReader). pos 0 ≤ℤ x .«font_bounding_box_height») (o .read) (o .height) in
+      subst (λ (n : ℕ). n ≤ 128) (sym is-default) (low-height (getD font 10 0) h height)
+
+-- ---- the rows of a picture
+
+pub row-within : (width height y : ℕ) → y < height → y * width + width ≤ width * height
+row-within width height y h = omega (arith, mul-le-mul-right width h, mul-comm width height)
+
+-- ---- what is shown
+
+pub showable : (font text : List ℕ) (lineHeight : ℕ) (color : FontColor) (before after : List ℕ) (d : Drawing)
+    → IsDrawing font text lineHeight color before after d → Showable d
+showable font text lineHeight color before after (Drawn d size) (r, (e, k)) = (subst (λ (s : Size). s .width ≤ 256) e (k .wide), subst (λ (s : Size). s .height ≤ 256) e (k .high))
+showable font text lineHeight color before after (Blank d) h = tt
+showable font text lineHeight color before after (TooLarge r) h = tt
+showable font text lineHeight color before after (Refused e) h = tt
+
+pub shown-length : (size : Size) (buffer : List ℕ) → size .width ≤ 256 → size .height ≤ 256 → length buffer ≡ 65536 → length (take (size .width * size .height) buffer) ≡ size .width * size .height
+shown-length size buffer wide high room = length-take-le (size .width * size .height) buffer (omega (arith, area-most wide high))

@@ -1,0 +1,42 @@
+-- The words of the command line: the comparison of two words, and one word more. Assumes nothing.
+use mathlib.Core.Path.{_≡_, refl, sym, subst, _∙_}
+use mathlib.Core.Bool.{Bool, true, false, _&&_}
+use mathlib.Core.List.{List, [], _∷_, _++_}
+use Prim.Native.Nat.{ℕ}
+use native.Mathlib.Omega.{arith}
+use lib.Dec.{eqb}
+use borrow.Author.Tests.{eqb-true, eq-eqb}
+use Rattle.pictures.specs.declared.options.Options.{Options}
+use Rattle.pictures.specs.Words.{same, withWord, withWords}
+
+both : (s t : Bool) → (s && t) ≡ true → (s ≡ true) × (t ≡ true)
+both true t e = (refl, e)
+both false t e = let z : _≡_ {A = ℕ} 0 1 = cc in absurd (omega arith)
+
+same-true : (a b : List ℕ) → same a b ≡ true → a ≡ b
+unfolding same
+same-true [] [] e = refl
+same-true [] (y ∷ ys) e = let z : _≡_ {A = ℕ} 0 1 = cc in absurd (omega arith)
+same-true (x ∷ xs) [] e = let z : _≡_ {A = ℕ} 0 1 = cc in absurd (omega arith)
+same-true (x ∷ xs) (y ∷ ys) e =
+    let h = both (eqb x y) (same xs ys) e in
+    cc (eqb-true x y (h .0), same-true xs ys (h .1))
+
+same-itself : (a : List ℕ) → same a a ≡ true
+unfolding same
+same-itself [] = refl
+same-itself (x ∷ xs) = rw (eq-eqb x x refl) (same-itself xs)
+
+-- what decides whether two words are the same is that test
+pub same-is : (a b : List ℕ) (r : Bool) → (r ≡ true → a ≡ b) → (a ≡ b → r ≡ true) → same a b ≡ r
+same-is a b r there back = by r (same a b) refl there back
+  where
+    by : (r t : Bool) → same a b ≡ t → (r ≡ true → a ≡ b) → (a ≡ b → r ≡ true) → t ≡ r
+    by true t e there back = sym e ∙ subst (λ (x : List ℕ). same a x ≡ true) (there refl) (same-itself a)
+    by false true e there back = sym (back (same-true a b e))
+    by false false e there back = refl
+
+pub one-more : (o : Options) (words : List (List ℕ)) (word : List ℕ) → withWords o (words ++ word ∷ []) ≡ withWord (withWords o words) word
+unfolding withWords
+one-more o [] word = refl
+one-more o (w ∷ words) word = one-more (withWord o w) words word

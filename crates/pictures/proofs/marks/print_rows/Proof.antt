@@ -1,0 +1,64 @@
+-- `print_rows` is safe: each row lies in the picture. Assumes nothing.
+use Prim.Native.Nat.{_-_, _≤_}
+use native.Mathlib.Omega.{arith}
+use borrow.Author.Needs.{needs}
+use Rattle.pictures.proofs.DrawingLaws.{area-most, row-within}
+use Rattle.pictures.proofs.marks.print_rows.Statement.{statement}
+use Rattle.pictures.proofs.marks.print_rows.Tie as tie
+
+abbrev Inv-loop : tie.InvT-loop
+Inv-loop pixels width height y₀ y = y ≤ height
+
+abbrev μ-loop : tie.MeasureT-loop
+μ-loop pixels width height y₀ y = height - y
+
+loop-holds : tie.Need-loop-holds Inv-loop μ-loop
+loop-holds c = search needs
+
+mul-start : tie.Need-mul-start Inv-loop μ-loop
+mul-start c = let s = c .before .before .before in omega (arith, row-within (s .args .width) (s .args .height) (c .before .loop .y) (c .loop-test .taken), area-most (s .pre .0) (s .pre .1 .0))
+
+add-end : tie.Need-add-end Inv-loop μ-loop
+add-end c = let s = c .before .before .before in omega (arith, row-within (s .args .width) (s .args .height) (c .before .loop .y) (c .loop-test .taken), area-most (s .pre .0) (s .pre .1 .0))
+
+sub-print-row : tie.Need-sub-print-row Inv-loop μ-loop
+sub-print-row c = search needs
+
+part-print-row-start : tie.Need-part-print-row-start Inv-loop μ-loop
+part-print-row-start c = search needs
+
+part-print-row-end : tie.Need-part-print-row-end Inv-loop μ-loop
+part-print-row-end c = let s = c .before .before .before in omega (arith, row-within (s .args .width) (s .args .height) (c .before .loop .y) (c .loop-test .taken), s .pre .1 .1)
+
+print-row-requires : tie.Need-print-row-requires Inv-loop μ-loop
+print-row-requires c κs = search needs
+
+add-y : tie.Need-add-y Inv-loop μ-loop
+add-y c = search needs
+
+loop-less : tie.Need-loop-less Inv-loop μ-loop
+loop-less c = search needs
+
+loop-again : tie.Need-loop-again Inv-loop μ-loop
+loop-again c = search needs
+
+returns : tie.Need-returns Inv-loop μ-loop
+returns c = search needs
+
+pub print-rows-spec : {M : Type 1} → statement M
+print-rows-spec =
+    tie.close
+    (tie.spec
+    Inv-loop
+    μ-loop
+    loop-holds
+    mul-start
+    add-end
+    sub-print-row
+    part-print-row-start
+    part-print-row-end
+    print-row-requires
+    add-y
+    loop-less
+    loop-again
+    returns)

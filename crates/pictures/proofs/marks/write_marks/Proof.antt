@@ -1,0 +1,64 @@
+-- `write_marks` meets its contract: WriteLaws.antt of redraw has the step. Assumes nothing.
+use mathlib.Core.Path.{_≡_, refl}
+use Prim.Native.Nat.{_-_, _≤_}
+use native.Mathlib.Omega.{arith}
+use lib.ListN.{length, getD, length-set}
+use borrow.Author.Needs.{needs}
+use Rattle.io.proofs.Counting.{counts}
+use Rattle.pictures.specs.Marks.{shade}
+use Rattle.redraw.proofs.WriteLaws.{WrittenTo, write-next}
+use Rattle.pictures.proofs.marks.write_marks.Statement.{statement}
+use Rattle.pictures.proofs.marks.write_marks.Tie as tie
+
+abbrev Inv-loop : tie.InvT-loop
+Inv-loop pixels out₀ i₀ out i = (i ≤ length pixels) × ((length out ≡ length out₀) × WrittenTo (λ k. shade (getD pixels k 0)) out i)
+
+abbrev μ-loop : tie.MeasureT-loop
+μ-loop pixels out₀ i₀ out i = length pixels - i
+
+loop-holds : tie.Need-loop-holds Inv-loop μ-loop
+loop-holds c = (omega arith, (refl, λ k p. absurd (omega arith)))
+
+shared-slice-read-mark : tie.Need-shared-slice-read-mark Inv-loop μ-loop
+shared-slice-read-mark c = search needs
+
+mark-requires : tie.Need-mark-requires Inv-loop μ-loop
+mark-requires c κs = search needs
+
+slice-write-out : tie.Need-slice-write-out Inv-loop μ-loop
+slice-write-out c = search needs
+
+add-i : tie.Need-add-i Inv-loop μ-loop
+add-i c = search needs
+
+loop-less : tie.Need-loop-less Inv-loop μ-loop
+loop-less c = search needs
+
+loop-again : tie.Need-loop-again Inv-loop μ-loop
+loop-again c =
+    let l = c .before .before .before .loop in
+    (omega arith, (simp length-set (l .inv .1 .0), write-next (λ k. shade (getD (c .before .before .before .before .before .before .args .pixels .now) k 0)) (l .out) (l .i) _ (omega (arith, l .inv .1 .0)) (c .mark .ensures) (l .inv .1 .1)))
+
+same-length : tie.Need-same-length Inv-loop μ-loop
+same-length c = search needs
+
+returns : tie.Need-returns Inv-loop μ-loop
+returns c =
+    let l = c .before .loop in
+    ((counts (l .i) (l .out) (omega (arith, l .inv .1 .0)), omega arith), l .inv .1 .1)
+
+pub write-marks-spec : {M : Type 1} → statement M
+write-marks-spec =
+    tie.close
+    (tie.spec
+    Inv-loop
+    μ-loop
+    loop-holds
+    shared-slice-read-mark
+    mark-requires
+    slice-write-out
+    add-i
+    loop-less
+    loop-again
+    same-length
+    returns)

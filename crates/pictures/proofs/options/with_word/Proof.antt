@@ -1,0 +1,48 @@
+-- `with_word` meets its contract: WordsLaws.antt has what the comparisons decide. Assumes nothing.
+use mathlib.Core.Path.{_∙_}
+use borrow.Author.Needs.{needs}
+use Rattle.pictures.proofs.WordsLaws.{same-is}
+use Rattle.pictures.specs.Words.{pgm, background}
+use Rattle.pictures.proofs.options.with_word.Statement.{statement}
+use Rattle.pictures.proofs.options.with_word.Tie as tie
+
+slice-aggregate-is-same : tie.Need-slice-aggregate-is-same
+slice-aggregate-is-same c = search needs
+
+is-same-requires : tie.Need-is-same-requires
+is-same-requires c κs = search needs
+
+returns : tie.Need-returns
+returns c =
+    let first = c .before .is-same in
+    rw (same-is _ pgm (first .result) (first .ensures .0) (first .ensures .1) ∙ c .if1 .taken)
+
+slice-aggregate-is-same-2 : tie.Need-slice-aggregate-is-same-2
+slice-aggregate-is-same-2 c = search needs
+
+is-same-requires-2 : tie.Need-is-same-requires-2
+is-same-requires-2 c κs = search needs
+
+returns-2 : tie.Need-returns-2
+returns-2 c =
+    let first = c .before .before .before .before .is-same in
+    let second = c .before .is-same2 in
+    rw (same-is _ pgm (first .result) (first .ensures .0) (first .ensures .1) ∙ c .before .before .before .if1 .left, same-is _ background (second .result) (second .ensures .0) (second .ensures .1) ∙ c .if2 .taken)
+
+returns-3 : tie.Need-returns-3
+returns-3 c =
+    let first = c .before .before .before .before .is-same in
+    let second = c .before .is-same2 in
+    rw (same-is _ pgm (first .result) (first .ensures .0) (first .ensures .1) ∙ c .before .before .before .if1 .left, same-is _ background (second .result) (second .ensures .0) (second .ensures .1) ∙ c .if2 .left)
+
+pub with-word-spec : {M : Type 1} → statement M
+with-word-spec =
+    tie.close
+    (tie.spec
+    slice-aggregate-is-same
+    is-same-requires
+    returns
+    slice-aggregate-is-same-2
+    is-same-requires-2
+    returns-2
+    returns-3)

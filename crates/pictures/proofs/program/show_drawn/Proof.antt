@@ -1,0 +1,44 @@
+-- `show_drawn` is safe: a picture of at most 256 × 256 pixels lies in the buffer. Assumes nothing.
+use mathlib.Core.Path.{sym}
+use native.Mathlib.Omega.{arith}
+use borrow.Author.Needs.{needs}
+use Rattle.pictures.proofs.DrawingLaws.{area-most, shown-length}
+use Rattle.pictures.proofs.program.show_drawn.Statement.{statement}
+use Rattle.pictures.proofs.program.show_drawn.Tie as tie
+
+answer-requires : tie.Need-answer-requires
+answer-requires c κs = search needs
+
+cast-n : tie.Need-cast-n
+cast-n c = search needs
+
+cast-n-2 : tie.Need-cast-n-2
+cast-n-2 c = search needs
+
+mul-n : tie.Need-mul-n
+mul-n c = let p = c .before .before .before .before .pre in omega (arith, area-most (p .0) (p .1 .0))
+
+slice-aggregate-show-pixels : tie.Need-slice-aggregate-show-pixels
+slice-aggregate-show-pixels c =
+    let s = c .before .before .before .before .before in
+    sym (shown-length (s .args .size) (s .args .buffer .now) (s .pre .0) (s .pre .1 .0) (s .pre .1 .1))
+
+show-pixels-requires : tie.Need-show-pixels-requires
+show-pixels-requires c κs =
+    let s = c .before .before .before .before .before in
+    (s .pre .0, (s .pre .1 .0, shown-length (s .args .size) (s .args .buffer .now) (s .pre .0) (s .pre .1 .0) (s .pre .1 .1)))
+
+returns : tie.Need-returns
+returns c = search needs
+
+pub show-drawn-spec : {M : Type 1} → statement M
+show-drawn-spec =
+    tie.close
+    (tie.spec
+    answer-requires
+    cast-n
+    cast-n-2
+    mul-n
+    slice-aggregate-show-pixels
+    show-pixels-requires
+    returns)

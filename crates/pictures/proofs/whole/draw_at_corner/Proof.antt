@@ -1,0 +1,56 @@
+-- `draw_at_corner` meets its contract: CornerLaws.antt has what the call comes to. Assumes nothing.
+use mathlib.Core.Path.{_∙_}
+use mir.Val.{SFits, toZ, ofZ}
+use mir.Facts.{toZ-ofZ}
+use lib.IntN.{negsuc}
+use lib.Signed.{_≤ℤ_}
+use mir.Syntax.{w32}
+use borrow.Author.Needs.{needs}
+use Rattle.integers.proofs.Laws.{stored}
+use Rattle.pictures.proofs.CornerLaws.{corner-near, call-answers, call-shows, call-seen}
+use Rattle.pictures.proofs.whole.draw_at_corner.Statement.{statement}
+use Rattle.pictures.proofs.whole.draw_at_corner.Tie as tie
+
+fits-x : (c : tie.Start) → SFits w32 (c .args .rectangle .«top_left» .x)
+fits-x c = search needs
+
+fits-y : (c : tie.Start) → SFits w32 (c .args .rectangle .«top_left» .y)
+fits-y c = search needs
+
+near-x : (c : tie.Start) → negsuc 1048575 ≤ℤ toZ w32 (ofZ w32 (c .args .rectangle .«top_left» .x))
+near-x c = simp (toZ-ofZ, fits-x c) (corner-near (c .pre .0) .left-low)
+
+near-y : (c : tie.Start) → negsuc 1048575 ≤ℤ toZ w32 (ofZ w32 (c .args .rectangle .«top_left» .y))
+near-y c = simp (toZ-ofZ, fits-y c) (corner-near (c .pre .0) .top-low)
+
+opposite-requires : tie.Need-opposite-requires
+opposite-requires c κs =
+    let s = c .before .before .before .before in
+    search (needs, near-x s, near-y s)
+
+opposite-requires-2 : tie.Need-opposite-requires-2
+opposite-requires-2 c κs =
+    let s = c .before .before .before .before .before .before in
+    search (needs, near-x s, near-y s)
+
+render-requires : tie.Need-render-requires
+render-requires c κs = search needs
+
+same-length : tie.Need-same-length
+same-length c = search needs
+
+returns : tie.Need-returns
+returns c =
+    let s = c .before .before .before .before .before .before .before .before .before .before .before in
+    let a = s .args in
+    let first = c .before .before .before .before .before .before .opposite in
+    let second = c .before .before .before .before .opposite2 in
+    let x = stored w32 (first .ok) (simp (toZ-ofZ, fits-x s, fits-y s) at (first .ensures)) in
+    let y = stored w32 (second .ok) (simp (toZ-ofZ, fits-x s, fits-y s) at (second .ensures)) in
+    let answer =
+    c .before .before .render .ensures .0 ∙ call-answers (a .font .now) (a .text .now) (a .line-height) (a .color) (a .rectangle) _ _ (a .width) (a .height) (a .pixels .now) x y (s .pre .0) (s .pre .1) in
+    (answer, (c .before .before .render .ensures .1 ∙ call-shows (a .font .now) (a .text .now) (a .line-height) (a .color) (a .rectangle) _ _ (a .width) (a .height) (a .pixels .now) x y (s .pre .0) (s .pre .1), call-seen (a .font .now) (a .text .now) (a .line-height) (a .color) (a .rectangle) _ _ (a .width) (a .height) (a .pixels .now) x y (s .pre .0) (s .pre .1) answer))
+
+pub draw-at-corner-spec : {M : Type 1} → statement M
+draw-at-corner-spec =
+    tie.close (tie.spec opposite-requires opposite-requires-2 render-requires same-length returns)

@@ -1,0 +1,85 @@
+-- `draw_box` meets its contract: DrawingLaws.antt has what the call leaves. Assumes nothing.
+use mathlib.Core.Logic.{inl, inr}
+use mathlib.Core.Path.{refl, sym, ap}
+use native.Mathlib.Omega.{arith}
+use borrow.Author.Needs.{needs}
+use Rattle.definitions.specs.Calls.{dimensionsOutcome}
+use Rattle.pictures.proofs.DrawingLaws.{area-most, part-length, framed, called}
+use Rattle.pictures.proofs.whole.draw_box.Statement.{statement}
+use Rattle.pictures.proofs.whole.draw_box.Tie as tie
+
+cast-width : tie.Need-cast-width
+cast-width c = search needs
+
+cast-height : tie.Need-cast-height
+cast-height c = search needs
+
+returns : tie.Need-returns
+returns c =
+    let m = c .before .before .before .before .before .before .before .pre .0 in
+    (refl, ((m .advance, m .box), inl (c .if1 .taken)))
+
+returns-2 : tie.Need-returns-2
+returns-2 c =
+    let m = c .before .before .before .before .before .before .before .before .pre .0 in
+    (refl, ((m .advance, m .box), inr (c .if2 .taken)))
+
+mul-n : tie.Need-mul-n
+mul-n c = omega (arith, area-most (c .before .if1 .left) (c .if2 .left))
+
+slice-relend-prefix-draw-at-corner : tie.Need-slice-relend-prefix-draw-at-corner
+slice-relend-prefix-draw-at-corner c = omega (arith, area-most (c .before .if1 .left) (c .if2 .left), c .before .before .before .before .before .before .before .before .pre .1)
+
+slice-aggregate-draw-at-corner : tie.Need-slice-aggregate-draw-at-corner
+slice-aggregate-draw-at-corner c =
+    let s = c .before .before .before .before .before .before .before .before .before in
+    sym (part-length (s .args .rectangle) (s .args .buffer .now) (c .before .before .if1 .left) (c .before .if2 .left) (s .pre .1))
+
+draw-at-corner-requires : tie.Need-draw-at-corner-requires
+draw-at-corner-requires c κs =
+    let s = c .before .before .before .before .before .before .before .before .before in
+    (s .pre .0, framed (s .args .rectangle) (s .args .buffer .now) (c .before .before .if1 .left) (c .before .if2 .left) (s .pre .1))
+
+enum-known-answer : tie.Need-enum-known-answer
+enum-known-answer c = search needs
+
+enum-known-answer-2 : tie.Need-enum-known-answer-2
+enum-known-answer-2 c = search needs
+
+same-length : tie.Need-same-length
+same-length c = search needs
+
+returns-3 : tie.Need-returns-3
+returns-3 c =
+    let s = c .before .before .before .before .before .before .before .before .before .before .before .before .before .before .before in
+    let call = c .before .before .before .before .before .draw-at-corner .ensures in
+    inr
+    (s .args .rectangle, called (s .args .rectangle) (s .args .buffer .now) (c .before .before .before .before .before .before .before .before .if1 .left) (c .before .before .before .before .before .before .before .if2 .left) (s .pre .1) (s .args .color) (s .pre .0) (ap dimensionsOutcome (c .before .answer .given .1)) (call .0) (call .1 .0) (call .1 .1))
+
+same-length-2 : tie.Need-same-length-2
+same-length-2 c = search needs
+
+returns-4 : tie.Need-returns-4
+returns-4 c =
+    let s = c .before .before .before .before .before .before .before .before .before .before .before .before .before .before .before in
+    let call = c .before .before .before .before .before .draw-at-corner .ensures in
+    (s .args .rectangle, (refl, called (s .args .rectangle) (s .args .buffer .now) (c .before .before .before .before .before .before .before .before .if1 .left) (c .before .before .before .before .before .before .before .if2 .left) (s .pre .1) (s .args .color) (s .pre .0) (ap dimensionsOutcome (c .before .answer2 .given .1)) (call .0) (call .1 .0) (call .1 .1)))
+
+pub draw-box-spec : {M : Type 1} → statement M
+draw-box-spec =
+    tie.close
+    (tie.spec
+    cast-width
+    cast-height
+    returns
+    returns-2
+    mul-n
+    slice-relend-prefix-draw-at-corner
+    slice-aggregate-draw-at-corner
+    draw-at-corner-requires
+    enum-known-answer
+    enum-known-answer-2
+    same-length
+    returns-3
+    same-length-2
+    returns-4)

@@ -1,0 +1,55 @@
+-- `draw_text` meets its contract: a font that does not open is not measured, and its line height is at most 128. Assumes nothing.
+use mathlib.Core.Logic.{inl}
+use mathlib.Core.Path.{refl, sym, ap, subst, _∙_}
+use Prim.Native.Nat.{ℕ}
+use native.Mathlib.Omega.{arith}
+use borrow.Author.Needs.{needs}
+use Rattle.definitions.specs.Header.{header}
+use Rattle.definitions.specs.Calls.{fontReaderOutcome}
+use Rattle.pictures.proofs.DrawingLaws.{opening-refused, is-default, default-low}
+use Rattle.pictures.specs.Drawings.{IsDrawing}
+use Rattle.pictures.proofs.whole.draw_text.Statement.{statement}
+use Rattle.pictures.proofs.whole.draw_text.Tie as tie
+
+new-from-raw-data-requires : tie.Need-new-from-raw-data-requires
+new-from-raw-data-requires c κs = search needs
+
+enum-known-error : tie.Need-enum-known-error
+enum-known-error c = search needs
+
+enum-known-head : tie.Need-enum-known-head
+enum-known-head c = search needs
+
+draw-measured-requires : tie.Need-draw-measured-requires
+draw-measured-requires c κs =
+    let s = c .before .before .before .before .before .before .before .before in
+    let opens = sym (c .before .before .before .before .new-from-raw-data .ensures) ∙ ap fontReaderOutcome (c .before .before .head .given .1) in
+    (omega (arith, default-low (s .args .font .now) _ opens (omega (arith, c .before .before .before .before .before .before .before .shared-slice-known .given 10))), s .pre)
+
+returns : tie.Need-returns
+returns c =
+    let s = c .before .before .before .before .before .before .before in
+    inl (refl, opening-refused (s .args .font .now) (s .args .text .now) (header (s .args .font .now) .«line_height») (sym (c .before .before .before .new-from-raw-data .ensures) ∙ ap fontReaderOutcome (c .before .error .given .1)))
+
+same-length : tie.Need-same-length
+same-length c = search needs
+
+returns-2 : tie.Need-returns-2
+returns-2 c =
+    let s = c .before .before .before .before .before .before .before .before .before .before .before in
+    let opens = sym (c .before .before .before .before .before .before .before .new-from-raw-data .ensures) ∙ ap fontReaderOutcome (c .before .before .before .before .before .head .given .1) in
+    subst (λ (n : ℕ). IsDrawing (s .args .font .now) (s .args .text .now) n (s .args .color) (s .args .buffer .now) (c .before .before .draw-measured .last .1 .1 .1 .1 .0) (c .before .before .draw-measured .result))
+    (is-default (s .args .font .now) _ opens)
+    (c .before .before .draw-measured .ensures)
+
+pub draw-text-spec : {M : Type 1} → statement M
+draw-text-spec =
+    tie.close
+    (tie.spec
+    new-from-raw-data-requires
+    enum-known-error
+    enum-known-head
+    draw-measured-requires
+    returns
+    same-length
+    returns-2)

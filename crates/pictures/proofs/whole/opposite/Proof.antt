@@ -1,0 +1,20 @@
+-- `opposite` meets its contract. Assumes nothing.
+use lib.IntN.{pos, _-ℤ_}
+use mir.Facts.{toZ-ofZ}
+use mir.Val.{SFits}
+use mir.Syntax.{w32}
+use Rattle.integers.proofs.Laws.{zarith, minus, range}
+use Rattle.pictures.proofs.whole.opposite.Statement.{statement}
+use Rattle.pictures.proofs.whole.opposite.Tie as tie
+
+fits : (c : tie.Start) → SFits w32 (pos 0 -ℤ c .args .z)
+fits c = omega (zarith, minus (pos 0) (c .args .z), range (c .fits .z))
+
+sub-result : tie.Need-sub-result
+sub-result c = simp (toZ-ofZ, c .fits .z) (fits c)
+
+returns : tie.Need-returns
+returns c = simp (toZ-ofZ, c .fits .z, fits c)
+
+pub opposite-spec : {M : Type 1} → statement M
+opposite-spec = tie.close (tie.spec sub-result returns)

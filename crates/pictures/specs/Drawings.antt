@@ -1,0 +1,64 @@
+-- What drawing a text on a framebuffer of its own comes to. The buffer begins with the framebuffer's pixels; what follows them
+-- stays.
+use mathlib.Core.Path.{_≡_}
+use mathlib.Core.List.{List, _++_}
+use mathlib.Core.Logic.{_⊎_}
+use Prim.Native.Nat.{ℕ, _*_, _≤_, _<_}
+use lib.ListN.{take, drop}
+use Rattle.types.specs.declared.geometry.BoundingBox.the-variants.{None}
+use Rattle.types.specs.declared.geometry.Point.{Point}
+use Rattle.types.specs.declared.geometry.Rectangle.{Rectangle}
+use Rattle.types.specs.declared.geometry.RenderedDimensions.{RenderedDimensions}
+use Rattle.types.specs.declared.style.FontColor.{FontColor}
+use Rattle.definitions.specs.Refusals.{Outcome, success, refusal}
+use Rattle.definitions.specs.Whole.{measuredAtZero, drawnWhole, shownWhole, boxed, SeenWhole}
+use Rattle.pictures.specs.declared.whole.Drawing.{Drawing}
+use Rattle.pictures.specs.declared.whole.Drawing.the-variants.{Drawn, Blank, TooLarge, Refused}
+
+-- The text was measured at (0, 0), and its box is r. A default line height is at most 128.
+pub record Measured (font text : List ℕ) (lineHeight : ℕ) (r : Rectangle) : Type 0 where
+  pub low : lineHeight ≤ 128
+  pub advance : Point
+  pub box : measuredAtZero font text lineHeight ≡ success (boxed advance r)
+
+-- A framebuffer of r's size, and how many bytes it has.
+pub record Framed (r : Rectangle) (width height n : ℕ) : Type 0 where
+  pub width-is : width ≡ r .size .width
+  pub height-is : height ≡ r .size .height
+  pub wide : width ≤ 256
+  pub high : height ≤ 256
+  pub area : n ≡ width * height
+
+abbrev pub area : Rectangle → ℕ
+area r = r .size .width * r .size .height
+
+-- The text was measured and then drawn, and drawing came to `o`.
+pub record Called (font text : List ℕ) (lineHeight : ℕ) (color : FontColor) (before after : List ℕ) (r : Rectangle) (o : Outcome RenderedDimensions) : Type 0 where
+  pub advance : Point
+  pub measured : measuredAtZero font text lineHeight ≡ success (boxed advance r)
+  pub wide : r .size .width ≤ 256
+  pub high : r .size .height ≤ 256
+  pub answered : drawnWhole font text lineHeight color r (take (area r) before) ≡ o
+  pub shown : after ≡ shownWhole font text lineHeight color r (take (area r) before) ++ drop (area r) before
+  pub seen : SeenWhole advance r o
+
+-- Where nothing was drawn the buffer stays.
+abbrev pub IsDrawing : List ℕ → List ℕ → ℕ → FontColor → List ℕ → List ℕ → Drawing → Type 0
+IsDrawing font text lineHeight color before after (Drawn d size) =
+    (r : Rectangle) × ((r .size ≡ size) × Called font text lineHeight color before after r (success d))
+IsDrawing font text lineHeight color before after (Blank d) =
+    (after ≡ before) × ((measuredAtZero font text lineHeight ≡ success d) × (d .«bounding_box» ≡ None))
+IsDrawing font text lineHeight color before after (TooLarge r) =
+    (after ≡ before)
+    × (((advance : Point) × (measuredAtZero font text lineHeight ≡ success (boxed advance r)))
+    × ((256 < r .size .width) ⊎ (256 < r .size .height)))
+IsDrawing font text lineHeight color before after (Refused e) =
+    ((after ≡ before) × (measuredAtZero font text lineHeight ≡ refusal e))
+    ⊎ ((r : Rectangle) × Called font text lineHeight color before after r (refusal e))
+
+-- what the program must know of a drawing to show it
+abbrev pub Showable : Drawing → Type 0
+Showable (Drawn d size) = (size .width ≤ 256) × (size .height ≤ 256)
+Showable (Blank d) = Unit {0}
+Showable (TooLarge r) = Unit {0}
+Showable (Refused e) = Unit {0}

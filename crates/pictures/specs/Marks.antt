@@ -1,0 +1,15 @@
+-- The colours of a picture, and how it is shown as text.
+use mathlib.Core.Bool.{Bool}
+use Prim.Native.Nat.{ℕ}
+use lib.Dec.{eqb}
+use Rattle.integers.specs.Integers.{pick}
+use Rattle.types.specs.declared.style.FontColor.{FontColor}
+use Rattle.types.specs.declared.style.FontColor.the-variants.{Transparent, WithBackground}
+
+-- The ink is 0; a background, where it is wanted, is 192.
+abbrev pub inkOf : Bool → FontColor
+inkOf background = pick background (WithBackground 0 192) (Transparent 0)
+
+-- A pixel as a character: '#' (35) for the ink, ':' (58) for a glyph's background, '.' (46) elsewhere.
+abbrev pub shade : ℕ → ℕ
+shade pixel = pick (eqb pixel 0) 35 (pick (eqb pixel 192) 58 46)

@@ -1,0 +1,73 @@
+// The colours, which are grey values, and the characters that show them.
+ghost use mathlib.Core.Path.{_≡_};
+ghost use Prim.Native.Nat.{ℕ, _*_, _≤_, _<_};
+ghost use lib.ListN.{length, getD};
+ghost use Rattle.io.specs.Counts.{Counts};
+ghost use Rattle.pictures.specs.Marks.{inkOf, shade};
+use types::style::FontColor;
+
+const INK: u8 = 0;
+
+const GROUND: u8 = 192;
+
+pub const EMPTY: u8 = 255;
+
+pub fn color(background: bool) -> FontColor
+    ensures { λ r. ⌜ r ≡ inkOf background ⌝ }
+{
+    if background {
+        return FontColor::WithBackground {
+            fg: INK,
+            bg: GROUND,
+        };
+    }
+    FontColor::Transparent(INK)
+}
+
+// '#' where the ink is, ':' on a glyph's background, '.' elsewhere.
+fn mark(pixel: u8) -> u8
+    ensures { λ r. ⌜ r ≡ shade pixel ⌝ }
+{
+    if pixel == INK {
+        return b'#';
+    }
+    if pixel == GROUND {
+        return b':';
+    }
+    b'.'
+}
+
+// Writes the characters that show the pixels to the start of `out` and answers how many there are.
+fn write_marks(pixels: &[u8], out: &mut [u8]) -> usize
+    requires { ⌜ length (now pixels) ≤ length (now out) ⌝ }
+    ensures { λ r. ⌜ Counts r (now (out .exit)) × (r ≡ length (now (pixels .entry))) ⌝ }
+    ensures { λ r. ⌜ ((k : ℕ) → k < r → getD (now (out .exit)) k 0 ≡ shade (getD (now (pixels .entry)) k 0)) ⌝ }
+{
+    let mut i: usize = 0;
+    while i < pixels.len() {
+        out[i] = mark(pixels[i]);
+        i += 1;
+    }
+    i
+}
+
+fn print_row(row: &[u8])
+    requires { ⌜ length (now row) ≤ 256 ⌝ }
+{
+    let mut line = [0u8; 256];
+    let n = write_marks(row, &mut line);
+    printing::text(&line[..n]);
+    printing::text(b"\n");
+}
+
+pub fn print_rows(pixels: &[u8], width: usize, height: usize)
+    requires { ⌜ (width ≤ 256) × ((height ≤ 256) × (length (now pixels) ≡ width * height)) ⌝ }
+{
+    let mut y: usize = 0;
+    while y < height {
+        let start = y * width;
+        let end = start + width;
+        print_row(&pixels[start..end]);
+        y += 1;
+    }
+}

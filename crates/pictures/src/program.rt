@@ -1,0 +1,94 @@
+// The program: draws the text of standard input in the font font.bin and prints the answer and the picture.
+ghost use mathlib.Core.Path.{_≡_};
+ghost use Prim.Native.Nat.{_*_, _≤_};
+ghost use lib.ListN.{length};
+ghost use Rattle.pictures.specs.Drawings.{Showable};
+use crate::image::write_image;
+use crate::marks::EMPTY;
+use crate::marks::color;
+use crate::marks::print_rows;
+use crate::options::Options;
+use crate::options::read;
+use crate::whole::Drawing;
+use crate::whole::draw_text;
+use font_file::FontFile;
+use libc::STDIN_FILENO;
+use types::error::Error;
+use types::geometry::RenderedDimensions;
+use types::geometry::Size;
+
+fn refuse(error: Error) {
+    printing::refusal(error);
+    printing::text(b": ");
+    printing::cause(error);
+    printing::text(b"\n");
+}
+
+fn answer(dimensions: RenderedDimensions) {
+    printing::dimensions(dimensions);
+    printing::text(b"\n");
+}
+
+// The picture as text, or as an image in the file draw.pgm.
+fn show_pixels(size: Size, pgm: bool, pixels: &[u8])
+    requires { ⌜ (size .width ≤ 256) × ((size .height ≤ 256) × (length (now pixels) ≡ size .width * size .height)) ⌝ }
+{
+    if pgm {
+        write_image(b"draw.pgm", size, pixels);
+        return;
+    }
+    print_rows(pixels, size.width as usize, size.height as usize);
+}
+
+fn show_drawn(dimensions: RenderedDimensions, size: Size, pgm: bool, buffer: &[u8])
+    requires { ⌜ (size .width ≤ 256) × ((size .height ≤ 256) × (length (now buffer) ≡ 65536)) ⌝ }
+{
+    answer(dimensions);
+    let n = (size.width as usize) * (size.height as usize);
+    show_pixels(size, pgm, &buffer[..n]);
+}
+
+fn show_too_large(size: Size) {
+    printing::text(b"the text takes");
+    printing::unsigned(size.width);
+    printing::text(b" by");
+    printing::unsigned(size.height);
+    printing::text(b" pixels, and a framebuffer has at most 256 by 256\n");
+}
+
+fn show(drawing: Drawing, pgm: bool, buffer: &[u8])
+    requires { ⌜ Showable drawing × (length (now buffer) ≡ 65536) ⌝ }
+{
+    match drawing {
+        Drawing::Refused(error) => refuse(error),
+        Drawing::Blank(dimensions) => answer(dimensions),
+        Drawing::TooLarge(rectangle) => show_too_large(rectangle.size),
+        Drawing::Drawn(dimensions, size) => show_drawn(dimensions, size, pgm, buffer),
+    }
+}
+
+// The text is standard input. There is room for a byte more than is allowed, so that what is too long is refused.
+fn draw_input(font: &[u8], options: Options) {
+    let mut text = [0u8; 4097];
+    let n = io::read_full(STDIN_FILENO, &mut text);
+    let mut buffer = [EMPTY; 65536];
+    let drawing = draw_text(font, &text[..n], color(options.background), &mut buffer);
+    show(drawing, options.pgm, &buffer);
+}
+
+pub fn start() {
+    let options = read();
+    if !options.right {
+        printing::text(
+            b"draw: the arguments are pgm (the image goes into draw.pgm) and background (glyphs with a background colour)\n",
+        );
+        return;
+    }
+    let path = b"font.bin";
+    let mut font = font_file::buffer();
+    match font_file::read(path, &mut font) {
+        FontFile::Unreadable => os::fail(path),
+        FontFile::TooLong => refuse(Error::FontLength),
+        FontFile::Length(n) => draw_input(&font[..n], options),
+    }
+}

@@ -1,0 +1,162 @@
+// A text drawn on a framebuffer of its own, just large enough for all of it.
+ghost use mathlib.Core.Path.{_≡_};
+ghost use Prim.Native.Nat.{_*_, _≤_};
+ghost use lib.IntN.{pos, negsuc, _-ℤ_};
+ghost use lib.ListN.{length};
+ghost use lib.Signed.{_≤ℤ_};
+ghost use Rattle.types.specs.declared.geometry.Point.{Point};
+ghost use Rattle.definitions.specs.Refusals.{success};
+ghost use Rattle.definitions.specs.Header.{header};
+ghost use Rattle.definitions.specs.Calls.{dimensionsOutcome};
+ghost use Rattle.definitions.specs.Whole.{measuredAtZero, drawnWhole, shownWhole, boxed, SeenWhole};
+ghost use Rattle.pictures.specs.Drawings.{Measured, Framed, IsDrawing};
+use font_reader::new_from_raw_data;
+use renderer::render::render;
+use measuring::rendered_dimensions::get_rendered_dimensions;
+use types::error::Error;
+use types::geometry::BoundingBox;
+use types::geometry::Point;
+use types::geometry::Rectangle;
+use types::geometry::RenderedDimensions;
+use types::geometry::Size;
+use types::results::DimensionsResult;
+use types::results::FontReaderResult;
+use types::style::FontColor;
+use types::style::FontStyle;
+use types::style::VerticalPosition;
+
+pub enum Drawing {
+    // the answer and the framebuffer's size; its pixels begin the buffer
+    Drawn(RenderedDimensions, Size),
+    // the text has no pixel
+    Blank(RenderedDimensions),
+    // the text's box does not fit the largest framebuffer
+    TooLarge(Rectangle),
+    Refused(Error),
+}
+
+fn opposite(z: i32) -> i32
+    requires { ⌜ negsuc 1048575 ≤ℤ z ⌝ }
+    ensures { λ r. ⌜ r ≡ pos 0 -ℤ z ⌝ }
+{
+    0 - z
+}
+
+// Draws a text whose box at (0, 0) is the rectangle at the opposite of its corner.
+fn draw_at_corner(
+    font: &[u8],
+    text: &[u8],
+    line_height: u32,
+    rectangle: Rectangle,
+    color: FontColor,
+    width: usize,
+    height: usize,
+    pixels: &mut [u8],
+) -> DimensionsResult
+    requires { ⌜ Measured (now font) (now text) «line_height» rectangle × Framed rectangle width height (length (now pixels)) ⌝ }
+    ensures answered { λ r. ⌜ dimensionsOutcome r ≡ drawnWhole (now (font .entry)) (now (text .entry)) «line_height» color rectangle (now (pixels .entry)) ⌝ }
+    ensures shown { λ r. ⌜ now (pixels .exit) ≡ shownWhole (now (font .entry)) (now (text .entry)) «line_height» color rectangle (now (pixels .entry)) ⌝ }
+    ensures seen { λ r. ⌜ ((advance : Point) → measuredAtZero (now (font .entry)) (now (text .entry)) «line_height» ≡ success (boxed advance rectangle) → SeenWhole advance rectangle (dimensionsOutcome r)) ⌝ }
+{
+    let position = Point {
+        x: opposite(rectangle.top_left.x),
+        y: opposite(rectangle.top_left.y),
+    };
+    let style = FontStyle {
+        color,
+        vertical_pos: VerticalPosition::Baseline,
+    };
+    render(
+        font,
+        text,
+        position,
+        style,
+        line_height,
+        false,
+        width,
+        height,
+        pixels,
+    )
+}
+
+// Draws a text whose box at (0, 0) is the rectangle, if a framebuffer can be so large.
+fn draw_box(
+    font: &[u8],
+    text: &[u8],
+    line_height: u32,
+    rectangle: Rectangle,
+    color: FontColor,
+    buffer: &mut [u8],
+) -> Drawing
+    requires { ⌜ Measured (now font) (now text) «line_height» rectangle × (length (now buffer) ≡ 65536) ⌝ }
+    ensures { λ r. ⌜ IsDrawing (now (font .entry)) (now (text .entry)) «line_height» color (now (buffer .entry)) (now (buffer .exit)) r ⌝ }
+{
+    let size = rectangle.size;
+    let width = size.width as usize;
+    let height = size.height as usize;
+    if 256 < width {
+        return Drawing::TooLarge(rectangle);
+    }
+    if 256 < height {
+        return Drawing::TooLarge(rectangle);
+    }
+    let n = width * height;
+    let answer = draw_at_corner(
+        font,
+        text,
+        line_height,
+        rectangle,
+        color,
+        width,
+        height,
+        &mut buffer[..n],
+    );
+    match answer {
+        DimensionsResult::Err(error) => Drawing::Refused(error),
+        DimensionsResult::Ok(dimensions) => Drawing::Drawn(dimensions, size),
+    }
+}
+
+// Measures a text of an opened font at (0, 0) and draws it by its box.
+fn draw_measured(
+    font: &[u8],
+    text: &[u8],
+    line_height: u32,
+    color: FontColor,
+    buffer: &mut [u8],
+) -> Drawing
+    requires { ⌜ («line_height» ≤ 128) × (length (now buffer) ≡ 65536) ⌝ }
+    ensures { λ r. ⌜ IsDrawing (now (font .entry)) (now (text .entry)) «line_height» color (now (buffer .entry)) (now (buffer .exit)) r ⌝ }
+{
+    let origin = Point { x: 0, y: 0 };
+    match get_rendered_dimensions(
+        font,
+        text,
+        origin,
+        VerticalPosition::Baseline,
+        line_height,
+        false,
+    ) {
+        DimensionsResult::Err(error) => Drawing::Refused(error),
+        DimensionsResult::Ok(dimensions) => {
+            let bounding_box = dimensions.bounding_box;
+            match bounding_box {
+                BoundingBox::None => Drawing::Blank(dimensions),
+                BoundingBox::Some(rectangle) => {
+                    draw_box(font, text, line_height, rectangle, color, buffer)
+                }
+            }
+        }
+    }
+}
+
+// Draws the text with the font's default line height, into the beginning of a buffer for the largest framebuffer.
+pub fn draw_text(font: &[u8], text: &[u8], color: FontColor, buffer: &mut [u8]) -> Drawing
+    requires { ⌜ length (now buffer) ≡ 65536 ⌝ }
+    ensures { λ r. ⌜ IsDrawing (now (font .entry)) (now (text .entry)) (header (now (font .entry)) .«line_height») color (now (buffer .entry)) (now (buffer .exit)) r ⌝ }
+{
+    match new_from_raw_data(font) {
+        FontReaderResult::Err(error) => Drawing::Refused(error),
+        FontReaderResult::Ok(head) => draw_measured(font, text, head.line_height, color, buffer),
+    }
+}

@@ -1,0 +1,66 @@
+-- `write_digits` meets its contract: DigitLaws.antt has the step. Assumes nothing.
+use mathlib.Core.Path.{subst}
+use Prim.Native.Nat.{ℕ}
+use native.Mathlib.Omega.{arith}
+use borrow.Author.Needs.{needs}
+use Rattle.printing.specs.CodePoints.{hexDigits, hexPlaces}
+use Rattle.printing.proofs.DigitLaws.{Written, written-none, written-next, written-all}
+use Rattle.printing.proofs.digits.write_digits.Statement.{statement}
+use Rattle.printing.proofs.digits.write_digits.Tie as tie
+
+abbrev Inv-loop : tie.InvT-loop
+Inv-loop c out₀ rest₀ left₀ start₀ out rest left start = Written (hexDigits (hexPlaces c) c) out rest left start
+
+abbrev μ-loop : tie.MeasureT-loop
+μ-loop c out₀ rest₀ left₀ start₀ out rest left start = left
+
+digit-count-requires : tie.Need-digit-count-requires Inv-loop μ-loop
+digit-count-requires c κs = search needs
+
+loop-holds : tie.Need-loop-holds Inv-loop μ-loop
+loop-holds c =
+    let a = c .before .before .args in
+    let e = c .digit-count .ensures in
+    subst (λ (n : ℕ). Written (hexDigits n (a .c)) (a .out .now) (a .c) (c .digit-count .result) 8) (e .0)
+    (written-none (a .out .now) (c .digit-count .result) (a .c) (c .before .before .pre) (e .1))
+
+sub-left : tie.Need-sub-left Inv-loop μ-loop
+sub-left c = search needs
+
+sub-start : tie.Need-sub-start Inv-loop μ-loop
+sub-start c = omega (arith, c .before .loop .inv .room)
+
+hex-digit-requires : tie.Need-hex-digit-requires Inv-loop μ-loop
+hex-digit-requires c κs = search needs
+
+slice-write-out : tie.Need-slice-write-out Inv-loop μ-loop
+slice-write-out c = let w = c .before .before .loop .inv in omega (arith, w .room, w .within, w .size)
+
+loop-less : tie.Need-loop-less Inv-loop μ-loop
+loop-less c = search needs
+
+loop-again : tie.Need-loop-again Inv-loop μ-loop
+loop-again c = let l = c .before .before .loop in written-next (l .left) (l .start) (c .before .loop-test .taken) (c .hex-digit .ensures) (l .inv)
+
+same-length : tie.Need-same-length Inv-loop μ-loop
+same-length c = omega (arith, c .before .loop .inv .size)
+
+returns : tie.Need-returns Inv-loop μ-loop
+returns c = let l = c .before .loop in (l .inv .within, written-all (l .left) (l .start) (omega arith) (l .inv))
+
+pub write-digits-spec : {M : Type 1} → statement M
+write-digits-spec =
+    tie.close
+    (tie.spec
+    Inv-loop
+    μ-loop
+    digit-count-requires
+    loop-holds
+    sub-left
+    sub-start
+    hex-digit-requires
+    slice-write-out
+    loop-less
+    loop-again
+    same-length
+    returns)
