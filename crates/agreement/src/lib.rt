@@ -1,5 +1,6 @@
 // Document 01's third demand, over the public calls themselves: two drawings of one text, and its measuring, agree.
-ghost use Rattle.agreement.specs.Demand.{request, panel, ThirdDemand};
+ghost use Rattle.definitions.specs.Agreement.{request, panel};
+ghost use Rattle.agreement.specs.Demand.{ThirdDemand};
 use renderer::render::render;
 use renderer::rendered_dimensions::get_rendered_dimensions;
 use types::geometry::Point;

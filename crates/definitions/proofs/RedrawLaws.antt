@@ -22,8 +22,8 @@ use Rattle.definitions.specs.Picture.{Paint, keep, put, Picture, covers,
 use Rattle.definitions.specs.Framebuffer.{over, shown, sideOff, framebufferCause}
 use Rattle.definitions.specs.Text.{dimensions}
 use Rattle.definitions.specs.Calls.{drawCauses, drawnText, pixelsOf, draw, drawBuffer}
-use Rattle.definitions.specs.Agreement.{Request, Panel, limits, WithinLimits, drawn, after, measured, pixel, KeptOutside, TwoDrawings, Agree}
-use Rattle.definitions.specs.Redraw.{fillPicture, filled, AllOf, panel, cleared, redrawnBuffer, Holds}
+use Rattle.definitions.specs.Agreement.{Request, Panel, panel, limits, WithinLimits, drawn, after, measured, pixel, KeptOutside, TwoDrawings, Agree}
+use Rattle.definitions.specs.Redraw.{fillPicture, filled, AllOf, cleared, redrawnBuffer, Holds}
 use Rattle.definitions.proofs.FramebufferLaws.{length-shown, shown-at, same-pixels}
 use Rattle.definitions.proofs.PictureLaws.{covers-inside, inside-covers}
 use Rattle.definitions.proofs.OpenedLaws.{or-false}

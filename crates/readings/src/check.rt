@@ -2,8 +2,8 @@
 ghost use mathlib.Core.Path.{_≡_};
 ghost use lib.ListN.{length};
 ghost use Rattle.types.specs.declared.geometry.RenderedDimensions.{RenderedDimensions};
-ghost use Rattle.definitions.specs.Agreement.{after};
-ghost use Rattle.definitions.specs.Redraw.{request, panel, Holds};
+ghost use Rattle.definitions.specs.Agreement.{request, panel, after};
+ghost use Rattle.definitions.specs.Redraw.{Holds};
 ghost use Rattle.redraw.specs.Differences.{differences};
 ghost use Rattle.readings.specs.Readings.{NoDifference};
 use crate::bytes::copy;
