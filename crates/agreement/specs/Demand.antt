@@ -4,22 +4,12 @@ use mathlib.Core.Path.{_≡_}
 use mathlib.Core.List.{List, _++_}
 use Prim.Native.Nat.{ℕ, _≤_, _<_}
 use lib.IntN.{pos}
-use Rattle.types.specs.declared.geometry.Point.{Point}
 use Rattle.types.specs.declared.geometry.RenderedDimensions.{RenderedDimensions}
-use Rattle.types.specs.declared.style.FontStyle.{FontStyle}
 use Rattle.definitions.specs.Refusals.{success}
 use Rattle.definitions.specs.Geometry.{InsideBox}
 use Rattle.definitions.specs.Calls.{dimensionsOutcome}
 use Rattle.definitions.specs.Agreement.{Request, Panel, WithinLimits, pixel}
 use Rattle.agreement.specs.declared.Answers.{Answers}
-
--- text, place, anchor and ink, line height: what the drawings share
-abbrev pub request : List ℕ → Point → FontStyle → ℕ → Request
-request text position style lineHeight = record { text = text; position = position; style = style; lineHeight = lineHeight }
-
--- a framebuffer, and what it held before
-abbrev pub panel : ℕ → ℕ → List ℕ → Panel
-panel width height before = record { width = width; height = height; before = before }
 
 -- Both drawings are within 01's limits; the second font is the first with any bytes, or none, added at its end; the second
 -- framebuffer is at least as wide and high. What the framebuffers held before is not restricted.

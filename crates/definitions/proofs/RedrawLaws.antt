@@ -2,7 +2,7 @@
 -- box it was that colour, and outside nothing had changed, by demand 3. Assumes nothing.
 use mathlib.Core.Path.{_≡_, refl, sym, ap, subst, _∙_}
 use mathlib.Core.Bool.{Bool, true, false, _||_, not}
-use mathlib.Core.List.{List, [], _++_, append-nil}
+use mathlib.Core.List.{List, [], _∷_, _++_, append-nil}
 use Prim.Native.Nat.{ℕ, suc, _+_, _*_, _≤_, _<_}
 use native.Mathlib.Nat.{mul-le-mul-right, mul-comm}
 use native.Mathlib.Decide.{decLt}
@@ -14,20 +14,25 @@ use lib.ListN.{length, getD}
 use Rattle.integers.specs.Integers.{pick}
 use Rattle.types.specs.declared.geometry.BoundingBox.{BoundingBox}
 use Rattle.types.specs.declared.geometry.BoundingBox.the-variants.{None, Some}
+use Rattle.types.specs.declared.geometry.Point.{Point}
 use Rattle.types.specs.declared.geometry.Rectangle.{Rectangle}
 use Rattle.types.specs.declared.geometry.RenderedDimensions.{RenderedDimensions}
-use Rattle.definitions.specs.Refusals.{success, anyApplies}
+use Rattle.types.specs.declared.style.FontStyle.{FontStyle}
+use Rattle.definitions.specs.Refusals.{success, unlessRefused, anyApplies}
+use Rattle.definitions.specs.Header.{fontCauses}
 use Rattle.definitions.specs.Geometry.{InsideBox}
 use Rattle.definitions.specs.Picture.{Paint, keep, put, Picture, covers, textPicture}
 use Rattle.definitions.specs.Framebuffer.{over, shown, sideOff, framebufferCause}
-use Rattle.definitions.specs.Text.{dimensions}
-use Rattle.definitions.specs.Calls.{drawCauses, drawnText, pixelsOf, draw, drawBuffer}
-use Rattle.definitions.specs.Agreement.{Request, Panel, limits, WithinLimits, drawn, after, measured, pixel, KeptOutside, TwoDrawings, Agree}
-use Rattle.definitions.specs.Redraw.{fillPicture, filled, AllOf, panel, cleared, redrawnBuffer, Holds}
+use Rattle.definitions.specs.Text.{joinAll, point, layout, dimensions}
+use Rattle.definitions.specs.Utf8.{decodeFrom}
+use Rattle.definitions.specs.Limits.{textCause, placeCause, backgroundCause}
+use Rattle.definitions.specs.Calls.{characters, origin, measuredLetter, measureCauses, measure, drawCauses, drawnText, pixelsOf, draw, drawBuffer}
+use Rattle.definitions.specs.Agreement.{Request, request, Panel, panel, limits, WithinLimits, drawn, after, measured, pixel, KeptOutside, TwoDrawings, Agree}
+use Rattle.definitions.specs.Redraw.{fillPicture, filled, AllOf, cleared, redrawnBuffer, Holds}
 use Rattle.definitions.proofs.FramebufferLaws.{length-shown, shown-at, same-pixels}
 use Rattle.definitions.proofs.PictureLaws.{covers-inside, inside-covers}
 use Rattle.definitions.proofs.OpenedLaws.{or-false}
-use Rattle.definitions.proofs.RefusalLaws.{succeeded, each-off, all-off}
+use Rattle.definitions.proofs.RefusalLaws.{none-applies, succeeded, each-off, all-off}
 use Rattle.definitions.proofs.Agreement.{agreement, size}
 
 -- the framebuffer keeps its length
@@ -96,7 +101,7 @@ module _ (font : List ℕ) (r : Request) (p : Panel) (d : RenderedDimensions) (w
 
 -- ---- the step
 
-within-limits : (font : List ℕ) (r : Request) (p : Panel) (d : RenderedDimensions) → drawn font r p ≡ success d → WithinLimits font r p
+pub within-limits : (font : List ℕ) (r : Request) (p : Panel) (d : RenderedDimensions) → drawn font r p ≡ success d → WithinLimits font r p
 unfolding draw
 within-limits font r p d e =
     let h =
@@ -105,6 +110,66 @@ within-limits font r p d e =
     in
     let o = each-off (drawCauses font (r .text) (r .position) (r .style) (r .lineHeight) (p .width) (p .height) (p .before)) (h .0) in
     all-off (limits font r p) (o .0, (o .1 .0, (o .1 .1 .0, (o .1 .1 .1 .0, (o .1 .1 .1 .1 .0, tt)))))
+
+-- A drawing that succeeds is measured alike.
+pub drawn-measured : (font : List ℕ) (r : Request) (p : Panel) (d : RenderedDimensions) → drawn font r p ≡ success d → measured font r ≡ success d
+drawn-measured font r p d e =
+    let within = within-limits font r p d e in
+    agreement font [] r p p d record {
+      first-within = within;
+      second-within = subst (λ (f : List ℕ). WithinLimits f r p) (sym (append-nil font)) within;
+      as-wide = omega arith;
+      as-high = omega arith;
+      first-succeeds = e;
+    } .first-measured
+
+-- What drawing answers depends on the framebuffer's length, and not on what it holds.
+pub same-answer : (font : List ℕ) (r : Request) (width height : ℕ) (a b : List ℕ) → length a ≡ length b
+    → drawn font r (panel width height a) ≡ drawn font r (panel width height b)
+unfolding draw
+same-answer font r width height a b l =
+    ap
+    (λ (n : ℕ).
+    unlessRefused
+    (fontCauses font
+    ++ record { number = 3; applies = sideOff width || sideOff height || not (eqb n (width * height)) }
+    ∷ textCause (r .text)
+    ∷ placeCause (r .position) (r .lineHeight)
+    ∷ backgroundCause (r .style .color) font
+    ∷ [])
+    (dimensions (drawnText font (r .text) (r .position) (r .style .«vertical_pos») (r .lineHeight) false)))
+    l
+
+-- ---- the text with no letters
+
+module _ (font : List ℕ) (position : Point) (style : FontStyle) (lineHeight : ℕ) where
+  empty-layout : dimensions (layout (measuredLetter font false) lineHeight (origin font [] position (style .«vertical_pos») lineHeight) (point (pos 0) (pos 0)) (characters []))
+      ≡ success record { advance = point (pos 0) (pos 0); «bounding_box» = None }
+  unfolding layout joinAll decodeFrom
+  empty-layout = refl
+
+  -- it has no box ..
+  pub empty-has-no-box : (d : RenderedDimensions) → measured font (request [] position style lineHeight) ≡ success d → d .«bounding_box» ≡ None
+  unfolding measure
+  empty-has-no-box d e =
+      let h = succeeded (dimensions (layout (measuredLetter font false) lineHeight (origin font [] position (style .«vertical_pos») lineHeight) (point (pos 0) (pos 0)) (characters []))) d (measureCauses font [] position lineHeight) e in
+      let same : success record { advance = point (pos 0) (pos 0); «bounding_box» = None } ≡ success d = sym empty-layout ∙ h .1 in
+      boxes d same
+    where
+      boxes : (d : RenderedDimensions) → success record { advance = point (pos 0) (pos 0); «bounding_box» = None } ≡ success d → d .«bounding_box» ≡ None
+      boxes d e = let same : record { advance = point (pos 0) (pos 0); «bounding_box» = None } ≡ d = cc in sym (ap (λ (x : RenderedDimensions). x .«bounding_box») same)
+
+  -- .. and is measured wherever any text at all is drawn
+  pub empty-is-measured : (text : List ℕ) (p : Panel) (d : RenderedDimensions) → drawn font (request text position style lineHeight) p ≡ success d
+      → measured font (request [] position style lineHeight) ≡ success record { advance = point (pos 0) (pos 0); «bounding_box» = None }
+  unfolding measure decodeFrom
+  empty-is-measured text p d e =
+      let o = each-off (limits font (request text position style lineHeight) p) (within-limits font (request text position style lineHeight) p d e) in
+      none-applies
+      (dimensions (layout (measuredLetter font false) lineHeight (origin font [] position (style .«vertical_pos») lineHeight) (point (pos 0) (pos 0)) (characters [])))
+      (measureCauses font [] position lineHeight)
+      (all-off (measureCauses font [] position lineHeight) (o .0, (o .1 .0, (refl, (o .1 .1 .1 .1 .0, tt)))))
+      ∙ empty-layout
 
 some-width : (font : List ℕ) (r : Request) (p : Panel) → WithinLimits font r p → 0 < p .width
 some-width font r p within =
@@ -123,14 +188,7 @@ module _ (font : List ℕ) (old new : Request) (color width height : ℕ) (entry
   within = within-limits font old base d (holds .succeeded)
 
   old-measured : measured font old ≡ success d
-  old-measured =
-      agreement font [] old base base d record {
-        first-within = within;
-        second-within = subst (λ (f : List ℕ). WithinLimits f old base) (sym (append-nil font)) within;
-        as-wide = omega arith;
-        as-high = omega arith;
-        first-succeeds = holds .succeeded;
-      } .first-measured
+  old-measured = drawn-measured font old base d (holds .succeeded)
 
   sized : framebufferCause width height entry .applies ≡ false
   sized =

@@ -23,11 +23,17 @@ pub record Request : Type 0 where
   pub style : FontStyle
   pub lineHeight : ℕ
 
+abbrev pub request : List ℕ → Point → FontStyle → ℕ → Request
+request text position style lineHeight = record { text = text; position = position; style = style; lineHeight = lineHeight }
+
 -- A framebuffer, and what it held before.
 pub record Panel : Type 0 where
   pub width : ℕ
   pub height : ℕ
   pub before : List ℕ
+
+abbrev pub panel : ℕ → ℕ → List ℕ → Panel
+panel width height before = record { width = width; height = height; before = before }
 
 -- Causes 1 to 5 of drawing: the limits of fonts, framebuffers, texts, and of places and line heights.
 abbrev pub limits : List ℕ → Request → Panel → List Cause

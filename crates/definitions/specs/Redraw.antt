@@ -7,14 +7,12 @@ use lib.IntN.{pos}
 use Rattle.integers.specs.Integers.{pick}
 use Rattle.types.specs.declared.geometry.BoundingBox.{BoundingBox}
 use Rattle.types.specs.declared.geometry.BoundingBox.the-variants.{None, Some}
-use Rattle.types.specs.declared.geometry.Point.{Point}
 use Rattle.types.specs.declared.geometry.RenderedDimensions.{RenderedDimensions}
-use Rattle.types.specs.declared.style.FontStyle.{FontStyle}
 use Rattle.definitions.specs.Refusals.{Outcome, success, refused}
 use Rattle.definitions.specs.Geometry.{InsideBox}
 use Rattle.definitions.specs.Picture.{Paint, keep, put, Picture, covers}
 use Rattle.definitions.specs.Framebuffer.{shown, framebufferCause}
-use Rattle.definitions.specs.Agreement.{Request, Panel, drawn, after, measured, pixel}
+use Rattle.definitions.specs.Agreement.{Request, Panel, panel, drawn, after, measured, pixel}
 
 -- a box full of one colour
 abbrev pub fillPicture : ℕ → BoundingBox → Picture
@@ -31,9 +29,6 @@ AllOf color p box =
     → pixel p (p .before) column row ≡ color
 
 -- ---- the step: measure the old reading, fill its box, draw the new one
-
-abbrev pub panel : ℕ → ℕ → List ℕ → Panel
-panel width height bytes = record { width = width; height = height; before = bytes }
 
 -- A framebuffer of the wrong size is not filled: drawing then refuses it.
 abbrev pub clearedBuffer : ℕ → Panel → BoundingBox → List ℕ
@@ -70,6 +65,3 @@ abbrev pub NoMarkLeft : List ℕ → Request → Request → ℕ → ℕ → ℕ
 NoMarkLeft font old new color width height entry exit =
     (ground : List ℕ) (d : RenderedDimensions) → Holds font old color width height entry ground d
     → exit ≡ after font new (panel width height ground)
-
-abbrev pub request : List ℕ → Point → FontStyle → ℕ → Request
-request text position style lineHeight = record { text = text; position = position; style = style; lineHeight = lineHeight }

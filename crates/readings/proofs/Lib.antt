@@ -1,1 +1,8 @@
+pub mod TextLaws
+pub mod NumberLaws
 pub mod GridLaws
+pub mod MovedLaws
+pub mod ExtentLaws
+pub mod GroundLaws
+pub mod StepLaws
+pub mod SheetLaws

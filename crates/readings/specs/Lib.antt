@@ -1,2 +1,6 @@
 pub mod Readings
+pub mod Ground
+pub mod Extent
 pub mod Grid
+pub mod Sheet
+pub mod Numbers

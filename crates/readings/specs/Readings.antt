@@ -1,19 +1,24 @@
--- The readings of the sheet, and what it must find.
-use mathlib.Core.Path.{_≡_}
+-- The readings of the sheet, and where they are drawn.
 use mathlib.Core.List.{List, []}
 use Prim.Native.Nat.{ℕ}
 use lib.Dec.{leb}
 use lib.IntN.{pos, _-ℤ_}
 use Rattle.integers.specs.Integers.{pick}
+use Rattle.definitions.specs.Agreement.{Request, request, Panel, panel}
 use Rattle.angles.specs.AngleText.{angleText}
-use Rattle.readings.specs.declared.check.Checked.{Checked}
-use Rattle.readings.specs.declared.check.Checked.the-variants.{Differs, Refused}
+use Rattle.readings.specs.declared.values.Place.{Place}
 
--- The text of a reading, -45.0 to +45.0 in tenths, by its number from 0; no text past the last.
+-- The text of a reading, -45.0 to +45.0 in tenths, by its number from 0; no text past the last, which is 900.
 abbrev pub readingText : ℕ → List ℕ
 readingText k = pick (leb 901 k) [] (angleText (pos k -ℤ pos 450))
 
--- no pixel differs, if the reading was drawn
-abbrev pub NoDifference : Checked → Type 0
-NoDifference (Differs n) = n ≡ 0
-NoDifference (Refused e) = Unit {0}
+-- how a text is drawn at the place
+abbrev pub asked : Place → List ℕ → Request
+asked place text = request text (place .position) (place .style) (place .«line_height»)
+
+abbrev pub reading : Place → ℕ → Request
+reading place k = asked place (readingText k)
+
+-- a framebuffer of the place's size
+abbrev pub framebuffer : Place → List ℕ → Panel
+framebuffer place bytes = panel (place .width) (place .height) bytes

@@ -1,7 +1,6 @@
 // Buffers as a whole.
 ghost use mathlib.Core.Path.{_≡_};
-ghost use Prim.Native.Nat.{ℕ, _<_};
-ghost use lib.ListN.{length, getD};
+ghost use lib.ListN.{length, replicate};
 
 pub fn copy(from: &[u8], to: &mut [u8])
     requires { ⌜ length (now from) ≡ length (now to) ⌝ }
@@ -15,7 +14,7 @@ pub fn copy(from: &[u8], to: &mut [u8])
 }
 
 pub fn fill(buffer: &mut [u8], value: u8)
-    ensures { λ r. ⌜ ((k : ℕ) → k < length (now (buffer .exit)) → getD (now (buffer .exit)) k 0 ≡ value) ⌝ }
+    ensures { λ r. ⌜ now (buffer .exit) ≡ replicate (length (now (buffer .entry))) value ⌝ }
 {
     let mut i: usize = 0;
     while i < buffer.len() {

@@ -1,8 +1,12 @@
-// A framebuffer on which all readings are seen, with a margin around them.
-ghost use Prim.Native.Nat.{_≤_};
+// The edges of all readings, and a place and a framebuffer that follow from them.
+ghost use mathlib.Core.Path.{_≡_};
+ghost use lib.IntN.{pos, negsuc, _+ℤ_};
+ghost use lib.Signed.{_≤ℤ_};
+ghost use Rattle.integers.specs.Integers.{minZ, maxZ};
+ghost use Rattle.readings.specs.Extent.{atOrigin, widened, withReading, extentOf, HoldsReadings, NearExtent, beforeZero, inside, side};
 use crate::texts::COUNT;
-use crate::texts::write_reading;
-use measuring::rendered_dimensions::get_rendered_dimensions;
+use crate::texts::measure_reading;
+use crate::values::Extent;
 use types::geometry::BoundingBox;
 use types::geometry::Point;
 use types::geometry::Rectangle;
@@ -11,31 +15,40 @@ use types::style::VerticalPosition;
 
 const MARGIN: usize = 3;
 
-// The edges of all readings, drawn at (0, 0).
-pub struct Extent {
-    pub left: i64,
-    pub top: i64,
-    pub right: i64,
-    pub bottom: i64,
+fn lesser(a: i64, b: i64) -> i64
+    ensures { λ r. ⌜ r ≡ minZ a b ⌝ }
+{
+    if a < b {
+        return a;
+    }
+    b
 }
 
-fn lesser(a: i64, b: i64) -> i64 {
-    if a < b { a } else { b }
+fn greater(a: i64, b: i64) -> i64
+    ensures { λ r. ⌜ r ≡ maxZ a b ⌝ }
+{
+    if a < b {
+        return b;
+    }
+    a
 }
 
-fn greater(a: i64, b: i64) -> i64 {
-    if a < b { b } else { a }
-}
-
-fn start_edge(start: i32) -> i64 {
+fn start_edge(start: i32) -> i64
+    ensures { λ r. ⌜ r ≡ start ⌝ }
+{
     start as i64
 }
 
-fn end_edge(start: i32, len: u32) -> i64 {
+fn end_edge(start: i32, len: u32) -> i64
+    ensures { λ r. ⌜ r ≡ start +ℤ pos len ⌝ }
+{
     (start as i64) + (len as i64)
 }
 
-fn widened(extent: Extent, r: Rectangle) -> Extent {
+fn widened(extent: Extent, r: Rectangle) -> Extent
+    requires { ⌜ NearExtent extent ⌝ }
+    ensures { λ e. ⌜ (e ≡ widened extent r) × NearExtent e ⌝ }
+{
     Extent {
         left: lesser(extent.left, start_edge(r.top_left.x)),
         top: lesser(extent.top, start_edge(r.top_left.y)),
@@ -44,11 +57,12 @@ fn widened(extent: Extent, r: Rectangle) -> Extent {
     }
 }
 
-fn with_reading(extent: Extent, font: &[u8], k: usize, vertical_pos: VerticalPosition) -> Extent {
-    let mut text = [0u8; 6];
-    let start = write_reading(k, &mut text);
+fn with_reading(extent: Extent, font: &[u8], k: usize, vertical_pos: VerticalPosition) -> Extent
+    requires { ⌜ NearExtent extent ⌝ }
+    ensures { λ r. ⌜ (r ≡ withReading extent (atOrigin (now (font .entry)) «vertical_pos» k)) × NearExtent r ⌝ }
+{
     let origin = Point { x: 0, y: 0 };
-    let measured = get_rendered_dimensions(font, &text[start..], origin, vertical_pos, 0, false);
+    let measured = measure_reading(font, k, origin, vertical_pos, 0);
     let DimensionsResult::Ok(d) = measured else {
         return extent;
     };
@@ -59,7 +73,11 @@ fn with_reading(extent: Extent, font: &[u8], k: usize, vertical_pos: VerticalPos
     widened(extent, r)
 }
 
-pub fn measure_all(font: &[u8], vertical_pos: VerticalPosition) -> Extent {
+pub fn measure_all(font: &[u8], vertical_pos: VerticalPosition) -> Extent
+    ensures edges { λ r. ⌜ r ≡ extentOf (now (font .entry)) «vertical_pos» 901 ⌝ }
+    ensures between { λ r. ⌜ HoldsReadings 901 (now (font .entry)) «vertical_pos» r ⌝ }
+    ensures near { λ r. ⌜ NearExtent r ⌝ }
+{
     let mut extent = Extent {
         left: 0,
         top: 0,
@@ -76,7 +94,7 @@ pub fn measure_all(font: &[u8], vertical_pos: VerticalPosition) -> Extent {
 
 // How far an edge lies before 0, at most 1000.
 fn before_zero(edge: i64) -> usize
-    ensures { λ r. ⌜ r ≤ 1000 ⌝ }
+    ensures { λ r. ⌜ r ≡ beforeZero edge ⌝ }
 {
     if edge < -1000 {
         return 1000;
@@ -87,28 +105,24 @@ fn before_zero(edge: i64) -> usize
     (0 - edge) as usize
 }
 
-// How far it lies past 0.
-fn past_zero(edge: i64) -> usize
-    ensures { λ r. ⌜ r ≤ 1000 ⌝ }
+// Where the readings stand so that their first edge lies past the margin.
+pub fn inside(edge: i64) -> i32
+    ensures { λ r. ⌜ r ≡ inside edge ⌝ }
 {
-    if 1000 < edge {
-        return 1000;
-    }
-    if edge < 0 {
-        return 0;
-    }
-    edge as usize
-}
-
-// How many pixels there are from an edge before 0 to one past it with the margins, at most 256.
-pub fn side(from: i64, to: i64) -> usize
-    ensures { λ r. ⌜ (1 ≤ r) × (r ≤ 256) ⌝ }
-{
-    let n = before_zero(from) + past_zero(to) + 2 * MARGIN;
-    if 256 < n { 256 } else { n }
-}
-
-// Where the text stands so that its first edge lies past the margin.
-pub fn inside(edge: i64) -> i32 {
     (MARGIN + before_zero(edge)) as i32
+}
+
+// How many pixels there are from the framebuffer's first to the margin past the last edge: 1 to 256.
+pub fn side(start: i32, end: i64) -> usize
+    requires { ⌜ (negsuc 8589934591 ≤ℤ end) × (end ≤ℤ pos 8589934592) ⌝ }
+    ensures { λ r. ⌜ r ≡ side start end ⌝ }
+{
+    let n = (start as i64) + end + (MARGIN as i64);
+    if n < 1 {
+        return 1;
+    }
+    if 256 < n {
+        return 256;
+    }
+    n as usize
 }

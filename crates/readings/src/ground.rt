@@ -1,16 +1,19 @@
-// What the screen shows before the first reading: rubbish, and background wherever a reading will stand.
+// What the screen shows before the first reading: rubbish, and background wherever a reading can stand.
 ghost use mathlib.Core.Path.{_≡_};
-ghost use Prim.Native.Nat.{ℕ, _+_, _%_, _<_};
-ghost use lib.ListN.{length, getD};
-use crate::check::Place;
+ghost use Prim.Native.Nat.{_*_};
+ghost use lib.ListN.{length};
+ghost use Rattle.definitions.specs.Agreement.{measured};
+ghost use Rattle.readings.specs.Readings.{reading};
+ghost use Rattle.readings.specs.Ground.{rubbish, clearedBy, ground, ClearTo, RubbishBeside};
+ghost use Rattle.readings.specs.Grid.{PlaceFits};
 use crate::texts::COUNT;
-use crate::texts::write_reading;
-use measuring::rendered_dimensions::get_rendered_dimensions;
+use crate::texts::measure_reading;
+use crate::values::Place;
 use redraw::reading::clear_box;
 use types::results::DimensionsResult;
 
 fn fill_with_rubbish(buffer: &mut [u8])
-    ensures { λ r. ⌜ ((k : ℕ) → k < length (now (buffer .exit)) → getD (now (buffer .exit)) k 0 ≡ 96 + k % 101) ⌝ }
+    ensures { λ r. ⌜ now (buffer .exit) ≡ rubbish (length (now (buffer .entry))) ⌝ }
 {
     let mut i: usize = 0;
     while i < buffer.len() {
@@ -19,20 +22,14 @@ fn fill_with_rubbish(buffer: &mut [u8])
     }
 }
 
-fn clear_reading(font: &[u8], k: usize, place: Place, buffer: &mut [u8]) {
-    let mut text = [0u8; 6];
-    let start = write_reading(k, &mut text);
+// Fills the reading's box with the background. A refused reading has none.
+fn clear_reading(font: &[u8], k: usize, place: Place, buffer: &mut [u8])
+    ensures { λ r. ⌜ now (buffer .exit) ≡ clearedBy place (now (buffer .entry)) (measured (now (font .entry)) (reading place k)) ⌝ }
+{
     let position = place.position;
     let style = place.style;
     let vertical_pos = style.vertical_pos;
-    let measured = get_rendered_dimensions(
-        font,
-        &text[start..],
-        position,
-        vertical_pos,
-        place.line_height,
-        false,
-    );
+    let measured = measure_reading(font, k, position, vertical_pos, place.line_height);
     let DimensionsResult::Ok(d) = measured else {
         return;
     };
@@ -46,7 +43,12 @@ fn clear_reading(font: &[u8], k: usize, place: Place, buffer: &mut [u8]) {
     );
 }
 
-pub fn lay_ground(font: &[u8], place: Place, buffer: &mut [u8]) {
+pub fn lay_ground(font: &[u8], place: Place, buffer: &mut [u8])
+    requires { ⌜ PlaceFits (place .width) (place .height) × (length (now buffer) ≡ place .width * place .height) ⌝ }
+    ensures laid { λ r. ⌜ now (buffer .exit) ≡ ground (now (font .entry)) place ⌝ }
+    ensures clear { λ r. ⌜ ClearTo 901 (now (font .entry)) place (now (buffer .exit)) ⌝ }
+    ensures rubbish { λ r. ⌜ RubbishBeside 901 (now (font .entry)) place (now (buffer .exit)) ⌝ }
+{
     fill_with_rubbish(&mut buffer[..]);
     let mut k: usize = 0;
     while k < COUNT {

@@ -2,36 +2,55 @@
 ghost use mathlib.Core.Path.{_≡_};
 ghost use Prim.Native.Nat.{_≤_};
 ghost use lib.ListN.{length};
-ghost use Rattle.readings.specs.Grid.{PlaceFits, SheetFits};
+ghost use Rattle.readings.specs.declared.values.Wanted.the-variants.{Seen};
+ghost use Rattle.readings.specs.Extent.{extentOf, positionFor, placeFor, Uncut, AllSeen};
+ghost use Rattle.readings.specs.Grid.{SheetFits};
+ghost use Rattle.readings.specs.Sheet.{SheetOf};
 use crate::bytes::copy;
-use crate::check::Place;
 use crate::extent::inside;
 use crate::extent::measure_all;
 use crate::extent::side;
 use crate::ground::lay_ground;
-use crate::sheet::Totals;
 use crate::sheet::columns;
 use crate::sheet::run;
 use crate::texts::COUNT;
+use crate::values::Extent;
+use crate::values::Options;
+use crate::values::Place;
+use crate::values::Sheet;
+use crate::values::Totals;
+use crate::values::Wanted;
 use libc::STDOUT_FILENO;
 use types::geometry::Point;
 use types::style::FontColor;
 use types::style::FontStyle;
-use types::style::VerticalPosition;
 
 const INK: u8 = 0;
 
 const BACKGROUND: u8 = 255;
 
-// A framebuffer on which all readings are seen, and where the text stands on it.
-fn place_for(font: &[u8], vertical_pos: VerticalPosition) -> Place
-    ensures { λ r. ⌜ PlaceFits (r .width) (r .height) ⌝ }
+// Where the readings stand: where all of them are seen, or at the place that is asked for.
+fn position_for(wanted: Wanted, extent: Extent) -> Point
+    ensures { λ r. ⌜ r ≡ positionFor wanted extent ⌝ }
 {
+    match wanted {
+        Wanted::At(position) => position,
+        Wanted::Seen => Point {
+            x: inside(extent.left),
+            y: inside(extent.top),
+        },
+    }
+}
+
+// The framebuffer for it. Where all readings are to be seen and no side is cut off at 256 pixels, all are.
+pub fn place_for(font: &[u8], options: Options) -> Place
+    ensures place { λ r. ⌜ r ≡ placeFor (now (font .entry)) options ⌝ }
+    ensures seen { λ r. ⌜ (options .wanted ≡ Seen → Uncut r (extentOf (now (font .entry)) (options .«vertical_pos») 901) → AllSeen (now (font .entry)) r) ⌝ }
+{
+    let vertical_pos = options.vertical_pos;
+    let wanted = options.wanted;
     let extent = measure_all(font, vertical_pos);
-    let position = Point {
-        x: inside(extent.left),
-        y: inside(extent.top),
-    };
+    let position = position_for(wanted, extent);
     let style = FontStyle {
         color: FontColor::Transparent(INK),
         vertical_pos,
@@ -41,8 +60,8 @@ fn place_for(font: &[u8], vertical_pos: VerticalPosition) -> Place
         style,
         line_height: 0,
         background: BACKGROUND,
-        width: side(extent.left, extent.right),
-        height: side(extent.top, extent.bottom),
+        width: side(position.x, extent.right),
+        height: side(position.y, extent.bottom),
     }
 }
 
@@ -78,8 +97,9 @@ fn fill_sheet(
     screen: &mut [u8],
     alone: &mut [u8],
     band: &mut [u8],
-)
+) -> Sheet
     requires { ⌜ SheetFits (place .width) (place .height) (length (now ground)) (length (now screen)) (length (now alone)) (length (now band)) ⌝ }
+    ensures { λ r. ⌜ SheetOf narrow (now (font .entry)) place r ⌝ }
 {
     lay_ground(font, place, &mut ground[..]);
     copy(&ground[..], &mut screen[..]);
@@ -87,41 +107,42 @@ fn fill_sheet(
     let image = os::open_overwrite(path);
     if image < 0 {
         os::fail(path);
-        return;
+        return Sheet::NoImage;
     }
     write_head(image, place.width, place.height, columns(ground.len()));
     let totals = run(font, narrow, place, &ground[..], screen, alone, band, image);
     libc::close(image);
-    print_totals(totals);
+    Sheet::Made(totals)
 }
 
-// The same on buffers for the largest framebuffers, of 256 × 256 pixels.
+// The same on buffers for the largest framebuffers, of 256 × 256 pixels. Whatever the font, the anchor and the place, every reading
+// is counted once and, without the fault, none differs.
 pub fn make_sheet(
     font: &[u8],
-    vertical_pos: VerticalPosition,
-    narrow: bool,
+    options: Options,
     ground: &mut [u8],
     screen: &mut [u8],
     alone: &mut [u8],
     band: &mut [u8],
-)
+) -> Sheet
     requires { ⌜ (length (now ground) ≡ 65536) × ((length (now screen) ≡ 65536) × ((length (now alone) ≡ 65536) × (length (now band) ≡ 262000))) ⌝ }
+    ensures { λ r. ⌜ SheetOf (options .narrow) (now (font .entry)) (placeFor (now (font .entry)) options) r ⌝ }
 {
-    let place = place_for(font, vertical_pos);
+    let place = place_for(font, options);
     let cell = place.width * place.height;
     fill_sheet(
         font,
         place,
-        narrow,
+        options.narrow,
         &mut ground[..cell],
         &mut screen[..cell],
         &mut alone[..cell],
         band,
-    );
+    )
 }
 
 // The program: font.bin is read, and a font that cannot be opened is refused.
-pub fn start(vertical_pos: VerticalPosition, narrow: bool) {
+pub fn start(options: Options) {
     let mut font = [0u8; 262000];
     let path = b"font.bin";
     let fd = os::open_read(path);
@@ -135,13 +156,15 @@ pub fn start(vertical_pos: VerticalPosition, narrow: bool) {
     let mut screen = [0u8; 65536];
     let mut alone = [0u8; 65536];
     let mut band = [0u8; 262000];
-    make_sheet(
+    let sheet = make_sheet(
         &font[..n],
-        vertical_pos,
-        narrow,
+        options,
         &mut ground,
         &mut screen,
         &mut alone,
         &mut band,
     );
+    if let Sheet::Made(totals) = sheet {
+        print_totals(totals);
+    }
 }

@@ -7,8 +7,8 @@ use Rattle.types.specs.declared.geometry.BoundingBox.{BoundingBox}
 use Rattle.types.specs.declared.geometry.RenderedDimensions.{RenderedDimensions}
 use Rattle.definitions.specs.Refusals.{Outcome, success, refused}
 use Rattle.definitions.specs.Framebuffer.{framebufferCause}
-use Rattle.definitions.specs.Agreement.{Request, Panel, drawn, after, measured}
-use Rattle.definitions.specs.Redraw.{filled, panel, clearedBuffer, cleared, redrawn, redrawnBuffer}
+use Rattle.definitions.specs.Agreement.{Request, Panel, panel, drawn, after, measured}
+use Rattle.definitions.specs.Redraw.{filled, clearedBuffer, cleared, redrawn, redrawnBuffer}
 
 module _ (color : ℕ) (p : Panel) (box : BoundingBox) where
   pub not-filled : framebufferCause (p .width) (p .height) (p .before) .applies ≡ true → p .before ≡ clearedBuffer color p box

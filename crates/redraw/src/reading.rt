@@ -1,7 +1,8 @@
 // A reading drawn over the one before, as the gauge does it.
 ghost use mathlib.Core.Path.{_≡_};
 ghost use Rattle.definitions.specs.Calls.{dimensionsOutcome};
-ghost use Rattle.definitions.specs.Redraw.{request, panel, clearedBuffer, redrawn, redrawnBuffer, NoMarkLeft};
+ghost use Rattle.definitions.specs.Agreement.{request, panel};
+ghost use Rattle.definitions.specs.Redraw.{clearedBuffer, redrawn, redrawnBuffer, NoMarkLeft};
 use crate::fill::fill_box;
 use layout::limits::has_bad_size;
 use measuring::rendered_dimensions::get_rendered_dimensions;

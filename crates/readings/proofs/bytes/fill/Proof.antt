@@ -2,7 +2,8 @@
 use mathlib.Core.Path.{_≡_, refl, sym, _∙_}
 use Prim.Native.Nat.{ℕ, _+_, _%_, _-_, _≤_, _<_}
 use native.Mathlib.Omega.{arith}
-use lib.ListN.{length, getD, length-set}
+use lib.ListN.{length, getD, replicate, length-set, length-replicate, getD-replicate}
+use lib.Seq.{ext-getD}
 use Rattle.redraw.proofs.WriteLaws.{WrittenTo, write-next}
 use borrow.Author.Needs.{needs}
 use Rattle.readings.proofs.bytes.fill.Statement.{statement}
@@ -38,7 +39,10 @@ same-length c = search needs
 returns : tie.Need-returns Inv-loop μ-loop
 returns c =
     let l = c .before .loop in
-    λ k p. l .inv .1 .1 k (omega (arith, l .inv .1 .0))
+    let a = c .before .before .args in
+    ext-getD 0 (l .buffer) (replicate (length (a .buffer .now)) (a .value))
+    (l .inv .1 .0 ∙ sym (length-replicate (length (a .buffer .now)) (a .value)))
+    (λ k p. l .inv .1 .1 k (omega (arith, l .inv .1 .0)) ∙ sym (getD-replicate (length (a .buffer .now)) k (a .value) 0 (omega (arith, l .inv .1 .0))))
 
 pub fill-spec : {M : Type 1} → statement M
 fill-spec =

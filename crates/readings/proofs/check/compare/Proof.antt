@@ -2,8 +2,7 @@
 use mathlib.Core.Path.{_≡_, ap, _∙_}
 use mathlib.Core.List.{List}
 use Prim.Native.Nat.{ℕ}
-use Rattle.definitions.specs.Agreement.{after}
-use Rattle.definitions.specs.Redraw.{request, panel}
+use Rattle.definitions.specs.Agreement.{request, panel, after}
 use Rattle.redraw.specs.Differences.{differences}
 use borrow.Author.Needs.{needs}
 use Rattle.readings.proofs.check.compare.Statement.{statement}

@@ -30,7 +30,7 @@ add-result : tie.Need-add-result
 add-result c = simp (toZ-ofZ, c .fits .start, wide c, len-plain c) (sum-fits c)
 
 returns : tie.Need-returns
-returns c = search needs
+returns c = simp (toZ-ofZ, c .fits .start, wide c, len-plain c, sum-fits c)
 
 pub end-edge-spec : {M : Type 1} → statement M
 end-edge-spec = tie.close (tie.spec cast-result cast-result-2 add-result returns)

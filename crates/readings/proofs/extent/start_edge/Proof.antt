@@ -10,7 +10,7 @@ cast-result : tie.Need-cast-result
 cast-result c = simp (toZ-ofZ, c .fits .start) (sfits-widen tt (c .fits .start))
 
 returns : tie.Need-returns
-returns c = search needs
+returns c = simp (toZ-ofZ, c .fits .start, sfits-widen {w′ = w64} tt (c .fits .start))
 
 pub start-edge-spec : {M : Type 1} → statement M
 start-edge-spec = tie.close (tie.spec cast-result returns)

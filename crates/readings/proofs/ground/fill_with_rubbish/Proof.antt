@@ -4,6 +4,7 @@ use Prim.Native.Nat.{ℕ, _+_, _%_, _-_, _≤_, _<_}
 use native.Mathlib.Omega.{arith}
 use lib.ListN.{length, getD, length-set}
 use Rattle.redraw.proofs.WriteLaws.{WrittenTo, write-next}
+use Rattle.readings.proofs.GroundLaws.{all-rubbish}
 use borrow.Author.Needs.{needs}
 use Rattle.readings.proofs.ground.fill_with_rubbish.Statement.{statement}
 use Rattle.readings.proofs.ground.fill_with_rubbish.Tie as tie
@@ -43,7 +44,7 @@ same-length c = search needs
 returns : tie.Need-returns Inv-loop μ-loop
 returns c =
     let l = c .before .loop in
-    λ k p. l .inv .1 .1 k (omega (arith, l .inv .1 .0))
+    all-rubbish (l .buffer) _ (l .inv .1 .0) (λ k p. l .inv .1 .1 k (omega (arith, l .inv .1 .0)))
 
 pub fill-with-rubbish-spec : {M : Type 1} → statement M
 fill-with-rubbish-spec =

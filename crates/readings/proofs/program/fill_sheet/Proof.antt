@@ -1,5 +1,9 @@
--- `fill_sheet` is safe: the framebuffers keep their lengths. Assumes nothing.
+-- `fill_sheet` meets its contract: the ground is background wherever a reading can stand, so what `run` promises holds. Assumes nothing.
+use mathlib.Core.Path.{_≡_, ap, subst, _∙_}
+use mathlib.Core.List.{List}
+use Prim.Native.Nat.{ℕ}
 use native.Mathlib.Omega.{arith}
+use Rattle.readings.specs.Sheet.{totalsTo, Sound}
 use Rattle.readings.proofs.GridLaws.{cell-size}
 use borrow.Author.Needs.{needs}
 use Rattle.readings.proofs.program.fill_sheet.Statement.{statement}
@@ -35,13 +39,10 @@ write-head-requires : tie.Need-write-head-requires
 write-head-requires c κs = search needs
 
 run-requires : tie.Need-run-requires
-run-requires c κs = search needs
+run-requires c κs = (search needs, c .before .before .before .before .before .before .before .before .before .before .before .before .copy .ensures)
 
 close-requires : tie.Need-close-requires
 close-requires c κs = search needs
-
-print-totals-requires : tie.Need-print-totals-requires
-print-totals-requires c κs = search needs
 
 same-length-3 : tie.Need-same-length-3
 same-length-3 c = search needs
@@ -56,7 +57,13 @@ same-length-6 : tie.Need-same-length-6
 same-length-6 c = search needs
 
 returns-2 : tie.Need-returns-2
-returns-2 c = search needs
+returns-2 c =
+    let a = c .before .before .before .before .before .before .before .before .before .before .before .before .before .before .before .before .before .before .before .before .before .before .before .before .before .before .before .before .before .before .before .before .args in
+    let g = c .before .before .before .before .before .before .before .before .before .before .before .before .before .before .before .before .before .before .before .before .before .before .before .before .before .lay-ground .ensures in
+    let r = c .before .before .before .before .before .before .before .run in (
+      r .ensures .0 ∙ ap (λ (l : List ℕ). totalsTo (a .narrow) (a .font .now) (a .place) l 901) (g .0),
+      subst (λ (l : List ℕ). Sound (a .narrow) (a .font .now) (a .place) l (r .result)) (g .0) (r .ensures .1 .1 (g .1 .0)),
+    )
 
 pub fill-sheet-spec : {M : Type 1} → statement M
 fill-sheet-spec =
@@ -73,7 +80,6 @@ fill-sheet-spec =
     write-head-requires
     run-requires
     close-requires
-    print-totals-requires
     same-length-3
     same-length-4
     same-length-5

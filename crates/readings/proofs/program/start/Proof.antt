@@ -44,8 +44,20 @@ slice-aggregate-make-sheet-5 c = search needs
 make-sheet-requires : tie.Need-make-sheet-requires
 make-sheet-requires c κs = (length-replicate {A = ℕ} 65536 0, (length-replicate {A = ℕ} 65536 0, (length-replicate {A = ℕ} 65536 0, length-replicate {A = ℕ} 262000 0)))
 
+enum-known-sheet : tie.Need-enum-known-sheet
+enum-known-sheet c = search needs
+
+print-totals-requires : tie.Need-print-totals-requires
+print-totals-requires c κs = search needs
+
+enum-told : tie.Need-enum-told
+enum-told c = search needs
+
 returns-2 : tie.Need-returns-2
 returns-2 c = search needs
+
+returns-3 : tie.Need-returns-3
+returns-3 c = search needs
 
 pub start-spec : {M : Type 1} → statement M
 start-spec =
@@ -64,4 +76,8 @@ start-spec =
     slice-aggregate-make-sheet-4
     slice-aggregate-make-sheet-5
     make-sheet-requires
-    returns-2)
+    enum-known-sheet
+    print-totals-requires
+    enum-told
+    returns-2
+    returns-3)

@@ -1,6 +1,9 @@
--- `put_cell` meets its contract: GridLaws.antt has that the cell fits. Assumes nothing.
+-- `put_cell` meets its contract: GridLaws.antt has that the cell fits, and which cell is next. Assumes nothing.
+use mathlib.Core.Path.{_≡_, ap, _∙_}
+use Prim.Native.Nat.{_*_}
 use native.Mathlib.Omega.{arith}
-use Rattle.readings.proofs.GridLaws.{band-cell, band-products}
+use Rattle.readings.specs.Grid.{withCell}
+use Rattle.readings.proofs.GridLaws.{band-cell, band-products, last-cell, cell-after, band-after}
 use borrow.Author.Needs.{needs}
 use Rattle.readings.proofs.sheet.put_cell.Statement.{statement}
 use Rattle.readings.proofs.sheet.put_cell.Tie as tie
@@ -24,7 +27,9 @@ same-length : tie.Need-same-length
 same-length c = search needs
 
 returns : tie.Need-returns
-returns c = search needs
+returns c =
+    let a = c .before .before .before .before .before .before .before .before .before .before .before .before .before .args in
+    ((last-cell (a .n) (a .j) (a .is-last) (c .before .before .if1 .taken), omega (arith, c .before .before .before .before .before .before .before .before .before .before .before .before .before .pre .some)), c .before .before .before .before .before .place-cell .ensures ∙ ap (withCell (a .n * a .width) (a .j * a .width) (a .screen .now) (a .width) (a .height)) (c .before .before .before .before .before .before .before .before .before .begin-band .ensures))
 
 add-if2 : tie.Need-add-if2
 add-if2 c = search needs
@@ -36,7 +41,9 @@ same-length-2 : tie.Need-same-length-2
 same-length-2 c = search needs
 
 returns-2 : tie.Need-returns-2
-returns-2 c = search needs
+returns-2 c =
+    let a = c .before .before .before .before .before .before .before .before .before .before .before .before .args in
+    ((cell-after (a .n) (a .j) (a .is-last) (c .before .if1 .left) (c .if2 .taken), c .if2 .taken), c .before .before .before .before .place-cell .ensures ∙ ap (withCell (a .n * a .width) (a .j * a .width) (a .screen .now) (a .width) (a .height)) (c .before .before .before .before .before .before .before .before .begin-band .ensures))
 
 write-all-requires-2 : tie.Need-write-all-requires-2
 write-all-requires-2 c κs = search needs
@@ -45,7 +52,9 @@ same-length-3 : tie.Need-same-length-3
 same-length-3 c = search needs
 
 returns-3 : tie.Need-returns-3
-returns-3 c = search needs
+returns-3 c =
+    let a = c .before .before .before .before .before .before .before .before .before .before .before .before .before .before .args in
+    ((band-after (a .n) (a .j) (a .is-last) (c .before .before .before .if1 .left) (c .before .before .if2 .left), omega (arith, c .before .before .before .before .before .before .before .before .before .before .before .before .before .before .pre .some)), c .before .before .before .before .before .before .place-cell .ensures ∙ ap (withCell (a .n * a .width) (a .j * a .width) (a .screen .now) (a .width) (a .height)) (c .before .before .before .before .before .before .before .before .before .before .begin-band .ensures))
 
 pub put-cell-spec : {M : Type 1} → statement M
 put-cell-spec =

@@ -1,7 +1,7 @@
 -- `clear_box` meets its contract: the size is that of cause 3. Assumes nothing.
 use borrow.Author.Needs.{needs}
 use mathlib.Core.Path.{_≡_, sym, _∙_}
-use Rattle.definitions.specs.Redraw.{panel}
+use Rattle.definitions.specs.Agreement.{panel}
 use Rattle.renderer.proofs.SizeLaws.{size-fits}
 use Rattle.redraw.proofs.StepLaws.{not-filled, is-filled}
 use Rattle.redraw.proofs.reading.clear_box.Statement.{statement}

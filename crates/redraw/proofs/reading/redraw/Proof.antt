@@ -4,8 +4,7 @@ use borrow.Author.Needs.{needs}
 use mathlib.Core.Path.{_≡_, sym, ap, _∙_}
 use Rattle.definitions.specs.Refusals.{number, codePoint, success, refused}
 use Rattle.definitions.specs.Calls.{dimensionsOutcome}
-use Rattle.definitions.specs.Agreement.{Request, Panel, measured}
-use Rattle.definitions.specs.Redraw.{request, panel}
+use Rattle.definitions.specs.Agreement.{Request, request, Panel, panel, measured}
 use Rattle.definitions.proofs.RedrawLaws.{no-mark-left}
 use Rattle.redraw.proofs.StepLaws.{stops, stays, answers, shows}
 use Rattle.redraw.proofs.reading.redraw.Statement.{statement}

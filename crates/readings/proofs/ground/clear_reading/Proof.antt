@@ -1,0 +1,47 @@
+-- `clear_reading` meets its contract: each way is a case of what the reading measures (GroundLaws.antt). Assumes nothing.
+use mathlib.Core.Path.{_≡_, sym, ap, _∙_}
+use Rattle.definitions.specs.Calls.{dimensionsOutcome}
+use Rattle.definitions.specs.Agreement.{measured}
+use Rattle.readings.specs.Readings.{reading}
+use Rattle.readings.proofs.GroundLaws.{refused-reading, measured-reading}
+use borrow.Author.Needs.{needs}
+use Rattle.readings.proofs.ground.clear_reading.Statement.{statement}
+use Rattle.readings.proofs.ground.clear_reading.Tie as tie
+
+measure-reading-requires : tie.Need-measure-reading-requires
+measure-reading-requires c κs = search needs
+
+enum-known-measured : tie.Need-enum-known-measured
+enum-known-measured c = search needs
+
+enum-told : tie.Need-enum-told
+enum-told c = search needs
+
+returns : tie.Need-returns
+returns c =
+    let a = c .before .before .before .before .before .before .before .args in
+    refused-reading (a .place) (a .buffer .now) (measured (a .font .now) (reading (a .place) (a .k))) (sym (c .before .before .measure-reading .ensures) ∙ ap dimensionsOutcome (c .enum-told .given .1))
+
+clear-box-requires : tie.Need-clear-box-requires
+clear-box-requires c κs = search needs
+
+same-length : tie.Need-same-length
+same-length c = search needs
+
+returns-2 : tie.Need-returns-2
+returns-2 c =
+    let a = c .before .before .before .before .before .before .before .before .before .before .before .before .args in
+    c .before .before .clear-box .ensures
+    ∙ measured-reading (a .place) (a .buffer .now) (measured (a .font .now) (reading (a .place) (a .k))) (sym (c .before .before .before .before .before .before .before .measure-reading .ensures) ∙ ap dimensionsOutcome (c .before .before .before .before .before .measured .given .1))
+
+pub clear-reading-spec : {M : Type 1} → statement M
+clear-reading-spec =
+    tie.close
+    (tie.spec
+    measure-reading-requires
+    enum-known-measured
+    enum-told
+    returns
+    clear-box-requires
+    same-length
+    returns-2)

@@ -1,0 +1,47 @@
+-- What the screen shows before the first reading: rubbish, and background wherever a reading can stand.
+use mathlib.Core.Path.{_≡_}
+use mathlib.Core.List.{List}
+use Prim.Native.Nat.{ℕ, zero, suc, _+_, _*_, _%_, _<_}
+use lib.IntN.{pos}
+use lib.ListN.{replicate}
+use Rattle.types.specs.declared.geometry.RenderedDimensions.{RenderedDimensions}
+use Rattle.definitions.specs.Refusals.{Outcome, success, refused}
+use Rattle.definitions.specs.Geometry.{InsideBox}
+use Rattle.definitions.specs.Framebuffer.{mapAt}
+use Rattle.definitions.specs.Agreement.{measured, pixel}
+use Rattle.definitions.specs.Redraw.{AllOf, clearedBuffer}
+use Rattle.readings.specs.declared.values.Place.{Place}
+use Rattle.readings.specs.Readings.{reading, framebuffer}
+
+abbrev pub rubbishAt : ℕ → ℕ
+rubbishAt i = 96 + i % 101
+
+unfoldable pub rubbish : ℕ → List ℕ
+rubbish bytes = mapAt (λ i old. rubbishAt i) 0 (replicate bytes 0)
+
+-- The box that a reading measures is filled with the background; where measuring refuses it, nothing is.
+abbrev pub clearedBy : Place → List ℕ → Outcome RenderedDimensions → List ℕ
+clearedBy place bytes (success d) = clearedBuffer (place .background) (framebuffer place bytes) (d .«bounding_box»)
+clearedBy place bytes (refused n c) = bytes
+
+-- the boxes of the first k readings
+unfoldable pub clearedTo : List ℕ → Place → ℕ → List ℕ → List ℕ
+clearedTo font place zero bytes = bytes
+clearedTo font place (suc k) bytes = clearedBy place (clearedTo font place k bytes) (measured font (reading place k))
+
+abbrev pub ground : List ℕ → Place → List ℕ
+ground font place = clearedTo font place 901 (rubbish (place .width * place .height))
+
+-- Every pixel is background in the box of each of the first n readings ..
+abbrev pub ClearTo : ℕ → List ℕ → Place → List ℕ → Type 0
+ClearTo n font place bytes =
+    (k : ℕ) → k < n → (d : RenderedDimensions) → measured font (reading place k) ≡ success d
+    → AllOf (place .background) (framebuffer place bytes) (d .«bounding_box»)
+
+-- .. and what lies in none of these boxes is rubbish.
+abbrev pub RubbishBeside : ℕ → List ℕ → Place → List ℕ → Type 0
+RubbishBeside n font place bytes =
+    (column row : ℕ) → column < place .width → row < place .height
+    → ((k : ℕ) → k < n → (d : RenderedDimensions) → measured font (reading place k) ≡ success d
+    → InsideBox (pos column) (pos row) (d .«bounding_box») → ⊥)
+    → pixel (framebuffer place bytes) bytes column row ≡ rubbishAt (row * place .width + column)

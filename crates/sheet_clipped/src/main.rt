@@ -1,0 +1,14 @@
+// The sheet at a place from which the readings run off the framebuffer, to the left and above.
+use readings::program::start;
+use readings::values::Options;
+use readings::values::Wanted;
+use types::geometry::Point;
+use types::style::VerticalPosition;
+
+fn main() {
+    start(Options {
+        vertical_pos: VerticalPosition::Top,
+        wanted: Wanted::At(Point { x: -9, y: -4 }),
+        narrow: false,
+    });
+}
