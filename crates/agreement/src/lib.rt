@@ -1,8 +1,8 @@
 // Document 01's third demand, over the public calls themselves: two drawings of one text, and its measuring, agree.
 ghost use Rattle.definitions.specs.Agreement.{request, panel};
 ghost use Rattle.agreement.specs.Demand.{ThirdDemand};
-use renderer::render::render;
 use measuring::rendered_dimensions::get_rendered_dimensions;
+use renderer::render::render;
 use types::geometry::Point;
 use types::results::DimensionsResult;
 use types::style::FontStyle;

@@ -12,11 +12,11 @@ ghost use Rattle.readings.specs.Sheet.{narrowedBox, stepAnswer, stepBuff
 use crate::bytes::copy;
 use crate::values::Checked;
 use crate::values::Place;
+use measuring::rendered_dimensions::get_rendered_dimensions;
 use redraw::comparison::count_differences;
 use redraw::reading::clear_box;
 use redraw::reading::redraw;
 use renderer::render::render;
-use measuring::rendered_dimensions::get_rendered_dimensions;
 use types::geometry::BoundingBox;
 use types::geometry::Rectangle;
 use types::geometry::Size;
