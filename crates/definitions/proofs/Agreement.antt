@@ -87,7 +87,7 @@ glyph-longer font more least c g e =
 
 -- ---- one drawing within the limits
 
-dimensions-success : (b : BoundingBox) (o : Outcome Point) (d : RenderedDimensions) → dimensionsOf b o ≡ success d
+pub dimensions-success : (b : BoundingBox) (o : Outcome Point) (d : RenderedDimensions) → dimensionsOf b o ≡ success d
     → (o ≡ success (d .advance)) × (b ≡ d .«bounding_box»)
 dimensions-success b (success a) d e =
     let same : record { advance = a; «bounding_box» = b } ≡ d = cc in

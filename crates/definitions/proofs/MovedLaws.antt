@@ -1,9 +1,10 @@
 -- Where a text stands moves its glyphs and its box, and changes nothing else. Assumes nothing.
 use mathlib.Core.Path.{_≡_, refl, sym, ap, _∙_}
-use mathlib.Core.Bool.{Bool, true, false}
+use mathlib.Core.Bool.{Bool, true, false, _||_}
 use mathlib.Core.List.{List, [], _∷_, map}
 use Prim.Native.Nat.{ℕ, _*_}
-use lib.Dec.{eqb}
+use native.Mathlib.Omega.{arith}
+use lib.Dec.{eqb, ltb}
 use lib.IntN.{ℤ, pos, _+ℤ_}
 use Rattle.integers.specs.Integers.{pick}
 use Rattle.integers.proofs.Laws.{zarith, plus}
@@ -17,8 +18,10 @@ use Rattle.definitions.specs.TextSteps.{movedBox}
 use Rattle.definitions.specs.Header.{header}
 use Rattle.definitions.specs.VerticalOffset.{verticalOffset}
 use Rattle.definitions.specs.Utf8.{newlines}
+use Rattle.definitions.specs.Limits.{coordinateOff}
 use Rattle.definitions.specs.Calls.{measureCauses, characters, origin, measuredLetter, measure}
-use Rattle.definitions.proofs.RefusalLaws.{none-applies}
+use Rattle.definitions.proofs.OpenedLaws.{or-false}
+use Rattle.definitions.proofs.RefusalLaws.{none-applies, succeeded, each-off, all-off}
 use Rattle.definitions.proofs.TextLaws.{join-all-moved}
 
 sum-moved : (x a b : ℤ) → (x +ℤ a) +ℤ b ≡ x +ℤ (a +ℤ b)
@@ -101,3 +104,33 @@ module _ (x y : ℤ) (font text : List ℕ) (position : Point) (v : VerticalPosi
       ∙ ap dimensions (text-moved (measuredLetter font skip))
       ∙ dimensions-moved x y (laidAt font text v lineHeight (measuredLetter font skip) position)
       ∙ ap (movedDimensions x y) (sym (none-applies _ (measureCauses font text position lineHeight) here))
+
+-- So a text that is measured somewhere is measured at (0, 0), and its box is that one moved.
+module _ (font text : List ℕ) (p : Point) (v : VerticalPosition) (lineHeight : ℕ) (skip : Bool) (d : RenderedDimensions) where
+  abbrev zero : Point
+  zero = point (pos 0) (pos 0)
+
+  there-is : movedPoint (p .x) (p .y) zero ≡ p
+  there-is = rw (plus-zero (p .x), plus-zero (p .y))
+    where
+      plus-zero : (z : ℤ) → z +ℤ pos 0 ≡ z
+      plus-zero z = omega (zarith, plus z (pos 0))
+
+  abbrev AtZero : Outcome RenderedDimensions → Type 0
+  AtZero o = (e : RenderedDimensions) × ((o ≡ success e) × (d .«bounding_box» ≡ movedBox (p .x) (p .y) (e .«bounding_box»)))
+
+  unmoved : (o : Outcome RenderedDimensions) → success d ≡ movedDimensions (p .x) (p .y) o → AtZero o
+  unmoved (success e) h =
+      let same : d ≡ record { advance = e .advance; «bounding_box» = movedBox (p .x) (p .y) (e .«bounding_box») } = cc in
+      (e, (refl, ap (λ (z : RenderedDimensions). z .«bounding_box») same))
+  unmoved (refused n c) h = let z : _≡_ {A = ℕ} 0 1 = cc in absurd (omega arith)
+
+  pub measured-at-zero : measure font text p v lineHeight skip ≡ success d → AtZero (measure font text zero v lineHeight skip)
+  unfolding measure
+  measured-at-zero h =
+      let s = succeeded (dimensions (laidAt font text v lineHeight (measuredLetter font skip) p)) d (measureCauses font text p lineHeight) h in
+      let o = each-off (measureCauses font text p lineHeight) (s .0) in
+      let here = all-off (measureCauses font text zero lineHeight) (o .0, (o .1 .0, (o .1 .1 .0, (or-false (coordinateOff (p .x) || coordinateOff (p .y)) (ltb 65535 lineHeight) (o .1 .1 .1 .0) .1, tt)))) in
+      unmoved (measure font text zero v lineHeight skip)
+      (sym h ∙ ap (λ (q : Point). measure font text q v lineHeight skip) (sym there-is)
+      ∙ measure-moved (p .x) (p .y) font text zero v lineHeight skip here (ap (λ (q : Point). anyApplies (measureCauses font text q lineHeight)) there-is ∙ s .0))

@@ -39,6 +39,7 @@ use Rattle.definitions.proofs.JoinLaws.{HasCell, end, join-end}
 use Rattle.definitions.proofs.GlyphLaws.{InRange, glyph-range}
 use Rattle.definitions.proofs.BitsLaws.{SignedByte}
 use Rattle.definitions.proofs.Utf8Laws.{utf8-characters, character-count}
+use Rattle.definitions.proofs.Agreement.{dimensions-success}
 use Rattle.definitions.proofs.MovedLaws.{movedPoint, movedDimensions, dimensions-moved, laidAt, text-moved}
 
 -- ---- drawing lays a text out as measuring does, or stops at a glyph whose runs are cut off
@@ -225,12 +226,6 @@ module _ (font : List ℕ) (opened : Opened font (header font)) (lineHeight : �
 
 -- ---- drawing at the opposite of the corner
 
-dimensions-success : (b : BoundingBox) (o : Outcome Point) (d : RenderedDimensions) → dimensionsOf b o ≡ success d → b ≡ d .«bounding_box»
-dimensions-success b (success a) d e =
-    let same : record { advance = a; «bounding_box» = b } ≡ d = cc in
-    ap (λ (x : RenderedDimensions). x .«bounding_box») same
-dimensions-success b (refused n c) d e = let z : _≡_ {A = ℕ} 0 1 = cc in absurd (omega arith)
-
 few-characters : (text : List ℕ) → (ltb 4096 (length text) || not (isUtf8 (decode text))) ≡ false → length (characters text) ≤ 4096
 few-characters text e =
     let l = or-false (ltb 4096 (length text)) (not (isUtf8 (decode text))) e in
@@ -265,7 +260,7 @@ module _ (font text : List ℕ) (lineHeight : ℕ) (advance : Point) (r : Rectan
   pub near : Near r
   near =
       let start : Advanced 0 atZero = record { left = omega zarith; right = omega zarith; top = omega zarith; bottom = omega zarith } in
-      let box = dimensions-success (joinAll (laid (measuredLetter font false) atZero .glyphs)) (laid (measuredLetter font false) atZero .advance) (boxed advance r) (at-zero .1) in
+      let box = dimensions-success (joinAll (laid (measuredLetter font false) atZero .glyphs)) (laid (measuredLetter font false) atZero .advance) (boxed advance r) (at-zero .1) .1 in
       subst NearBox box
       (near-text font (opened-limits font (off .0) (off .1 .0)) lineHeight low (characters text) 0 atZero (omega (arith, few-characters text (off .1 .1 .0))) start)
 

@@ -17,13 +17,6 @@ use types::error::Error;
 use types::geometry::RenderedDimensions;
 use types::geometry::Size;
 
-fn refuse(error: Error) {
-    printing::refusal(error);
-    printing::text(b": ");
-    printing::cause(error);
-    printing::text(b"\n");
-}
-
 fn answer(dimensions: RenderedDimensions) {
     printing::dimensions(dimensions);
     printing::text(b"\n");
@@ -60,7 +53,7 @@ fn show(drawing: Drawing, pgm: bool, buffer: &[u8])
     requires { ⌜ Showable drawing × (length (now buffer) ≡ 65536) ⌝ }
 {
     match drawing {
-        Drawing::Refused(error) => refuse(error),
+        Drawing::Refused(error) => printing::refusal_line(error),
         Drawing::Blank(dimensions) => answer(dimensions),
         Drawing::TooLarge(rectangle) => show_too_large(rectangle.size),
         Drawing::Drawn(dimensions, size) => show_drawn(dimensions, size, pgm, buffer),
@@ -88,7 +81,7 @@ pub fn start() {
     let mut font = font_file::buffer();
     match font_file::read(path, &mut font) {
         FontFile::Unreadable => os::fail(path),
-        FontFile::TooLong => refuse(Error::FontLength),
+        FontFile::TooLong => printing::refusal_line(Error::FontLength),
         FontFile::Length(n) => draw_input(&font[..n], options),
     }
 }

@@ -61,8 +61,16 @@ fn code_point(c: u32) {
     text(&out[start..]);
 }
 
+// A refusal's line: the number, the code point, and the cause in words.
+pub fn refusal_line(e: Error) {
+    refusal(e);
+    text(b": ");
+    cause(e);
+    text(b"\n");
+}
+
 // Why a call is refused, in words.
-pub fn cause(e: Error) {
+fn cause(e: Error) {
     match e {
         Error::FontLength => text(b"the font has fewer than 23 or more than 1,048,576 bytes"),
         Error::FontHeader => text(b"the font's header is damaged"),

@@ -28,10 +28,10 @@ use Rattle.readings.specs.declared.values.Options.{Options}
 use Rattle.readings.specs.declared.values.Place.{Place}
 use Rattle.readings.specs.declared.values.Wanted.{Wanted}
 use Rattle.readings.specs.declared.values.Wanted.the-variants.{Seen, At}
+use Rattle.definitions.proofs.MovedLaws.{measured-at-zero}
 use Rattle.readings.specs.Readings.{readingText, reading}
 use Rattle.readings.specs.Grid.{PlaceFits}
 use Rattle.readings.specs.Extent.{atOrigin, widened, withBox, withReading, extentOf, Within, HoldsReadings, NearExtent, beforeZero, inside, positionFor, sideOf, side, placeAt, placeFor, Uncut, OnFramebuffer, AllSeen}
-use Rattle.readings.proofs.MovedLaws.{measure-moved}
 
 -- ---- between the edges
 
@@ -240,7 +240,7 @@ module _ (font : List ℕ) (o : Options) (wanted : o .wanted ≡ Seen) where
   pub all-seen : Uncut (placeFor font o) edges → AllSeen font (placeFor font o)
   unfolding placeFor
   all-seen = rw wanted (λ uncut k h d m column row i.
-      let q = measure-moved font (readingText k) (there .position) (o .«vertical_pos») d m in
+      let q = measured-at-zero font (readingText k) (there .position) (o .«vertical_pos») 0 false d m in
       on-framebuffer uncut (q .0 .«bounding_box») (λ r b. all-between font (o .«vertical_pos») 901 k h (q .0) (q .1 .0) r b) column row
       (subst (InsideBox column row) (q .1 .1) i))
 

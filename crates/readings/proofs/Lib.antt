@@ -1,7 +1,6 @@
 pub mod TextLaws
 pub mod NumberLaws
 pub mod GridLaws
-pub mod MovedLaws
 pub mod ExtentLaws
 pub mod GroundLaws
 pub mod StepLaws

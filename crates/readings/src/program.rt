@@ -20,7 +20,9 @@ use crate::values::Place;
 use crate::values::Sheet;
 use crate::values::Totals;
 use crate::values::Wanted;
+use font_file::FontFile;
 use libc::STDOUT_FILENO;
+use types::error::Error;
 use types::geometry::Point;
 use types::style::FontColor;
 use types::style::FontStyle;
@@ -141,23 +143,14 @@ pub fn make_sheet(
     )
 }
 
-// The program: font.bin is read, and a font that cannot be opened is refused.
-pub fn start(options: Options) {
-    let mut font = [0u8; 262000];
-    let path = b"font.bin";
-    let fd = os::open_read(path);
-    if fd < 0 {
-        os::fail(path);
-        return;
-    }
-    let n = io::read_full(fd, &mut font);
-    libc::close(fd);
+// Makes the sheet of a font, and prints its totals.
+fn show_sheet(font: &[u8], options: Options) {
     let mut ground = [0u8; 65536];
     let mut screen = [0u8; 65536];
     let mut alone = [0u8; 65536];
     let mut band = [0u8; 262000];
     let sheet = make_sheet(
-        &font[..n],
+        font,
         options,
         &mut ground,
         &mut screen,
@@ -166,5 +159,16 @@ pub fn start(options: Options) {
     );
     if let Sheet::Made(totals) = sheet {
         print_totals(totals);
+    }
+}
+
+// The program: the font is font.bin.
+pub fn start(options: Options) {
+    let path = b"font.bin";
+    let mut font = font_file::buffer();
+    match font_file::read(path, &mut font) {
+        FontFile::Unreadable => os::fail(path),
+        FontFile::TooLong => printing::refusal_line(Error::FontLength),
+        FontFile::Length(n) => show_sheet(&font[..n], options),
     }
 }

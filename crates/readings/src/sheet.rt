@@ -29,10 +29,7 @@ fn report(k: usize, checked: Checked) {
         Checked::Refused(e) => {
             print_reading(k);
             printing::text(b": ");
-            printing::refusal(e);
-            printing::text(b": ");
-            printing::cause(e);
-            printing::text(b"\n");
+            printing::refusal_line(e);
         }
         Checked::Differs(n) => {
             if n != 0 {

@@ -8,8 +8,8 @@ use Rattle.pictures.proofs.program.show.Tie as tie
 enum-known-drawing : tie.Need-enum-known-drawing
 enum-known-drawing c = search needs
 
-refuse-requires : tie.Need-refuse-requires
-refuse-requires c κs = search needs
+refusal-line-requires : tie.Need-refusal-line-requires
+refusal-line-requires c κs = search needs
 
 enum-known-drawing-2 : tie.Need-enum-known-drawing-2
 enum-known-drawing-2 c = search needs
@@ -49,7 +49,7 @@ show-spec =
     tie.close
     (tie.spec
     enum-known-drawing
-    refuse-requires
+    refusal-line-requires
     enum-known-drawing-2
     answer-requires
     enum-known-drawing-3

@@ -38,8 +38,8 @@ fail-requires c κs = search needs
 enum-told-2 : tie.Need-enum-told-2
 enum-told-2 c = search needs
 
-refuse-requires : tie.Need-refuse-requires
-refuse-requires c κs = search needs
+refusal-line-requires : tie.Need-refusal-line-requires
+refusal-line-requires c κs = search needs
 
 enum-known-n : tie.Need-enum-known-n
 enum-known-n c = search needs
@@ -81,7 +81,7 @@ start-spec =
     enum-told
     fail-requires
     enum-told-2
-    refuse-requires
+    refusal-line-requires
     enum-known-n
     array-share-prefix-font
     slice-aggregate-draw-input

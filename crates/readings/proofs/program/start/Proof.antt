@@ -1,57 +1,53 @@
--- `start` is safe: its arrays have the lengths that are asked. Assumes nothing.
-use Prim.Native.Nat.{ℕ}
-use lib.ListN.{length-replicate}
+-- `start` is safe: a font that was read ends within its buffer. Assumes nothing.
+use mathlib.Core.Path.{sym, subst}
+use native.Mathlib.Omega.{arith}
+use lib.Seq.{length-take-le}
+use lib.ListN.{length}
 use borrow.Author.Needs.{needs}
+use Rattle.font_file.specs.Files.{EndsWithin}
 use Rattle.readings.proofs.program.start.Statement.{statement}
 use Rattle.readings.proofs.program.start.Tie as tie
 
-open-read-requires : tie.Need-open-read-requires
-open-read-requires c κs = search needs
+buffer-requires : tie.Need-buffer-requires
+buffer-requires c κs = search needs
+
+slice-aggregate-read : tie.Need-slice-aggregate-read
+slice-aggregate-read c = search needs
+
+read-requires : tie.Need-read-requires
+read-requires c κs = search needs
+
+enum-told : tie.Need-enum-told
+enum-told c = search needs
 
 fail-requires : tie.Need-fail-requires
 fail-requires c κs = search needs
 
-returns : tie.Need-returns
-returns c = search needs
+enum-told-2 : tie.Need-enum-told-2
+enum-told-2 c = search needs
 
-slice-aggregate-read-full : tie.Need-slice-aggregate-read-full
-slice-aggregate-read-full c = search needs
+refusal-line-requires : tie.Need-refusal-line-requires
+refusal-line-requires c κs = search needs
 
-read-full-requires : tie.Need-read-full-requires
-read-full-requires c κs = search needs
-
-close-requires : tie.Need-close-requires
-close-requires c κs = search needs
+enum-known-n : tie.Need-enum-known-n
+enum-known-n c = search needs
 
 array-share-prefix-font : tie.Need-array-share-prefix-font
-array-share-prefix-font c = search needs
+array-share-prefix-font c =
+    let h = subst (EndsWithin (length (c .before .before .before .before .read .last .1 .0))) (c .before .n .given .1) (c .before .before .before .before .read .ensures) in
+    omega arith
 
-slice-aggregate-make-sheet : tie.Need-slice-aggregate-make-sheet
-slice-aggregate-make-sheet c = search needs
+slice-aggregate-show-sheet : tie.Need-slice-aggregate-show-sheet
+slice-aggregate-show-sheet c =
+    let font = c .before .before .before .before .before .read .last .1 .0 in
+    let h = subst (EndsWithin (length font)) (c .before .before .n .given .1) (c .before .before .before .before .before .read .ensures) in
+    sym (length-take-le (c .before .before .n .given .0 .0) font (omega arith))
 
-slice-aggregate-make-sheet-2 : tie.Need-slice-aggregate-make-sheet-2
-slice-aggregate-make-sheet-2 c = search needs
+show-sheet-requires : tie.Need-show-sheet-requires
+show-sheet-requires c κs = search needs
 
-slice-aggregate-make-sheet-3 : tie.Need-slice-aggregate-make-sheet-3
-slice-aggregate-make-sheet-3 c = search needs
-
-slice-aggregate-make-sheet-4 : tie.Need-slice-aggregate-make-sheet-4
-slice-aggregate-make-sheet-4 c = search needs
-
-slice-aggregate-make-sheet-5 : tie.Need-slice-aggregate-make-sheet-5
-slice-aggregate-make-sheet-5 c = search needs
-
-make-sheet-requires : tie.Need-make-sheet-requires
-make-sheet-requires c κs = (length-replicate {A = ℕ} 65536 0, (length-replicate {A = ℕ} 65536 0, (length-replicate {A = ℕ} 65536 0, length-replicate {A = ℕ} 262000 0)))
-
-enum-known-sheet : tie.Need-enum-known-sheet
-enum-known-sheet c = search needs
-
-print-totals-requires : tie.Need-print-totals-requires
-print-totals-requires c κs = search needs
-
-enum-told : tie.Need-enum-told
-enum-told c = search needs
+returns : tie.Need-returns
+returns c = search needs
 
 returns-2 : tie.Need-returns-2
 returns-2 c = search needs
@@ -63,21 +59,17 @@ pub start-spec : {M : Type 1} → statement M
 start-spec =
     tie.close
     (tie.spec
-    open-read-requires
-    fail-requires
-    returns
-    slice-aggregate-read-full
-    read-full-requires
-    close-requires
-    array-share-prefix-font
-    slice-aggregate-make-sheet
-    slice-aggregate-make-sheet-2
-    slice-aggregate-make-sheet-3
-    slice-aggregate-make-sheet-4
-    slice-aggregate-make-sheet-5
-    make-sheet-requires
-    enum-known-sheet
-    print-totals-requires
+    buffer-requires
+    slice-aggregate-read
+    read-requires
     enum-told
+    fail-requires
+    enum-told-2
+    refusal-line-requires
+    enum-known-n
+    array-share-prefix-font
+    slice-aggregate-show-sheet
+    show-sheet-requires
+    returns
     returns-2
     returns-3)
