@@ -6,7 +6,7 @@ use native.Mathlib.Omega.{arith}
 use lib.Dec.{ltb}
 use lib.IntN.{ℤ, pos, negsuc, _+ℤ_, _-ℤ_}
 use lib.Signed.{_≤ℤ_, _<ℤ_}
-use mir.Syntax.{w32}
+use mir.Syntax.{w64}
 use mir.Val.{SFits}
 use borrow.Author.Tests.{ltb-true, ltb-false, le-ltb}
 use Rattle.integers.specs.Integers.{pick}
@@ -28,7 +28,7 @@ pub near-fits : {z : ℤ} → Near z → SFits w32 z
 near-fits near = omega (zarith, near .low, near .high)
 
 -- the difference that is taken
-pub difference-fits : (n : ℕ) (top : ℤ) → n ≤ 256 → Near top → SFits w32 (pos n -ℤ top)
+pub difference-fits : (n : ℕ) (top : ℤ) → n ≤ 256 → Near top → SFits w64 (pos n -ℤ top)
 difference-fits n top h near = omega (zarith, minus (pos n) top, near .low, near .high)
 
 module _ (top : ℤ) (glyphHeight height : ℕ) where

@@ -10,13 +10,13 @@ pub struct Rows {
 }
 
 // The nearest number from 0 to `limit`.
-fn clamp(x: i32, limit: usize) -> usize
-    ensures { λ r. ⌜ r ≡ clamped x limit ⌝ }
+pub fn clamp(z: i64, limit: usize) -> usize
+    ensures { λ r. ⌜ r ≡ clamped z limit ⌝ }
 {
-    if x < 0 {
+    if z < 0 {
         return 0;
     }
-    let n = x as usize;
+    let n = z as usize;
     if limit < n {
         return limit;
     }
@@ -30,7 +30,7 @@ pub fn get_visible_rows(top: i32, glyph_height: u8, height: usize) -> Rows
 {
     let limit = glyph_height as usize;
     Rows {
-        first: clamp(0 - top, limit),
-        past: clamp((height as i32) - top, limit),
+        first: clamp(0 - (top as i64), limit),
+        past: clamp((height as i64) - (top as i64), limit),
     }
 }

@@ -1,6 +1,6 @@
 // Drawing a glyph from its runs (01, "Runs"). A glyph is drawn only after its runs were read to the last pixel, so a font
 // that ends too early draws none of it.
-mod geometry;
+pub mod geometry;
 mod rows;
 mod runs;
 

@@ -9,23 +9,10 @@ ghost use Rattle.glyph_renderer.specs.Visible.{clamped};
 ghost use Rattle.glyph_renderer.specs.Drawing.{BufferFits};
 ghost use Rattle.redraw.specs.Areas.{area, AreaFits};
 use framebuffer::write_line;
+use glyph_renderer::geometry::clamp;
 use types::geometry::BoundingBox;
 use types::geometry::Rectangle;
 use types::style::FontColor;
-
-// The nearest number from 0 to `limit`.
-fn clamp(z: i64, limit: usize) -> usize
-    ensures { λ r. ⌜ r ≡ clamped z limit ⌝ }
-{
-    if z < 0 {
-        return 0;
-    }
-    let n = z as usize;
-    if limit < n {
-        return limit;
-    }
-    n
-}
 
 // Where a row or column of pixels begins and ends on the framebuffer. In 64 bits every end is a number.
 fn clamp_start(start: i32, limit: usize) -> usize

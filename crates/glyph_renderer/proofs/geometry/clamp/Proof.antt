@@ -1,4 +1,5 @@
 -- `clamped` makes the same two tests.
+use native.Mathlib.Omega.{arith}
 use borrow.Author.Tests.{lt-ltb, le-ltb}
 use mir.Facts.{toZ-ofZ}
 use Rattle.integers.proofs.Laws.{zarith, castable}
@@ -9,17 +10,17 @@ use Rattle.glyph_renderer.proofs.geometry.clamp.Tie as tie
 returns : tie.Need-returns
 unfolding clamped
 returns c =
-    let f = c .before .fits .x in
+    let f = c .before .fits .z in
     let t = simp (toZ-ofZ, f) at (c .if1 .taken) in
     simp t
 
 cast-n : tie.Need-cast-n
-cast-n c = let f = c .before .fits .x in simp (toZ-ofZ, f) (castable tt f (omega zarith))
+cast-n c = let f = c .before .fits .z in simp (toZ-ofZ, f) (castable tt f (omega zarith))
 
 returns-2 : tie.Need-returns-2
 unfolding clamped
 returns-2 c =
-    let f = c .before .before .fits .x in
+    let f = c .before .before .fits .z in
     let t = simp (toZ-ofZ, f) at (c .before .if1 .left) in
     let u = simp (toZ-ofZ, f) at (lt-ltb _ _ (c .if2 .taken)) in
     simp (t, u)
@@ -27,7 +28,7 @@ returns-2 c =
 returns-3 : tie.Need-returns-3
 unfolding clamped
 returns-3 c =
-    let f = c .before .before .fits .x in
+    let f = c .before .before .fits .z in
     let t = simp (toZ-ofZ, f) at (c .before .if1 .left) in
     let u = simp (toZ-ofZ, f) at (le-ltb _ _ (c .if2 .left)) in
     simp (toZ-ofZ, f, t, u)
