@@ -1,5 +1,6 @@
 pub mod TextLaws
 pub mod NumberLaws
+pub mod WordLaws
 pub mod GridLaws
 pub mod ExtentLaws
 pub mod GroundLaws

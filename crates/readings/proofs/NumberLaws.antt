@@ -13,7 +13,8 @@ use lib.Seq.{drop-cons}
 use lib.Signed.{ltZ, _≤ℤ_}
 use Rattle.integers.specs.Integers.{pick}
 use Rattle.integers.proofs.Laws.{zarith, neg, minus, ltZ-yes, ltZ-no}
-use Rattle.readings.specs.declared.values.Digits.{Digits}
+use Rattle.definitions.specs.Line.{decimal, signedDecimal}
+use Rattle.definitions.proofs.LineLaws.{value, value-decimal, Digits, last, next, decimal-digits}
 use Rattle.readings.specs.declared.values.Digits.the-variants.{Value, NotDigits}
 use Rattle.readings.specs.declared.values.Number.{Number}
 use Rattle.readings.specs.declared.values.Number.the-variants.{Of, NotOne}
@@ -106,28 +107,28 @@ module _ (text : List ℕ) (start : ℕ) (sign : Bool) where
     no-digits e = sym (by-natural none (is-none (digitsAfter 0 (drop start text)) (sym e)))
 
     module _ {n : ℕ} (e : Value n ≡ capped (digitsAfter 0 (drop start text))) where
-      value : (v : ℕ) × ((digitsAfter 0 (drop start text) ≡ natural v) × (n ≡ min v 1048577))
-      value = is-value (digitsAfter 0 (drop start text)) n (sym e)
+      writes : (v : ℕ) × ((digitsAfter 0 (drop start text) ≡ natural v) × (n ≡ min v 1048577))
+      writes = is-value (digitsAfter 0 (drop start text)) n (sym e)
 
       pub off-limits : 1048576 < n → NotOne ≡ number
-      off-limits h = sym (by-natural (natural (value .0)) (value .1 .0) ∙ by sign)
+      off-limits h = sym (by-natural (natural (writes .0)) (writes .1 .0) ∙ by sign)
         where
-          by : (s : Bool) → signedBy s (natural (value .0)) ≡ NotOne
-          by true = off-below (value .0) (omega (arith, value .1 .1))
-          by false = off-above (value .0) (omega (arith, value .1 .1))
+          by : (s : Bool) → signedBy s (natural (writes .0)) ≡ NotOne
+          by true = off-below (writes .0) (omega (arith, writes .1 .1))
+          by false = off-above (writes .0) (omega (arith, writes .1 .1))
 
       module _ (h : n ≤ 1048576) where
-        same : natural (value .0) ≡ natural n
-        same = let q : value .0 ≡ n = omega (arith, value .1 .1) in ap natural q
+        same : natural (writes .0) ≡ natural n
+        same = let q : writes .0 ≡ n = omega (arith, writes .1 .1) in ap natural q
 
         pub below-zero : sign ≡ true → Of (pos 0 -ℤ pos n) ≡ number
         below-zero t =
             let z : pos 0 -ℤ pos n ≡ negℤ (pos n) = omega (zarith, minus (pos 0) (pos n), neg (pos n)) in
             ap Of z
-            ∙ sym (by-natural (natural n) (value .1 .0 ∙ same) ∙ ap (λ (s : Bool). signedBy s (natural n)) t ∙ within (negℤ (pos n)) (omega (zarith, neg (pos n))) (omega (zarith, neg (pos n))))
+            ∙ sym (by-natural (natural n) (writes .1 .0 ∙ same) ∙ ap (λ (s : Bool). signedBy s (natural n)) t ∙ within (negℤ (pos n)) (omega (zarith, neg (pos n))) (omega (zarith, neg (pos n))))
 
         pub from-zero : sign ≡ false → Of (pos n) ≡ number
-        from-zero t = sym (by-natural (natural n) (value .1 .0 ∙ same) ∙ ap (λ (s : Bool). signedBy s (natural n)) t ∙ within (pos n) (omega zarith) (omega zarith))
+        from-zero t = sym (by-natural (natural n) (writes .1 .0 ∙ same) ∙ ap (λ (s : Bool). signedBy s (natural n)) t ∙ within (pos n) (omega zarith) (omega zarith))
 
 -- ---- the sign
 
@@ -155,3 +156,29 @@ module _ (text : List ℕ) where
       by : (t : List ℕ) → 0 < length t → (getD t 0 0 ≡ 45 → ⊥) → signedBy false (naturalOf (drop 0 t)) ≡ coordinateOf t
       by [] h e = absurd (omega arith)
       by (c ∷ cs) h e = rw (ne-eqb c 45 e)
+
+-- ---- a number written in decimal
+
+digits-read : {ds : List ℕ} → Digits ds → (n : ℕ) → digitsAfter n ds ≡ natural (value n ds)
+unfolding digitsAfter
+digits-read (last {d} p q) n = a-digit n d [] p q
+digits-read (next {d} {ds} p q r) n = a-digit n d ds p q ∙ digits-read r (n * 10 + (d - 48))
+
+some-digits : {ds : List ℕ} → Digits ds → naturalOf ds ≡ digitsAfter 0 ds
+some-digits (last p q) = refl
+some-digits (next p q r) = refl
+
+natural-back : (n : ℕ) → naturalOf (decimal n) ≡ natural n
+natural-back n = some-digits (decimal-digits n) ∙ digits-read (decimal-digits n) 0 ∙ ap natural (value-decimal n)
+
+-- a digit is no minus sign
+unsigned : {ds : List ℕ} → Digits ds → coordinateOf ds ≡ signedBy false (naturalOf ds)
+unfolding coordinateOf
+unsigned (last {d} p q) = let e : d ≡ 45 → ⊥ = λ h. omega arith in rw (ne-eqb d 45 e)
+unsigned (next {d} p q r) = let e : d ≡ 45 → ⊥ = λ h. omega arith in rw (ne-eqb d 45 e)
+
+-- It reads back as itself, within 01's limits.
+pub reads-back : (z : ℤ) → coordinateOf (signedDecimal z) ≡ coordinate z
+unfolding coordinateOf
+reads-back (pos n) = unsigned (decimal-digits n) ∙ ap (signedBy false) (natural-back n)
+reads-back (negsuc n) = ap (signedBy true) (natural-back (suc n))

@@ -4,3 +4,4 @@ pub mod Extent
 pub mod Grid
 pub mod Sheet
 pub mod Numbers
+pub mod Words

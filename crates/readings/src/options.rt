@@ -1,4 +1,6 @@
 // What the sheet is asked for: an anchor, `narrow`, and `at X Y`, in any order. A later word of a kind replaces an earlier one.
+ghost use mathlib.Core.Path.{_≡_};
+ghost use Rattle.readings.specs.Words.{wrong, anchored, withWord, withX, withY, withNext, endedBy};
 use crate::number::read_coordinate;
 use crate::values::Asked;
 use crate::values::Next;
@@ -9,7 +11,9 @@ use redraw::comparison::is_same;
 use types::geometry::Point;
 use types::style::VerticalPosition;
 
-fn anchored(options: Options, vertical_pos: VerticalPosition) -> Asked {
+fn anchored(options: Options, vertical_pos: VerticalPosition) -> Asked
+    ensures { λ r. ⌜ r ≡ anchored options «vertical_pos» ⌝ }
+{
     let wanted = options.wanted;
     Asked {
         options: Options {
@@ -22,7 +26,9 @@ fn anchored(options: Options, vertical_pos: VerticalPosition) -> Asked {
     }
 }
 
-fn wrong(options: Options) -> Asked {
+fn wrong(options: Options) -> Asked
+    ensures { λ r. ⌜ r ≡ wrong options ⌝ }
+{
     Asked {
         options,
         next: Next::Any,
@@ -30,7 +36,9 @@ fn wrong(options: Options) -> Asked {
     }
 }
 
-fn with_word(options: Options, word: &[u8]) -> Asked {
+fn with_word(options: Options, word: &[u8]) -> Asked
+    ensures { λ r. ⌜ r ≡ withWord options (now (word .entry)) ⌝ }
+{
     if is_same(word, b"baseline") {
         return anchored(options, VerticalPosition::Baseline);
     }
@@ -66,7 +74,9 @@ fn with_word(options: Options, word: &[u8]) -> Asked {
     wrong(options)
 }
 
-fn with_x(options: Options, number: Number) -> Asked {
+fn with_x(options: Options, number: Number) -> Asked
+    ensures { λ r. ⌜ r ≡ withX options number ⌝ }
+{
     match number {
         Number::NotOne => wrong(options),
         Number::Of(x) => Asked {
@@ -77,7 +87,9 @@ fn with_x(options: Options, number: Number) -> Asked {
     }
 }
 
-fn with_y(options: Options, x: i32, number: Number) -> Asked {
+fn with_y(options: Options, x: i32, number: Number) -> Asked
+    ensures { λ r. ⌜ r ≡ withY options x number ⌝ }
+{
     match number {
         Number::NotOne => wrong(options),
         Number::Of(y) => {
@@ -96,7 +108,9 @@ fn with_y(options: Options, x: i32, number: Number) -> Asked {
 }
 
 // One word more. After a wrong one nothing is right again.
-fn with_next(asked: Asked, word: &[u8]) -> Asked {
+fn with_next(asked: Asked, word: &[u8]) -> Asked
+    ensures { λ r. ⌜ r ≡ withNext asked (now (word .entry)) ⌝ }
+{
     if !asked.right {
         return asked;
     }
@@ -116,7 +130,9 @@ fn with_argument(asked: Asked, i: usize) -> Asked {
 }
 
 // No word may be missing after `at`.
-fn ended(asked: Asked) -> Asked {
+fn ended(asked: Asked) -> Asked
+    ensures { λ r. ⌜ r ≡ endedBy asked (asked .next) ⌝ }
+{
     let next = asked.next;
     let options = asked.options;
     match next {
