@@ -4,13 +4,13 @@ use mathlib.Core.List.{List, _++_}
 use Prim.Native.Nat.{ℕ}
 use Rattle.definitions.specs.Refusals.{success}
 use Rattle.definitions.specs.Calls.{dimensionsOutcome}
-use Rattle.definitions.specs.Agreement.{Request, Panel, WithinLimits, drawn, after, measured, pixel, TwoDrawings, Agree}
+use Rattle.definitions.specs.Agreement.{Request, Framebuffer, WithinLimits, drawn, after, measured, pixel, TwoDrawings, Agree}
 use Rattle.definitions.proofs.Agreement.{agreement}
 use Rattle.agreement.specs.declared.Answers.{Answers}
 use Rattle.agreement.specs.Demand.{Supposed, Claimed, ThirdDemand}
 
 -- what the contracts of the four calls say
-pub record Called (firstFont secondFont : List ℕ) (r : Request) (p q : Panel) (answers : Answers) (firstAfter secondAfter : List ℕ) : Type 0 where
+pub record Called (firstFont secondFont : List ℕ) (r : Request) (p q : Framebuffer) (answers : Answers) (firstAfter secondAfter : List ℕ) : Type 0 where
   pub first : dimensionsOutcome (answers .first) ≡ drawn firstFont r p
   pub first-after : firstAfter ≡ after firstFont r p
   pub second : dimensionsOutcome (answers .second) ≡ drawn secondFont r q
@@ -18,7 +18,7 @@ pub record Called (firstFont secondFont : List ℕ) (r : Request) (p q : Panel) 
   pub first-measured : dimensionsOutcome (answers .«first_measured») ≡ measured firstFont r
   pub second-measured : dimensionsOutcome (answers .«second_measured») ≡ measured secondFont r
 
-pub third-demand : {firstFont secondFont : List ℕ} {r : Request} {p q : Panel} {answers : Answers} {firstAfter secondAfter : List ℕ}
+pub third-demand : {firstFont secondFont : List ℕ} {r : Request} {p q : Framebuffer} {answers : Answers} {firstAfter secondAfter : List ℕ}
     → Called firstFont secondFont r p q answers firstAfter secondAfter
     → ThirdDemand firstFont secondFont r p q answers firstAfter secondAfter
 third-demand {firstFont} {secondFont} {r} {p} {q} {answers} {firstAfter} {secondAfter} c more d s e =

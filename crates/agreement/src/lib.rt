@@ -1,5 +1,5 @@
 // Document 01's third demand, over the public calls themselves: two drawings of one text, and its measuring, agree.
-ghost use Rattle.definitions.specs.Agreement.{request, panel};
+ghost use Rattle.definitions.specs.Agreement.{request, framebufferOf};
 ghost use Rattle.agreement.specs.Demand.{ThirdDemand};
 use measuring::rendered_dimensions::get_rendered_dimensions;
 use renderer::render::render;
@@ -30,7 +30,7 @@ pub fn draw_twice_and_measure(
     second_height: usize,
     second_buffer: &mut [u8],
 ) -> Answers
-    ensures { λ r. ⌜ ThirdDemand (now («first_font» .entry)) (now («second_font» .entry)) (request (now (text .entry)) position style «line_height») (panel «first_width» «first_height» (now («first_buffer» .entry))) (panel «second_width» «second_height» (now («second_buffer» .entry))) r (now («first_buffer» .exit)) (now («second_buffer» .exit)) ⌝ }
+    ensures { λ r. ⌜ ThirdDemand (now («first_font» .entry)) (now («second_font» .entry)) (request (now (text .entry)) position style «line_height») (framebufferOf «first_width» «first_height» (now («first_buffer» .entry))) (framebufferOf «second_width» «second_height» (now («second_buffer» .entry))) r (now («first_buffer» .exit)) (now («second_buffer» .exit)) ⌝ }
 {
     let ignore_unknown_chars = false;
     let first = render(

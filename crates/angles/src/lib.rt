@@ -2,10 +2,11 @@
 ghost use mathlib.Core.Path.{_≡_};
 ghost use mathlib.Core.List.{[], _∷_};
 ghost use Prim.Native.Nat.{_+_, _≤_};
-ghost use lib.IntN.{pos, negsuc, natAbs};
+ghost use lib.IntN.{pos, negsuc};
 ghost use lib.ListN.{length, drop};
 ghost use lib.Signed.{_≤ℤ_};
 ghost use Rattle.angles.specs.AngleText.{digit, degreesThen, tenthsText, angleText};
+use utils::number::magnitude;
 
 // Puts a byte in front of the text that begins at `start` and answers where it begins now.
 fn put_before(out: &mut [u8], start: usize, byte: u8) -> usize
@@ -42,16 +43,6 @@ fn put_tenths(out: &mut [u8], n: u32) -> usize
     let tenth = put_before(&mut out[..], 6, digit_of(n % 10));
     let point = put_before(&mut out[..], tenth, b'.');
     put_degrees(&mut out[..], point, n / 10)
-}
-
-fn magnitude(tenths: i32) -> u32
-    requires { ⌜ (negsuc 998 ≤ℤ tenths) × (tenths ≤ℤ pos 999) ⌝ }
-    ensures { λ r. ⌜ (r ≡ natAbs tenths) × (r ≤ 999) ⌝ }
-{
-    if tenths < 0 {
-        return (0 - tenths) as u32;
-    }
-    tenths as u32
 }
 
 // Writes the text of an angle below 100 degrees at the end of `out` and answers where it begins.

@@ -23,13 +23,13 @@ use Rattle.definitions.specs.Header.{header}
 use Rattle.definitions.specs.Lookup.{Search, found, missing, short, search}
 use Rattle.definitions.specs.Glyph.{fields, fromSearch, glyph}
 use Rattle.definitions.specs.Geometry.{InsideBox}
-use Rattle.definitions.specs.Text.{Letter, shows, nothing, letter, joinAll, Layout, layout, point, dimensionsOf, dimensions}
+use Rattle.definitions.specs.Text.{Answer, shows, nothing, answer, joinAll, Layout, layout, point, dimensionsOf, dimensions}
 use Rattle.definitions.specs.Runs.{Pixels, pixels, cut, glyphPixels}
 use Rattle.definitions.specs.Picture.{Paint, textPicture}
 use Rattle.definitions.specs.Framebuffer.{over, sideOff}
 use Rattle.definitions.specs.Limits.{backgroundOff, backgroundCause}
-use Rattle.definitions.specs.Calls.{characters, origin, measuredLetter, measureCauses, measure, drawCauses, withRuns, drawable, drawnLetter, pixelList, pixelsOf, drawnText, draw, drawBuffer}
-use Rattle.definitions.specs.Agreement.{Request, Panel, limits, WithinLimits, drawn, after, measured, pixel, KeptOutside, TwoDrawings, Agree}
+use Rattle.definitions.specs.Calls.{characters, origin, measuredAnswer, measureCauses, measure, drawCauses, withRuns, drawable, drawnAnswer, pixelList, pixelsOf, drawnText, draw, drawBuffer}
+use Rattle.definitions.specs.Agreement.{Request, Framebuffer, limits, WithinLimits, drawn, after, measured, pixel, KeptOutside, TwoDrawings, Agree}
 use Rattle.definitions.proofs.RefusalLaws.{none-applies, succeeded, last-applies, nor-last, NoneApplies, each-off, all-off}
 use Rattle.definitions.proofs.OpenedLaws.{or-false, opened-limits}
 use Rattle.definitions.proofs.LookupLaws.{byte-longer, header-longer, search-longer}
@@ -41,11 +41,11 @@ use Rattle.definitions.proofs.FramebufferLaws.{shown-at}
 
 -- ---- what a letter that shows a glyph tells, where nothing is skipped
 
-shown-letter : (o : Outcome GlyphReader) (g : GlyphReader) → letter false o ≡ shows g → o ≡ success g
-shown-letter (success h) g e = cc
-shown-letter (refused n c) g e = let z : _≡_ {A = ℕ} 0 1 = cc in absurd (omega arith)
+shown-answer : (o : Outcome GlyphReader) (g : GlyphReader) → answer false o ≡ shows g → o ≡ success g
+shown-answer (success h) g e = cc
+shown-answer (refused n c) g e = let z : _≡_ {A = ℕ} 0 1 = cc in absurd (omega arith)
 
-no-nothing : (o : Outcome GlyphReader) → letter false o ≡ nothing → ⊥
+no-nothing : (o : Outcome GlyphReader) → answer false o ≡ nothing → ⊥
 no-nothing (success h) e = let z : _≡_ {A = ℕ} 0 1 = cc in omega arith
 no-nothing (refused n c) e = let z : _≡_ {A = ℕ} 0 1 = cc in omega arith
 
@@ -60,8 +60,8 @@ pub record Drawable (font : List ℕ) (c : ℕ) (g : GlyphReader) : Type 0 where
   pub bits : List ℕ
   pub runs : glyphPixels font (header font) g ≡ pixels bits
 
-drawable-glyph : (font : List ℕ) (c : ℕ) (g : GlyphReader) → drawnLetter font false c ≡ shows g → Drawable font c g
-drawable-glyph font c g e = by (glyph font c) refl (shown-letter (drawable font c (glyph font c)) g e)
+drawable-glyph : (font : List ℕ) (c : ℕ) (g : GlyphReader) → drawnAnswer font false c ≡ shows g → Drawable font c g
+drawable-glyph font c g e = by (glyph font c) refl (shown-answer (drawable font c (glyph font c)) g e)
   where
     by : (o : Outcome GlyphReader) → glyph font c ≡ o → drawable font c o ≡ success g → Drawable font c g
     by (success h) k d =
@@ -98,14 +98,14 @@ dimensions-success b (refused n c) d e = let z : _≡_ {A = ℕ} 0 1 = cc in abs
 abbrev text : List ℕ → Request → Layout
 text font r = drawnText font (r .text) (r .position) (r .style .«vertical_pos») (r .lineHeight) false
 
-abbrev causes : List ℕ → Request → Panel → List Cause
+abbrev causes : List ℕ → Request → Framebuffer → List Cause
 causes font r p = drawCauses font (r .text) (r .position) (r .style) (r .lineHeight) (p .width) (p .height) (p .before)
 
 -- The causes of drawing are those five, and then the sixth.
-pub sixth : (font : List ℕ) (r : Request) (p : Panel) → causes font r p ≡ limits font r p ++ backgroundCause (r .style .color) font ∷ []
+pub sixth : (font : List ℕ) (r : Request) (p : Framebuffer) → causes font r p ≡ limits font r p ++ backgroundCause (r .style .color) font ∷ []
 sixth font r p = refl
 
-module _ (font : List ℕ) (r : Request) (p : Panel) (within : WithinLimits font r p) where
+module _ (font : List ℕ) (r : Request) (p : Framebuffer) (within : WithinLimits font r p) where
   off : NoneApplies (limits font r p)
   off = each-off (limits font r p) within
 
@@ -156,30 +156,30 @@ module _ (font more : List ℕ) (least : 23 ≤ length font) where
   drawable-longer c g d =
       (glyph-longer font more least c g (d .answer), rw (header-longer font more least) (glyph-pixels-longer font (header font) g (d .bits) more (d .runs)))
 
-  never : (c : ℕ) → drawnLetter font false c ≡ nothing → ⊥
+  never : (c : ℕ) → drawnAnswer font false c ≡ nothing → ⊥
   never c e = no-nothing (drawable font c (glyph font c)) e
 
-  drawn-follows : Follows (drawnLetter font false) (drawnLetter (font ++ more) false)
+  drawn-follows : Follows (drawnAnswer font false) (drawnAnswer (font ++ more) false)
   drawn-follows = record {
     same = λ c g e. let d = drawable-longer c g (drawable-glyph font c g e) in rw (d .0) (rw (d .1));
     some = never;
   }
 
-  measured-follows : Follows (drawnLetter font false) (measuredLetter font false)
+  measured-follows : Follows (drawnAnswer font false) (measuredAnswer font false)
   measured-follows = record { same = λ c g e. rw (drawable-glyph font c g e .answer); some = never }
 
-  measured-longer : Follows (drawnLetter font false) (measuredLetter (font ++ more) false)
+  measured-longer : Follows (drawnAnswer font false) (measuredAnswer (font ++ more) false)
   measured-longer = record {
     same = λ c g e. rw (glyph-longer font more least c g (drawable-glyph font c g e .answer));
     some = never;
   }
 
-  same-pixels : (c : ℕ) (g : GlyphReader) → drawnLetter font false c ≡ shows g → pixelsOf font g ≡ pixelsOf (font ++ more) g
+  same-pixels : (c : ℕ) (g : GlyphReader) → drawnAnswer font false c ≡ shows g → pixelsOf font g ≡ pixelsOf (font ++ more) g
   same-pixels c g e =
       let d = drawable-glyph font c g e in
       ap pixelList (d .runs) ∙ sym (ap pixelList (drawable-longer c g d .1))
 
-module _ (font more : List ℕ) (r : Request) (p q : Panel) (d : RenderedDimensions) (h : TwoDrawings font more r p q d) where
+module _ (font more : List ℕ) (r : Request) (p q : Framebuffer) (d : RenderedDimensions) (h : TwoDrawings font more r p q d) where
   enough : 23 ≤ length font
   enough = least font r p (h .first-within)
 
@@ -204,23 +204,23 @@ module _ (font more : List ℕ) (r : Request) (p q : Panel) (d : RenderedDimensi
   place-longer = rw (header-longer font more enough)
 
   -- letters that follow the first drawing's are laid out alike
-  laid : (letters : ℕ → Letter) → Follows (drawnLetter font false) letters
-      → layout letters (r .lineHeight) place (point (pos 0) (pos 0)) (characters (r .text)) ≡ text font r
-  laid letters follows = same-layout follows (r .lineHeight) place (characters (r .text)) (point (pos 0) (pos 0)) (d .advance) (advance-and-box .0)
+  laid : (answers : ℕ → Answer) → Follows (drawnAnswer font false) answers
+      → layout answers (r .lineHeight) place (point (pos 0) (pos 0)) (characters (r .text)) ≡ text font r
+  laid answers follows = same-layout follows (r .lineHeight) place (characters (r .text)) (point (pos 0) (pos 0)) (d .advance) (advance-and-box .0)
 
-  laid-longer : (letters : ℕ → Letter) → Follows (drawnLetter font false) letters
-      → layout letters (r .lineHeight) (origin (font ++ more) (r .text) (r .position) (r .style .«vertical_pos») (r .lineHeight)) (point (pos 0) (pos 0)) (characters (r .text)) ≡ text font r
-  laid-longer letters follows = rw place-longer (laid letters follows)
+  laid-longer : (answers : ℕ → Answer) → Follows (drawnAnswer font false) answers
+      → layout answers (r .lineHeight) (origin (font ++ more) (r .text) (r .position) (r .style .«vertical_pos») (r .lineHeight)) (point (pos 0) (pos 0)) (characters (r .text)) ≡ text font r
+  laid-longer answers follows = rw place-longer (laid answers follows)
 
   same-text : text (font ++ more) r ≡ text font r
-  same-text = laid-longer (drawnLetter (font ++ more) false) (drawn-follows font more enough)
+  same-text = laid-longer (drawnAnswer (font ++ more) false) (drawn-follows font more enough)
 
   same-picture : (column row : ℤ)
       → textPicture (r .style .color) (pixelsOf font) (text font r .glyphs) column row
       ≡ textPicture (r .style .color) (pixelsOf (font ++ more)) (text (font ++ more) r .glyphs) column row
   same-picture column row =
       same-pixels-picture (r .style .color) (pixelsOf font) (pixelsOf (font ++ more)) (text font r .glyphs)
-      (each-glyph (λ g. pixelsOf font g ≡ pixelsOf (font ++ more) g) (drawnLetter font false) (same-pixels font more enough)
+      (each-glyph (λ g. pixelsOf font g ≡ pixelsOf (font ++ more) g) (drawnAnswer font false) (same-pixels font more enough)
       (r .lineHeight) place (characters (r .text)) (point (pos 0) (pos 0)))
       column row
       ∙ ap (λ (l : Layout). textPicture (r .style .color) (pixelsOf (font ++ more)) (l .glyphs) column row) (sym same-text)
@@ -233,14 +233,14 @@ module _ (font more : List ℕ) (r : Request) (p q : Panel) (d : RenderedDimensi
   unfolding measure
   measured-first =
       none-applies _ (measureCauses font (r .text) (r .position) (r .lineHeight)) (measuring font r p (h .first-within))
-      ∙ ap dimensions (laid (measuredLetter font false) (measured-follows font more enough))
+      ∙ ap dimensions (laid (measuredAnswer font false) (measured-follows font more enough))
       ∙ first .1
 
   measured-second : measured (font ++ more) r ≡ success d
   unfolding measure
   measured-second =
       none-applies _ (measureCauses (font ++ more) (r .text) (r .position) (r .lineHeight)) (measuring (font ++ more) r q (h .second-within))
-      ∙ ap dimensions (laid-longer (measuredLetter (font ++ more) false) (measured-longer font more enough))
+      ∙ ap dimensions (laid-longer (measuredAnswer (font ++ more) false) (measured-longer font more enough))
       ∙ first .1
 
   -- The third demand.

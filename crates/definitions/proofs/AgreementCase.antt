@@ -24,7 +24,7 @@ use Rattle.definitions.specs.Picture.{textPicture}
 use Rattle.definitions.specs.Framebuffer.{mapAt}
 use Rattle.definitions.specs.Calls.{draw, drawBuffer}
 use Rattle.definitions.specs.FontT.{T}
-use Rattle.definitions.specs.Agreement.{Request, Panel, after, pixel, TwoDrawings, Agree}
+use Rattle.definitions.specs.Agreement.{Request, Framebuffer, after, pixel, TwoDrawings, Agree}
 use Rattle.definitions.proofs.Agreement.{agreement}
 
 abbrev added : List ℕ
@@ -38,10 +38,10 @@ request = record {
   lineHeight = 4;
 }
 
-abbrev small : Panel
+abbrev small : Framebuffer
 small = record { width = 8; height = 8; before = replicate 64 0 }
 
-abbrev large : Panel
+abbrev large : Framebuffer
 large = record { width = 9; height = 12; before = replicate 54 0 ++ replicate 54 7 }
 
 abbrev dimensions : RenderedDimensions

@@ -25,9 +25,9 @@ use Rattle.definitions.specs.Picture.{Paint, keep, put, Picture, covers,
 use Rattle.definitions.specs.Framebuffer.{over, shown, sideOff, framebufferCause}
 use Rattle.definitions.specs.Text.{joinAll, point, layout, dimensions}
 use Rattle.definitions.specs.Utf8.{decodeFrom}
-use Rattle.definitions.specs.Limits.{textCause, placeCause, backgroundCause}
-use Rattle.definitions.specs.Calls.{characters, origin, measuredLetter, measureCauses, measure, drawCauses, drawnText, pixelsOf, draw, drawBuffer}
-use Rattle.definitions.specs.Agreement.{Request, request, Panel, panel, limits, WithinLimits, drawn, after, measured, pixel, KeptOutside, TwoDrawings, Agree}
+use Rattle.definitions.specs.Limits.{textCause, positionCause, backgroundCause}
+use Rattle.definitions.specs.Calls.{characters, origin, measuredAnswer, measureCauses, measure, drawCauses, drawnText, pixelsOf, draw, drawBuffer}
+use Rattle.definitions.specs.Agreement.{Request, request, Framebuffer, framebufferOf, limits, WithinLimits, drawn, after, measured, pixel, KeptOutside, TwoDrawings, Agree}
 use Rattle.definitions.specs.Redraw.{fillPicture, filled, AllOf, cleared, redrawnBuffer, Holds}
 use Rattle.definitions.proofs.FramebufferLaws.{length-shown, shown-at, same-pixels}
 use Rattle.definitions.proofs.PictureLaws.{covers-inside, inside-covers}
@@ -40,7 +40,7 @@ length-by : (t : Bool) (width : ℕ) (picture : Picture) (before : List ℕ) →
 length-by true width picture before = refl
 length-by false width picture before = length-shown width picture before
 
-pub length-after : (font : List ℕ) (r : Request) (p : Panel) → length (after font r p) ≡ length (p .before)
+pub length-after : (font : List ℕ) (r : Request) (p : Framebuffer) → length (after font r p) ≡ length (p .before)
 unfolding drawBuffer
 length-after font r p =
     length-by
@@ -59,7 +59,7 @@ row-below width height column row h = by (decLt row height)
         let past : height ≤ row = omega arith in
         absurd (omega (arith, mul-le-mul-right width past, mul-comm width height))
 
-module _ (font : List ℕ) (r : Request) (p : Panel) (d : RenderedDimensions) (within : WithinLimits font r p)
+module _ (font : List ℕ) (r : Request) (p : Framebuffer) (d : RenderedDimensions) (within : WithinLimits font r p)
     (succeeded : drawn font r p ≡ success d) where
   kept : KeptOutside font r p d
   kept =
@@ -101,7 +101,7 @@ module _ (font : List ℕ) (r : Request) (p : Panel) (d : RenderedDimensions) (w
 
 -- ---- the step
 
-pub within-limits : (font : List ℕ) (r : Request) (p : Panel) (d : RenderedDimensions) → drawn font r p ≡ success d → WithinLimits font r p
+pub within-limits : (font : List ℕ) (r : Request) (p : Framebuffer) (d : RenderedDimensions) → drawn font r p ≡ success d → WithinLimits font r p
 unfolding draw
 within-limits font r p d e =
     let h =
@@ -112,7 +112,7 @@ within-limits font r p d e =
     all-off (limits font r p) (o .0, (o .1 .0, (o .1 .1 .0, (o .1 .1 .1 .0, (o .1 .1 .1 .1 .0, tt)))))
 
 -- A drawing that succeeds is measured alike.
-pub drawn-measured : (font : List ℕ) (r : Request) (p : Panel) (d : RenderedDimensions) → drawn font r p ≡ success d → measured font r ≡ success d
+pub drawn-measured : (font : List ℕ) (r : Request) (p : Framebuffer) (d : RenderedDimensions) → drawn font r p ≡ success d → measured font r ≡ success d
 drawn-measured font r p d e =
     let within = within-limits font r p d e in
     agreement font [] r p p d record {
@@ -125,7 +125,7 @@ drawn-measured font r p d e =
 
 -- What drawing answers depends on the framebuffer's length, and not on what it holds.
 pub same-answer : (font : List ℕ) (r : Request) (width height : ℕ) (a b : List ℕ) → length a ≡ length b
-    → drawn font r (panel width height a) ≡ drawn font r (panel width height b)
+    → drawn font r (framebufferOf width height a) ≡ drawn font r (framebufferOf width height b)
 unfolding draw
 same-answer font r width height a b l =
     ap
@@ -134,7 +134,7 @@ same-answer font r width height a b l =
     (fontCauses font
     ++ record { number = 3; applies = sideOff width || sideOff height || not (eqb n (width * height)) }
     ∷ textCause (r .text)
-    ∷ placeCause (r .position) (r .lineHeight)
+    ∷ positionCause (r .position) (r .lineHeight)
     ∷ backgroundCause (r .style .color) font
     ∷ [])
     (dimensions (drawnText font (r .text) (r .position) (r .style .«vertical_pos») (r .lineHeight) false)))
@@ -143,7 +143,7 @@ same-answer font r width height a b l =
 -- ---- the text with no letters
 
 module _ (font : List ℕ) (position : Point) (style : FontStyle) (lineHeight : ℕ) where
-  empty-layout : dimensions (layout (measuredLetter font false) lineHeight (origin font [] position (style .«vertical_pos») lineHeight) (point (pos 0) (pos 0)) (characters []))
+  empty-layout : dimensions (layout (measuredAnswer font false) lineHeight (origin font [] position (style .«vertical_pos») lineHeight) (point (pos 0) (pos 0)) (characters []))
       ≡ success record { advance = point (pos 0) (pos 0); «bounding_box» = None }
   unfolding layout joinAll decodeFrom
   empty-layout = refl
@@ -152,7 +152,7 @@ module _ (font : List ℕ) (position : Point) (style : FontStyle) (lineHeight : 
   pub empty-has-no-box : (d : RenderedDimensions) → measured font (request [] position style lineHeight) ≡ success d → d .«bounding_box» ≡ None
   unfolding measure
   empty-has-no-box d e =
-      let h = succeeded (dimensions (layout (measuredLetter font false) lineHeight (origin font [] position (style .«vertical_pos») lineHeight) (point (pos 0) (pos 0)) (characters []))) d (measureCauses font [] position lineHeight) e in
+      let h = succeeded (dimensions (layout (measuredAnswer font false) lineHeight (origin font [] position (style .«vertical_pos») lineHeight) (point (pos 0) (pos 0)) (characters []))) d (measureCauses font [] position lineHeight) e in
       let same : success record { advance = point (pos 0) (pos 0); «bounding_box» = None } ≡ success d = sym empty-layout ∙ h .1 in
       boxes d same
     where
@@ -160,18 +160,18 @@ module _ (font : List ℕ) (position : Point) (style : FontStyle) (lineHeight : 
       boxes d e = let same : record { advance = point (pos 0) (pos 0); «bounding_box» = None } ≡ d = cc in sym (ap (λ (x : RenderedDimensions). x .«bounding_box») same)
 
   -- .. and is measured wherever any text at all is drawn
-  pub empty-is-measured : (text : List ℕ) (p : Panel) (d : RenderedDimensions) → drawn font (request text position style lineHeight) p ≡ success d
+  pub empty-is-measured : (text : List ℕ) (p : Framebuffer) (d : RenderedDimensions) → drawn font (request text position style lineHeight) p ≡ success d
       → measured font (request [] position style lineHeight) ≡ success record { advance = point (pos 0) (pos 0); «bounding_box» = None }
   unfolding measure decodeFrom
   empty-is-measured text p d e =
       let o = each-off (limits font (request text position style lineHeight) p) (within-limits font (request text position style lineHeight) p d e) in
       none-applies
-      (dimensions (layout (measuredLetter font false) lineHeight (origin font [] position (style .«vertical_pos») lineHeight) (point (pos 0) (pos 0)) (characters [])))
+      (dimensions (layout (measuredAnswer font false) lineHeight (origin font [] position (style .«vertical_pos») lineHeight) (point (pos 0) (pos 0)) (characters [])))
       (measureCauses font [] position lineHeight)
       (all-off (measureCauses font [] position lineHeight) (o .0, (o .1 .0, (refl, (o .1 .1 .1 .1 .0, tt)))))
       ∙ empty-layout
 
-some-width : (font : List ℕ) (r : Request) (p : Panel) → WithinLimits font r p → 0 < p .width
+some-width : (font : List ℕ) (r : Request) (p : Framebuffer) → WithinLimits font r p → 0 < p .width
 some-width font r p within =
     let o = each-off (limits font r p) within in
     let a = or-false (sideOff (p .width) || sideOff (p .height)) (not (eqb (length (p .before)) (p .width * p .height))) (o .1 .1 .0) .0 in
@@ -181,8 +181,8 @@ some-width font r p within =
 
 module _ (font : List ℕ) (old new : Request) (color width height : ℕ) (entry ground : List ℕ) (d : RenderedDimensions)
     (holds : Holds font old color width height entry ground d) where
-  abbrev base : Panel
-  base = panel width height ground
+  abbrev base : Framebuffer
+  base = framebufferOf width height ground
 
   within : WithinLimits font old base
   within = within-limits font old base d (holds .succeeded)
@@ -196,14 +196,14 @@ module _ (font : List ℕ) (old new : Request) (color width height : ℕ) (entry
       let l : length entry ≡ length ground = ap length (holds .is-drawn) ∙ length-after font old base in
       ap (λ (n : ℕ). sideOff width || sideOff height || not (eqb n (width * height))) l ∙ o .1 .1 .0
 
-  brought-back : cleared color (panel width height entry) (d .«bounding_box») ≡ base
+  brought-back : cleared color (framebufferOf width height entry) (d .«bounding_box») ≡ base
   brought-back =
       let e : filled base color (d .«bounding_box») entry ≡ ground =
       ap (filled base color (d .«bounding_box»)) (holds .is-drawn)
       ∙ fill-restores font old base d within (holds .succeeded) color (holds .all-of-it) (some-width font old base within)
       in
-      ap (panel width height) (rw sized e)
+      ap (framebufferOf width height) (rw sized e)
 
-  pub no-mark-left : redrawnBuffer font old new color (panel width height entry) ≡ after font new base
+  pub no-mark-left : redrawnBuffer font old new color (framebufferOf width height entry) ≡ after font new base
   unfolding redrawnBuffer
-  no-mark-left = rw old-measured (ap (λ (p : Panel). after font new p) brought-back)
+  no-mark-left = rw old-measured (ap (λ (p : Framebuffer). after font new p) brought-back)

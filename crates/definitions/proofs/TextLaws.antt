@@ -20,8 +20,8 @@ use Rattle.types.specs.declared.style.HorizontalAlignment.{HorizontalAlignment}
 use Rattle.types.specs.declared.style.HorizontalAlignment.the-variants.{Left}
 use Rattle.definitions.specs.Refusals.{Outcome, success, refused}
 use Rattle.definitions.specs.Geometry.{join}
-use Rattle.definitions.specs.Text.{Letter, shows, nothing, stops, boxAt, Placed, boxOf, joinAll, Layout, point, newline, before, place, layout, dimensionsOf, dimensions, Line, emptyLine, moved, endLine, extend, aligned}
-use Rattle.definitions.specs.TextSteps.{andThen, newlineStep, nextBox, glyphStep, letterStep, step, measureFrom, start, letterShown, stepShown, orKept, drawFrom, movedBox, LineState, withLine, nextLine, letterOfLine, lineStep, measureLinesFrom, linesDimensions, measureLines}
+use Rattle.definitions.specs.Text.{Answer, shows, nothing, stops, boxAt, Placed, boxOf, joinAll, Layout, point, newline, before, place, layout, dimensionsOf, dimensions, Line, emptyLine, moved, endLine, extend, aligned}
+use Rattle.definitions.specs.TextSteps.{andThen, newlineStep, nextBox, glyphStep, answerStep, step, measureFrom, start, answerShown, stepShown, orKept, drawFrom, movedBox, LineState, withLine, nextLine, answerOfLine, lineStep, measureLinesFrom, linesDimensions, measureLines}
 use Rattle.definitions.specs.Picture.{boxPicture, textPicture}
 use Rattle.definitions.specs.Framebuffer.{shown}
 use Rattle.definitions.specs.Calls.{boxOfLayout}
@@ -41,32 +41,32 @@ join-append (p ∷ ps) qs = ap (join (boxOf p)) (join-append ps qs) ∙ sym (joi
 abbrev pub dimensionsFrom : BoundingBox → Layout → Outcome RenderedDimensions
 dimensionsFrom b l = dimensionsOf (join b (joinAll (l .glyphs))) (l .advance)
 
-module _ (letters : ℕ → Letter) (lineHeight : ℕ) (origin : Point) where
-  measure-place : (d : RenderedDimensions) (l : Letter) (cs : List ℕ)
-      → ((next : RenderedDimensions) → measureFrom letters lineHeight origin next cs ≡ dimensionsFrom (next .«bounding_box») (layout letters lineHeight origin (next .advance) cs))
-      → andThen (letterStep origin d l) (λ next. measureFrom letters lineHeight origin next cs)
-      ≡ dimensionsFrom (d .«bounding_box») (place origin (d .advance) l (λ next. layout letters lineHeight origin next cs))
+module _ (answers : ℕ → Answer) (lineHeight : ℕ) (origin : Point) where
+  measure-place : (d : RenderedDimensions) (l : Answer) (cs : List ℕ)
+      → ((next : RenderedDimensions) → measureFrom answers lineHeight origin next cs ≡ dimensionsFrom (next .«bounding_box») (layout answers lineHeight origin (next .advance) cs))
+      → andThen (answerStep origin d l) (λ next. measureFrom answers lineHeight origin next cs)
+      ≡ dimensionsFrom (d .«bounding_box») (place origin (d .advance) l (λ next. layout answers lineHeight origin next cs))
   unfolding joinAll
   measure-place d (shows g) cs rest = rest (glyphStep origin d g) ∙ rw join-assoc
   measure-place d nothing cs rest = rest d
   measure-place d (stops n c) cs rest = refl
 
-  measure-char : (t : Bool) (d : RenderedDimensions) (l : Letter) (cs : List ℕ)
-      → ((next : RenderedDimensions) → measureFrom letters lineHeight origin next cs ≡ dimensionsFrom (next .«bounding_box») (layout letters lineHeight origin (next .advance) cs))
-      → andThen (pick t (success (newlineStep lineHeight d)) (letterStep origin d l)) (λ next. measureFrom letters lineHeight origin next cs)
-      ≡ dimensionsFrom (d .«bounding_box») (pick t (layout letters lineHeight origin (newline lineHeight (d .advance)) cs) (place origin (d .advance) l (λ next. layout letters lineHeight origin next cs)))
+  measure-char : (t : Bool) (d : RenderedDimensions) (l : Answer) (cs : List ℕ)
+      → ((next : RenderedDimensions) → measureFrom answers lineHeight origin next cs ≡ dimensionsFrom (next .«bounding_box») (layout answers lineHeight origin (next .advance) cs))
+      → andThen (pick t (success (newlineStep lineHeight d)) (answerStep origin d l)) (λ next. measureFrom answers lineHeight origin next cs)
+      ≡ dimensionsFrom (d .«bounding_box») (pick t (layout answers lineHeight origin (newline lineHeight (d .advance)) cs) (place origin (d .advance) l (λ next. layout answers lineHeight origin next cs)))
   measure-char true d l cs rest = rest (newlineStep lineHeight d)
   measure-char false d l cs rest = measure-place d l cs rest
 
   pub measure-from : (cs : List ℕ) (d : RenderedDimensions)
-      → measureFrom letters lineHeight origin d cs ≡ dimensionsFrom (d .«bounding_box») (layout letters lineHeight origin (d .advance) cs)
+      → measureFrom answers lineHeight origin d cs ≡ dimensionsFrom (d .«bounding_box») (layout answers lineHeight origin (d .advance) cs)
   unfolding measureFrom layout joinAll
   measure-from [] d = rw join-none-right
-  measure-from (c ∷ cs) d = measure-char (eqb c 10) d (letters c) cs (measure-from cs)
+  measure-from (c ∷ cs) d = measure-char (eqb c 10) d (answers c) cs (measure-from cs)
 
 -- ---- drawing letter by letter is the text's picture on the framebuffer, up to the refusal if there is one
 
-module _ (width : ℕ) (color : FontColor) (pixelsOf : GlyphReader → List ℕ) (letters : ℕ → Letter) (lineHeight : ℕ) (origin : Point) where
+module _ (width : ℕ) (color : FontColor) (pixelsOf : GlyphReader → List ℕ) (answers : ℕ → Answer) (lineHeight : ℕ) (origin : Point) where
   -- the picture of a layout on a framebuffer
   abbrev on : List ℕ → Layout → List ℕ
   on buffer l = shown width (textPicture color pixelsOf (l .glyphs)) buffer
@@ -75,35 +75,35 @@ module _ (width : ℕ) (color : FontColor) (pixelsOf : GlyphReader → List ℕ)
   abbrev Draws : List ℕ → Type 0
   Draws cs =
       (d : RenderedDimensions) (buffer : List ℕ)
-      → drawFrom width color pixelsOf letters lineHeight origin d buffer cs ≡ on buffer (layout letters lineHeight origin (d .advance) cs)
+      → drawFrom width color pixelsOf answers lineHeight origin d buffer cs ≡ on buffer (layout answers lineHeight origin (d .advance) cs)
 
-  draw-place : (cs : List ℕ) → Draws cs → (d : RenderedDimensions) (buffer : List ℕ) (l : Letter)
-      → orKept (letterStep origin d l) (letterShown width color pixelsOf origin d l buffer) (λ next.
-      drawFrom width color pixelsOf letters lineHeight origin next (letterShown width color pixelsOf origin d l buffer) cs)
-      ≡ on buffer (place origin (d .advance) l (λ next. layout letters lineHeight origin next cs))
+  draw-place : (cs : List ℕ) → Draws cs → (d : RenderedDimensions) (buffer : List ℕ) (l : Answer)
+      → orKept (answerStep origin d l) (answerShown width color pixelsOf origin d l buffer) (λ next.
+      drawFrom width color pixelsOf answers lineHeight origin next (answerShown width color pixelsOf origin d l buffer) cs)
+      ≡ on buffer (place origin (d .advance) l (λ next. layout answers lineHeight origin next cs))
   unfolding textPicture
   draw-place cs rest d buffer (shows g) =
       rest (glyphStep origin d g) _
       ∙ shown-shown width
-      (textPicture color pixelsOf (layout letters lineHeight origin (glyphStep origin d g .advance) cs .glyphs))
+      (textPicture color pixelsOf (layout answers lineHeight origin (glyphStep origin d g .advance) cs .glyphs))
       (boxPicture color (pixelsOf g) (nextBox origin d g))
       buffer
   draw-place cs rest d buffer nothing = rest d buffer
   draw-place cs rest d buffer (stops n c) = sym (shown-blank width buffer)
 
-  draw-char : (cs : List ℕ) → Draws cs → (d : RenderedDimensions) (buffer : List ℕ) (t : Bool) (l : Letter)
-      → orKept (pick t (success (newlineStep lineHeight d)) (letterStep origin d l)) (pick t buffer (letterShown width color pixelsOf origin d l buffer)) (λ next.
-      drawFrom width color pixelsOf letters lineHeight origin next (pick t buffer (letterShown width color pixelsOf origin d l buffer)) cs)
-      ≡ on buffer (pick t (layout letters lineHeight origin (newline lineHeight (d .advance)) cs) (place origin (d .advance) l (λ next. layout letters lineHeight origin next cs)))
+  draw-char : (cs : List ℕ) → Draws cs → (d : RenderedDimensions) (buffer : List ℕ) (t : Bool) (l : Answer)
+      → orKept (pick t (success (newlineStep lineHeight d)) (answerStep origin d l)) (pick t buffer (answerShown width color pixelsOf origin d l buffer)) (λ next.
+      drawFrom width color pixelsOf answers lineHeight origin next (pick t buffer (answerShown width color pixelsOf origin d l buffer)) cs)
+      ≡ on buffer (pick t (layout answers lineHeight origin (newline lineHeight (d .advance)) cs) (place origin (d .advance) l (λ next. layout answers lineHeight origin next cs)))
   draw-char cs rest d buffer true l = rest (newlineStep lineHeight d) buffer
   draw-char cs rest d buffer false l = draw-place cs rest d buffer l
 
   pub draw-from : (cs : List ℕ) (d : RenderedDimensions) (buffer : List ℕ)
-      → drawFrom width color pixelsOf letters lineHeight origin d buffer cs
-      ≡ shown width (textPicture color pixelsOf (layout letters lineHeight origin (d .advance) cs .glyphs)) buffer
+      → drawFrom width color pixelsOf answers lineHeight origin d buffer cs
+      ≡ shown width (textPicture color pixelsOf (layout answers lineHeight origin (d .advance) cs .glyphs)) buffer
   unfolding drawFrom layout textPicture
   draw-from [] d buffer = sym (shown-blank width buffer)
-  draw-from (c ∷ cs) d buffer = draw-char cs (draw-from cs) d buffer (eqb c 10) (letters c)
+  draw-from (c ∷ cs) d buffer = draw-char cs (draw-from cs) d buffer (eqb c 10) (answers c)
 
 -- ---- measuring line by line is the aligned layout's dimensions
 
@@ -159,9 +159,9 @@ zero-plus x = omega (zarith, plus (pos 0) x)
 plus-zero : (x : ℤ) → x +ℤ pos 0 ≡ x
 plus-zero x = omega (zarith, plus x (pos 0))
 
-module _ (letters : ℕ → Letter) (a : HorizontalAlignment) (lineHeight : ℕ) (origin : Point) where
+module _ (answers : ℕ → Answer) (a : HorizontalAlignment) (lineHeight : ℕ) (origin : Point) where
   abbrev lines : ℤ → Line → List ℕ → Layout
-  lines y line cs = aligned letters lineHeight a origin y line cs
+  lines y line cs = aligned answers lineHeight a origin y line cs
 
   -- what is read off the state at the end
   abbrev read : Outcome LineState → Outcome RenderedDimensions
@@ -171,44 +171,44 @@ module _ (letters : ℕ → Letter) (a : HorizontalAlignment) (lineHeight : ℕ)
   abbrev Measures : List ℕ → Type 0
   Measures cs =
       (y : ℤ) (line : Line) (box : BoundingBox)
-      → read (measureLinesFrom letters a lineHeight origin (stateOf line y box) cs) ≡ dimensionsFrom box (lines y line cs)
+      → read (measureLinesFrom answers a lineHeight origin (stateOf line y box) cs) ≡ dimensionsFrom box (lines y line cs)
 
   with-line : (y : ℤ) (line : Line) (box : BoundingBox) → withLine a origin (stateOf line y box) ≡ join box (joinAll (endLine a origin y line))
   with-line y line box = rw join-all-moved
 
   lines-newline : (cs : List ℕ) → Measures cs → (y : ℤ) (line : Line) (box : BoundingBox)
-      → read (measureLinesFrom letters a lineHeight origin (nextLine a lineHeight origin (stateOf line y box)) cs)
+      → read (measureLinesFrom answers a lineHeight origin (nextLine a lineHeight origin (stateOf line y box)) cs)
       ≡ dimensionsFrom box (before (endLine a origin y line) (lines (y +ℤ pos lineHeight) emptyLine cs))
   unfolding joinAll
   lines-newline cs rest y line box =
       rest (y +ℤ pos lineHeight) emptyLine (withLine a origin (stateOf line y box))
       ∙ rw (with-line y line box, join-append, join-assoc)
 
-  lines-letter : (cs : List ℕ) → Measures cs → (y : ℤ) (line : Line) (box : BoundingBox) (l : Letter)
-      → read (andThen (letterOfLine (stateOf line y box) l) (λ next. measureLinesFrom letters a lineHeight origin next cs))
+  lines-answer : (cs : List ℕ) → Measures cs → (y : ℤ) (line : Line) (box : BoundingBox) (l : Answer)
+      → read (andThen (answerOfLine (stateOf line y box) l) (λ next. measureLinesFrom answers a lineHeight origin next cs))
       ≡ dimensionsFrom box (extend line l (λ next. lines y next cs))
   unfolding joinAll
-  lines-letter cs rest y line box (shows g) =
+  lines-answer cs rest y line box (shows g) =
       let p : Placed = record { x = line .advance; y = pos 0; glyph = g } in
       let e : joinAll (line .glyphs ++ p ∷ []) ≡ join (joinAll (line .glyphs)) (boxOf p) = join-append (line .glyphs) (p ∷ []) ∙ rw join-none-right in
       rw (zero-plus (line .advance)) (rw e at (rest y record { glyphs = line .glyphs ++ p ∷ []; advance = line .advance +ℤ g .advance } box))
-  lines-letter cs rest y line box nothing = rest y line box
-  lines-letter cs rest y line box (stops n c) = refl
+  lines-answer cs rest y line box nothing = rest y line box
+  lines-answer cs rest y line box (stops n c) = refl
 
-  lines-char : (cs : List ℕ) → Measures cs → (y : ℤ) (line : Line) (box : BoundingBox) (t : Bool) (l : Letter)
-      → read (andThen (pick t (success (nextLine a lineHeight origin (stateOf line y box))) (letterOfLine (stateOf line y box) l)) (λ next.
-      measureLinesFrom letters a lineHeight origin next cs))
+  lines-char : (cs : List ℕ) → Measures cs → (y : ℤ) (line : Line) (box : BoundingBox) (t : Bool) (l : Answer)
+      → read (andThen (pick t (success (nextLine a lineHeight origin (stateOf line y box))) (answerOfLine (stateOf line y box) l)) (λ next.
+      measureLinesFrom answers a lineHeight origin next cs))
       ≡ dimensionsFrom box (pick t (before (endLine a origin y line) (lines (y +ℤ pos lineHeight) emptyLine cs)) (extend line l (λ next. lines y next cs)))
   lines-char cs rest y line box true l = lines-newline cs rest y line box
-  lines-char cs rest y line box false l = lines-letter cs rest y line box l
+  lines-char cs rest y line box false l = lines-answer cs rest y line box l
 
   lines-from : (cs : List ℕ) → Measures cs
   unfolding measureLinesFrom aligned
   lines-from [] y line box = ap (λ (b : BoundingBox). success record { advance = point (line .advance) y; «bounding_box» = b }) (with-line y line box)
-  lines-from (c ∷ cs) y line box = lines-char cs (lines-from cs) y line box (eqb c 10) (letters c)
+  lines-from (c ∷ cs) y line box = lines-char cs (lines-from cs) y line box (eqb c 10) (answers c)
 
   pub measure-lines : (cs : List ℕ)
-      → measureLines letters a lineHeight origin cs ≡ dimensions (aligned letters lineHeight a origin (pos 0) emptyLine cs)
+      → measureLines answers a lineHeight origin cs ≡ dimensions (aligned answers lineHeight a origin (pos 0) emptyLine cs)
   unfolding joinAll
   measure-lines cs = lines-from cs (pos 0) emptyLine None
 
@@ -245,138 +245,138 @@ whole-dimensions l = by (l .advance) refl
     by (success last) e = rw e
     by (refused n c) e = refl
 
-module _ (letters : ℕ → Letter) (lineHeight : ℕ) (origin : Point) where
+module _ (answers : ℕ → Answer) (lineHeight : ℕ) (origin : Point) where
   -- the plain layout from a line so far
   abbrev plain : ℤ → Line → List ℕ → Layout
-  plain y line cs = before (endLine Left origin y line) (layout letters lineHeight origin (point (line .advance) y) cs)
+  plain y line cs = before (endLine Left origin y line) (layout answers lineHeight origin (point (line .advance) y) cs)
 
   -- what is to be shown of a list of code points, from each line
   abbrev Plain : List ℕ → Type 0
-  Plain cs = (y : ℤ) (line : Line) → whole (aligned letters lineHeight Left origin y line cs) ≡ whole (plain y line cs)
+  Plain cs = (y : ℤ) (line : Line) → whole (aligned answers lineHeight Left origin y line cs) ≡ whole (plain y line cs)
 
   left-newline : (cs : List ℕ) → Plain cs → (y : ℤ) (line : Line)
-      → whole (before (endLine Left origin y line) (aligned letters lineHeight Left origin (y +ℤ pos lineHeight) emptyLine cs))
-      ≡ whole (before (endLine Left origin y line) (layout letters lineHeight origin (point (pos 0) (y +ℤ pos lineHeight)) cs))
+      → whole (before (endLine Left origin y line) (aligned answers lineHeight Left origin (y +ℤ pos lineHeight) emptyLine cs))
+      ≡ whole (before (endLine Left origin y line) (layout answers lineHeight origin (point (pos 0) (y +ℤ pos lineHeight)) cs))
   left-newline cs rest y line =
       let below = y +ℤ pos lineHeight in
-      whole-before (endLine Left origin y line) (aligned letters lineHeight Left origin below emptyLine cs)
+      whole-before (endLine Left origin y line) (aligned answers lineHeight Left origin below emptyLine cs)
       ∙ ap (λ (o : Outcome Layout). andThen o (λ l. success (before (endLine Left origin y line) l))) (rest below emptyLine)
-      ∙ sym (whole-before (endLine Left origin y line) (layout letters lineHeight origin (point (pos 0) below) cs))
+      ∙ sym (whole-before (endLine Left origin y line) (layout answers lineHeight origin (point (pos 0) below) cs))
 
-  left-letter : (cs : List ℕ) → Plain cs → (y : ℤ) (line : Line) (l : Letter)
-      → whole (extend line l (λ next. aligned letters lineHeight Left origin y next cs))
-      ≡ whole (before (endLine Left origin y line) (place origin (point (line .advance) y) l (λ next. layout letters lineHeight origin next cs)))
-  left-letter cs rest y line (shows g) =
+  left-answer : (cs : List ℕ) → Plain cs → (y : ℤ) (line : Line) (l : Answer)
+      → whole (extend line l (λ next. aligned answers lineHeight Left origin y next cs))
+      ≡ whole (before (endLine Left origin y line) (place origin (point (line .advance) y) l (λ next. layout answers lineHeight origin next cs)))
+  left-answer cs rest y line (shows g) =
       let p : Placed = record { x = line .advance; y = pos 0; glyph = g } in
       rest y record { glyphs = line .glyphs ++ p ∷ []; advance = line .advance +ℤ g .advance }
       ∙ rw (map-append (moved (origin .x +ℤ pos 0) (origin .y +ℤ y)) (line .glyphs) (p ∷ []), append-assoc, plus-zero (origin .x), plus-zero (origin .y +ℤ y))
-  left-letter cs rest y line nothing = rest y line
-  left-letter cs rest y line (stops n c) = refl
+  left-answer cs rest y line nothing = rest y line
+  left-answer cs rest y line (stops n c) = refl
 
-  left-char : (cs : List ℕ) → Plain cs → (y : ℤ) (line : Line) (t : Bool) (l : Letter)
-      → whole (pick t (before (endLine Left origin y line) (aligned letters lineHeight Left origin (y +ℤ pos lineHeight) emptyLine cs)) (extend line l (λ next. aligned letters lineHeight Left origin y next cs)))
+  left-char : (cs : List ℕ) → Plain cs → (y : ℤ) (line : Line) (t : Bool) (l : Answer)
+      → whole (pick t (before (endLine Left origin y line) (aligned answers lineHeight Left origin (y +ℤ pos lineHeight) emptyLine cs)) (extend line l (λ next. aligned answers lineHeight Left origin y next cs)))
       ≡ whole
       (before (endLine Left origin y line)
-      (pick t (layout letters lineHeight origin (point (pos 0) (y +ℤ pos lineHeight)) cs) (place origin (point (line .advance) y) l (λ next. layout letters lineHeight origin next cs))))
+      (pick t (layout answers lineHeight origin (point (pos 0) (y +ℤ pos lineHeight)) cs) (place origin (point (line .advance) y) l (λ next. layout answers lineHeight origin next cs))))
   left-char cs rest y line true l = left-newline cs rest y line
-  left-char cs rest y line false l = left-letter cs rest y line l
+  left-char cs rest y line false l = left-answer cs rest y line l
 
   left-from : (cs : List ℕ) → Plain cs
   unfolding aligned layout
   left-from [] y line = rw append-nil
-  left-from (c ∷ cs) y line = left-char cs (left-from cs) y line (eqb c 10) (letters c)
+  left-from (c ∷ cs) y line = left-char cs (left-from cs) y line (eqb c 10) (answers c)
 
   -- The same glyphs at the same places and the same last advance, or the same refusal.
   pub left-is-plain : (cs : List ℕ)
-      → whole (aligned letters lineHeight Left origin (pos 0) emptyLine cs) ≡ whole (layout letters lineHeight origin (point (pos 0) (pos 0)) cs)
+      → whole (aligned answers lineHeight Left origin (pos 0) emptyLine cs) ≡ whole (layout answers lineHeight origin (point (pos 0) (pos 0)) cs)
   left-is-plain cs = left-from cs (pos 0) emptyLine
 
   -- so it has the same dimensions, and measuring line by line is plain measuring
   pub left-dimensions : (cs : List ℕ)
-      → dimensions (aligned letters lineHeight Left origin (pos 0) emptyLine cs) ≡ dimensions (layout letters lineHeight origin (point (pos 0) (pos 0)) cs)
+      → dimensions (aligned answers lineHeight Left origin (pos 0) emptyLine cs) ≡ dimensions (layout answers lineHeight origin (point (pos 0) (pos 0)) cs)
   left-dimensions cs =
-      whole-dimensions (aligned letters lineHeight Left origin (pos 0) emptyLine cs)
+      whole-dimensions (aligned answers lineHeight Left origin (pos 0) emptyLine cs)
       ∙ ap (λ (o : Outcome Layout). andThen o dimensions) (left-is-plain cs)
-      ∙ sym (whole-dimensions (layout letters lineHeight origin (point (pos 0) (pos 0)) cs))
+      ∙ sym (whole-dimensions (layout answers lineHeight origin (point (pos 0) (pos 0)) cs))
 
-  pub left-measures : (cs : List ℕ) → measureLines letters Left lineHeight origin cs ≡ measureFrom letters lineHeight origin start cs
-  left-measures cs = measure-lines letters Left lineHeight origin cs ∙ left-dimensions cs ∙ sym (measure-from letters lineHeight origin cs start)
+  pub left-measures : (cs : List ℕ) → measureLines answers Left lineHeight origin cs ≡ measureFrom answers lineHeight origin start cs
+  left-measures cs = measure-lines answers Left lineHeight origin cs ∙ left-dimensions cs ∙ sym (measure-from answers lineHeight origin cs start)
 
 -- ---- one turn of each loop
 
-module _ (letters : ℕ → Letter) (lineHeight : ℕ) (origin : Point) (d : RenderedDimensions) (c : ℕ) (cs : List ℕ) where
-  pub measure-next : {next : RenderedDimensions} → step letters lineHeight origin d c ≡ success next
-      → measureFrom letters lineHeight origin d (c ∷ cs) ≡ measureFrom letters lineHeight origin next cs
+module _ (answers : ℕ → Answer) (lineHeight : ℕ) (origin : Point) (d : RenderedDimensions) (c : ℕ) (cs : List ℕ) where
+  pub measure-next : {next : RenderedDimensions} → step answers lineHeight origin d c ≡ success next
+      → measureFrom answers lineHeight origin d (c ∷ cs) ≡ measureFrom answers lineHeight origin next cs
   unfolding measureFrom
   measure-next e = rw e
 
-  pub measure-stops : {n k : ℕ} → step letters lineHeight origin d c ≡ refused n k → measureFrom letters lineHeight origin d (c ∷ cs) ≡ refused n k
+  pub measure-stops : {n k : ℕ} → step answers lineHeight origin d c ≡ refused n k → measureFrom answers lineHeight origin d (c ∷ cs) ≡ refused n k
   unfolding measureFrom
   measure-stops e = rw e
 
   module _ (width : ℕ) (color : FontColor) (pixelsOf : GlyphReader → List ℕ) (buffer : List ℕ) where
-    pub draw-next : {next : RenderedDimensions} → step letters lineHeight origin d c ≡ success next
-        → drawFrom width color pixelsOf letters lineHeight origin d buffer (c ∷ cs)
-        ≡ drawFrom width color pixelsOf letters lineHeight origin next (stepShown width color pixelsOf letters origin d c buffer) cs
+    pub draw-next : {next : RenderedDimensions} → step answers lineHeight origin d c ≡ success next
+        → drawFrom width color pixelsOf answers lineHeight origin d buffer (c ∷ cs)
+        ≡ drawFrom width color pixelsOf answers lineHeight origin next (stepShown width color pixelsOf answers origin d c buffer) cs
     unfolding drawFrom
     draw-next e = rw e
 
-    stops-shown : {n k : ℕ} (t : Bool) (l : Letter) → pick t (success (newlineStep lineHeight d)) (letterStep origin d l) ≡ refused n k
-        → pick t buffer (letterShown width color pixelsOf origin d l buffer) ≡ buffer
+    stops-shown : {n k : ℕ} (t : Bool) (l : Answer) → pick t (success (newlineStep lineHeight d)) (answerStep origin d l) ≡ refused n k
+        → pick t buffer (answerShown width color pixelsOf origin d l buffer) ≡ buffer
     stops-shown true l e = refl
     stops-shown false (shows g) e = let z : _≡_ {A = ℕ} 0 1 = cc in absurd (omega arith)
     stops-shown false nothing e = refl
     stops-shown false (stops n k) e = refl
 
-    pub draw-stops : {n k : ℕ} → step letters lineHeight origin d c ≡ refused n k
-        → drawFrom width color pixelsOf letters lineHeight origin d buffer (c ∷ cs) ≡ buffer
+    pub draw-stops : {n k : ℕ} → step answers lineHeight origin d c ≡ refused n k
+        → drawFrom width color pixelsOf answers lineHeight origin d buffer (c ∷ cs) ≡ buffer
     unfolding drawFrom
-    draw-stops e = rw e (stops-shown (eqb c 10) (letters c) e)
+    draw-stops e = rw e (stops-shown (eqb c 10) (answers c) e)
 
-module _ (letters : ℕ → Letter) (a : HorizontalAlignment) (lineHeight : ℕ) (origin : Point) (s : LineState) (c : ℕ) (cs : List ℕ) where
-  pub lines-next : {next : LineState} → lineStep letters a lineHeight origin s c ≡ success next
-      → measureLinesFrom letters a lineHeight origin s (c ∷ cs) ≡ measureLinesFrom letters a lineHeight origin next cs
+module _ (answers : ℕ → Answer) (a : HorizontalAlignment) (lineHeight : ℕ) (origin : Point) (s : LineState) (c : ℕ) (cs : List ℕ) where
+  pub lines-next : {next : LineState} → lineStep answers a lineHeight origin s c ≡ success next
+      → measureLinesFrom answers a lineHeight origin s (c ∷ cs) ≡ measureLinesFrom answers a lineHeight origin next cs
   unfolding measureLinesFrom
   lines-next e = rw e
 
-  pub lines-stop : {n k : ℕ} → lineStep letters a lineHeight origin s c ≡ refused n k
-      → measureLinesFrom letters a lineHeight origin s (c ∷ cs) ≡ refused n k
+  pub lines-stop : {n k : ℕ} → lineStep answers a lineHeight origin s c ≡ refused n k
+      → measureLinesFrom answers a lineHeight origin s (c ∷ cs) ≡ refused n k
   unfolding measureLinesFrom
   lines-stop e = rw e
 
 -- ---- letters of another font
 
 -- The letters of the first that show a glyph show the same one under the second, and none of the first shows nothing.
-pub record Follows (letters letters′ : ℕ → Letter) : Type 0 where
-  pub same : (c : ℕ) (g : GlyphReader) → letters c ≡ shows g → letters′ c ≡ shows g
-  pub some : (c : ℕ) → letters c ≡ nothing → ⊥
+pub record Follows (answers letters′ : ℕ → Answer) : Type 0 where
+  pub same : (c : ℕ) (g : GlyphReader) → answers c ≡ shows g → letters′ c ≡ shows g
+  pub some : (c : ℕ) → answers c ≡ nothing → ⊥
 
-module _ {letters letters′ : ℕ → Letter} (follows : Follows letters letters′) (lineHeight : ℕ) (origin : Point) where
+module _ {answers letters′ : ℕ → Answer} (follows : Follows answers letters′) (lineHeight : ℕ) (origin : Point) where
   -- what is to be shown of a list of code points, from each advance
   abbrev Alike : List ℕ → Type 0
   Alike cs =
-      (advance last : Point) → layout letters lineHeight origin advance cs .advance ≡ success last
-      → layout letters′ lineHeight origin advance cs ≡ layout letters lineHeight origin advance cs
+      (advance last : Point) → layout answers lineHeight origin advance cs .advance ≡ success last
+      → layout letters′ lineHeight origin advance cs ≡ layout answers lineHeight origin advance cs
 
-  same-place : (cs : List ℕ) → Alike cs → (advance last : Point) (c : ℕ) (l : Letter) → letters c ≡ l
-      → place origin advance l (λ next. layout letters lineHeight origin next cs) .advance ≡ success last
+  same-place : (cs : List ℕ) → Alike cs → (advance last : Point) (c : ℕ) (l : Answer) → answers c ≡ l
+      → place origin advance l (λ next. layout answers lineHeight origin next cs) .advance ≡ success last
       → place origin advance (letters′ c) (λ next. layout letters′ lineHeight origin next cs)
-      ≡ place origin advance l (λ next. layout letters lineHeight origin next cs)
+      ≡ place origin advance l (λ next. layout answers lineHeight origin next cs)
   same-place cs rest advance last c (shows g) e k =
       rw (follows .same c g e, rest (point (advance .x +ℤ g .advance) (advance .y)) last k)
   same-place cs rest advance last c nothing e k = absurd (follows .some c e)
   same-place cs rest advance last c (stops n d) e k = let z : _≡_ {A = ℕ} 0 1 = cc in absurd (omega arith)
 
   same-char : (cs : List ℕ) → Alike cs → (advance last : Point) (c : ℕ) (t : Bool)
-      → pick t (layout letters lineHeight origin (newline lineHeight advance) cs) (place origin advance (letters c) (λ next. layout letters lineHeight origin next cs)) .advance ≡ success last
+      → pick t (layout answers lineHeight origin (newline lineHeight advance) cs) (place origin advance (answers c) (λ next. layout answers lineHeight origin next cs)) .advance ≡ success last
       → pick t (layout letters′ lineHeight origin (newline lineHeight advance) cs) (place origin advance (letters′ c) (λ next. layout letters′ lineHeight origin next cs))
-      ≡ pick t (layout letters lineHeight origin (newline lineHeight advance) cs) (place origin advance (letters c) (λ next. layout letters lineHeight origin next cs))
+      ≡ pick t (layout answers lineHeight origin (newline lineHeight advance) cs) (place origin advance (answers c) (λ next. layout answers lineHeight origin next cs))
   same-char cs rest advance last c true k = rest (newline lineHeight advance) last k
-  same-char cs rest advance last c false k = same-place cs rest advance last c (letters c) refl k
+  same-char cs rest advance last c false k = same-place cs rest advance last c (answers c) refl k
 
   -- So a text that ends in success under the first is laid out alike under the second.
-  pub same-layout : (cs : List ℕ) (advance last : Point) → layout letters lineHeight origin advance cs .advance ≡ success last
-      → layout letters′ lineHeight origin advance cs ≡ layout letters lineHeight origin advance cs
+  pub same-layout : (cs : List ℕ) (advance last : Point) → layout answers lineHeight origin advance cs .advance ≡ success last
+      → layout letters′ lineHeight origin advance cs ≡ layout answers lineHeight origin advance cs
   unfolding layout
   same-layout [] advance last k = refl
   same-layout (c ∷ cs) advance last k = same-char cs (same-layout cs) advance last c (eqb c 10) k
@@ -388,20 +388,20 @@ abbrev pub Each : (Placed → Type 0) → List Placed → Type 0
 Each P [] = Unit {0}
 Each P (p ∷ ps) = P p × Each P ps
 
-module _ (P : GlyphReader → Type 0) (letters : ℕ → Letter) (every : (c : ℕ) (g : GlyphReader) → letters c ≡ shows g → P g) (lineHeight : ℕ) (origin : Point) where
+module _ (P : GlyphReader → Type 0) (answers : ℕ → Answer) (every : (c : ℕ) (g : GlyphReader) → answers c ≡ shows g → P g) (lineHeight : ℕ) (origin : Point) where
   abbrev Holds : Layout → Type 0
   Holds l = Each (λ p. P (p .glyph)) (l .glyphs)
 
-  each-letter : (advance : Point) (c : ℕ) (cs : List ℕ) → ((next : Point) → Holds (layout letters lineHeight origin next cs))
-      → (t : Bool) (l : Letter) → letters c ≡ l
-      → Holds (pick t (layout letters lineHeight origin (newline lineHeight advance) cs) (place origin advance l (λ next. layout letters lineHeight origin next cs)))
-  each-letter advance c cs rest true l e = rest (newline lineHeight advance)
-  each-letter advance c cs rest false (shows g) e = (every c g e, rest (point (advance .x +ℤ g .advance) (advance .y)))
-  each-letter advance c cs rest false nothing e = rest advance
-  each-letter advance c cs rest false (stops n k) e = tt
+  each-answer : (advance : Point) (c : ℕ) (cs : List ℕ) → ((next : Point) → Holds (layout answers lineHeight origin next cs))
+      → (t : Bool) (l : Answer) → answers c ≡ l
+      → Holds (pick t (layout answers lineHeight origin (newline lineHeight advance) cs) (place origin advance l (λ next. layout answers lineHeight origin next cs)))
+  each-answer advance c cs rest true l e = rest (newline lineHeight advance)
+  each-answer advance c cs rest false (shows g) e = (every c g e, rest (point (advance .x +ℤ g .advance) (advance .y)))
+  each-answer advance c cs rest false nothing e = rest advance
+  each-answer advance c cs rest false (stops n k) e = tt
 
   -- What is so of each glyph that a letter shows is so of each glyph of the text.
-  pub each-glyph : (cs : List ℕ) (advance : Point) → Each (λ p. P (p .glyph)) (layout letters lineHeight origin advance cs .glyphs)
+  pub each-glyph : (cs : List ℕ) (advance : Point) → Each (λ p. P (p .glyph)) (layout answers lineHeight origin advance cs .glyphs)
   unfolding layout
   each-glyph [] advance = tt
-  each-glyph (c ∷ cs) advance = each-letter advance c cs (each-glyph cs) (eqb c 10) (letters c) refl
+  each-glyph (c ∷ cs) advance = each-answer advance c cs (each-glyph cs) (eqb c 10) (answers c) refl

@@ -26,12 +26,12 @@ use Rattle.definitions.specs.Header.{header, Opened}
 use Rattle.definitions.specs.Geometry.{left, top, spanLength, join}
 use Rattle.definitions.specs.Glyph.{glyph}
 use Rattle.definitions.specs.Utf8.{decode, isUtf8}
-use Rattle.definitions.specs.Text.{Letter, letter, nothing, stops, boxAt, joinAll, Layout, point, newline, place, layout, dimensionsOf, dimensions}
+use Rattle.definitions.specs.Text.{Answer, answer, nothing, stops, boxAt, joinAll, Layout, point, newline, place, layout, dimensionsOf, dimensions}
 use Rattle.definitions.specs.TextSteps.{movedRectangle}
 use Rattle.definitions.specs.Runs.{Pixels, pixels, cut, glyphPixels}
 use Rattle.definitions.specs.Framebuffer.{sideOff, framebufferCause}
-use Rattle.definitions.specs.Limits.{coordinateOff, placeCause, backgroundCause}
-use Rattle.definitions.specs.Calls.{measureCauses, characters, measuredLetter, measure, withRuns, drawable, drawnLetter, draw}
+use Rattle.definitions.specs.Limits.{coordinateOff, positionCause, backgroundCause}
+use Rattle.definitions.specs.Calls.{measureCauses, characters, measuredAnswer, measure, withRuns, drawable, drawnAnswer, draw}
 use Rattle.definitions.specs.Whole.{atZero, measuredAtZero, opposite, drawnWhole, inCorner, boxed, SeenWhole}
 use Rattle.definitions.proofs.OpenedLaws.{or-false, opened-limits}
 use Rattle.definitions.proofs.RefusalLaws.{succeeded, each-off, NoneApplies}
@@ -49,17 +49,17 @@ AlikeOrCut drawn measured = (drawn ≡ measured) ⊎ ((c : ℕ) × (drawn .advan
 
 module _ (font : List ℕ) (lineHeight : ℕ) (origin : Point) where
   abbrev drawnFrom : Point → List ℕ → Layout
-  drawnFrom advance cs = layout (drawnLetter font false) lineHeight origin advance cs
+  drawnFrom advance cs = layout (drawnAnswer font false) lineHeight origin advance cs
 
   abbrev measuredFrom : Point → List ℕ → Layout
-  measuredFrom advance cs = layout (measuredLetter font false) lineHeight origin advance cs
+  measuredFrom advance cs = layout (measuredAnswer font false) lineHeight origin advance cs
 
   module _ (cs : List ℕ) (rest : (advance : Point) → AlikeOrCut (drawnFrom advance cs) (measuredFrom advance cs)) (advance : Point) (c : ℕ) where
     abbrev Placed : Outcome GlyphReader → Outcome GlyphReader → Type 0
     Placed d m =
         AlikeOrCut
-        (place origin advance (letter false d) (λ next. drawnFrom next cs))
-        (place origin advance (letter false m) (λ next. measuredFrom next cs))
+        (place origin advance (answer false d) (λ next. drawnFrom next cs))
+        (place origin advance (answer false m) (λ next. measuredFrom next cs))
 
     after-glyph : (g : GlyphReader)
         → AlikeOrCut (drawnFrom (point (advance .x +ℤ g .advance) (advance .y)) cs) (measuredFrom (point (advance .x +ℤ g .advance) (advance .y)) cs)
@@ -77,8 +77,8 @@ module _ (font : List ℕ) (lineHeight : ℕ) (origin : Point) where
 
     next-char : (t : Bool)
         → AlikeOrCut
-        (pick t (drawnFrom (newline lineHeight advance) cs) (place origin advance (drawnLetter font false c) (λ next. drawnFrom next cs)))
-        (pick t (measuredFrom (newline lineHeight advance) cs) (place origin advance (measuredLetter font false c) (λ next. measuredFrom next cs)))
+        (pick t (drawnFrom (newline lineHeight advance) cs) (place origin advance (drawnAnswer font false c) (λ next. drawnFrom next cs)))
+        (pick t (measuredFrom (newline lineHeight advance) cs) (place origin advance (measuredAnswer font false c) (λ next. measuredFrom next cs)))
     next-char true = rest (newline lineHeight advance)
     next-char false = placed (glyph font c)
 
@@ -138,8 +138,8 @@ module _ {n : ℕ} {advance : Point} (a : Advanced n advance) where
         bottom = omega (zarith, plus (advance .y) (pos lineHeight));
       }
 
-  after-letter : {d : ℤ} → SignedByte d → Advanced (n + 1) (point (advance .x +ℤ d) (advance .y))
-  after-letter {d} s =
+  after-answer : {d : ℤ} → SignedByte d → Advanced (n + 1) (point (advance .x +ℤ d) (advance .y))
+  after-answer {d} s =
       let l = a .left in
       let r = a .right in
       let t = a .top in
@@ -192,32 +192,32 @@ module _ {n : ℕ} {advance : Point} (a : Advanced n advance) where
 
 module _ (font : List ℕ) (opened : Opened font (header font)) (lineHeight : ℕ) (low : lineHeight ≤ 128) where
   abbrev boxFrom : Point → List ℕ → BoundingBox
-  boxFrom advance cs = joinAll (layout (measuredLetter font false) lineHeight (point (pos 0) (pos 0)) advance cs .glyphs)
+  boxFrom advance cs = joinAll (layout (measuredAnswer font false) lineHeight (point (pos 0) (pos 0)) advance cs .glyphs)
 
   -- what is to be shown of a list of code points, from each advance
   abbrev Nears : List ℕ → Type 0
   Nears cs = (n : ℕ) (advance : Point) → n + length cs ≤ 4096 → Advanced n advance → NearBox (boxFrom advance cs)
 
-  near-letter : (c : ℕ) (cs : List ℕ) → Nears cs → (n : ℕ) (advance : Point) → n + length (c ∷ cs) ≤ 4096 → Advanced n advance
+  near-answer : (c : ℕ) (cs : List ℕ) → Nears cs → (n : ℕ) (advance : Point) → n + length (c ∷ cs) ≤ 4096 → Advanced n advance
       → (o : Outcome GlyphReader) → glyph font c ≡ o
-      → NearBox (joinAll (place (point (pos 0) (pos 0)) advance (letter false o) (λ next. layout (measuredLetter font false) lineHeight (point (pos 0) (pos 0)) next cs) .glyphs))
+      → NearBox (joinAll (place (point (pos 0) (pos 0)) advance (answer false o) (λ next. layout (measuredAnswer font false) lineHeight (point (pos 0) (pos 0)) next cs) .glyphs))
   unfolding joinAll
-  near-letter c cs rest n advance few a (success g) e =
+  near-answer c cs rest n advance few a (success g) e =
       let range = glyph-range font (header font) c g opened e in
       near-join (boxAt (pos 0 +ℤ advance .x) (pos 0 +ℤ advance .y) g) (boxFrom (point (advance .x +ℤ g .advance) (advance .y)) cs)
       (near-glyph a (omega arith) range)
-      (rest (n + 1) (point (advance .x +ℤ g .advance) (advance .y)) (omega arith) (after-letter a (range .advance)))
-  near-letter c cs rest n advance few a (refused m d) e = tt
+      (rest (n + 1) (point (advance .x +ℤ g .advance) (advance .y)) (omega arith) (after-answer a (range .advance)))
+  near-answer c cs rest n advance few a (refused m d) e = tt
 
   near-char : (c : ℕ) (cs : List ℕ) → Nears cs → (n : ℕ) (advance : Point) → n + length (c ∷ cs) ≤ 4096 → Advanced n advance
       → (t : Bool)
       → NearBox
       (joinAll
-      (pick t (layout (measuredLetter font false) lineHeight (point (pos 0) (pos 0)) (newline lineHeight advance) cs)
-      (place (point (pos 0) (pos 0)) advance (measuredLetter font false c) (λ next. layout (measuredLetter font false) lineHeight (point (pos 0) (pos 0)) next cs))
+      (pick t (layout (measuredAnswer font false) lineHeight (point (pos 0) (pos 0)) (newline lineHeight advance) cs)
+      (place (point (pos 0) (pos 0)) advance (measuredAnswer font false c) (λ next. layout (measuredAnswer font false) lineHeight (point (pos 0) (pos 0)) next cs))
       .glyphs))
   near-char c cs rest n advance few a true = rest (n + 1) (newline lineHeight advance) (omega arith) (after-newline a low)
-  near-char c cs rest n advance few a false = near-letter c cs rest n advance few a (glyph font c) refl
+  near-char c cs rest n advance few a false = near-answer c cs rest n advance few a (glyph font c) refl
 
   near-text : (cs : List ℕ) → Nears cs
   unfolding layout joinAll
@@ -244,14 +244,14 @@ side-in n l h =
     rw (a, b)
 
 module _ (font text : List ℕ) (lineHeight : ℕ) (advance : Point) (r : Rectangle) (low : lineHeight ≤ 128) (measured : measuredAtZero font text lineHeight ≡ success (boxed advance r)) where
-  abbrev laid : (ℕ → Letter) → Point → Layout
-  laid letters position = laidAt font text Baseline lineHeight letters position
+  abbrev laid : (ℕ → Answer) → Point → Layout
+  laid answers position = laidAt font text Baseline lineHeight answers position
 
   at-zero : (anyApplies (measureCauses font text atZero lineHeight) ≡ false)
-      × (dimensions (laid (measuredLetter font false) atZero) ≡ success (boxed advance r))
+      × (dimensions (laid (measuredAnswer font false) atZero) ≡ success (boxed advance r))
   unfolding measure
   at-zero =
-      succeeded (dimensions (laid (measuredLetter font false) atZero)) (boxed advance r) (measureCauses font text atZero lineHeight) measured
+      succeeded (dimensions (laid (measuredAnswer font false) atZero)) (boxed advance r) (measureCauses font text atZero lineHeight) measured
 
   off : NoneApplies (measureCauses font text atZero lineHeight)
   off = each-off (measureCauses font text atZero lineHeight) (at-zero .0)
@@ -260,26 +260,26 @@ module _ (font text : List ℕ) (lineHeight : ℕ) (advance : Point) (r : Rectan
   pub near : Near r
   near =
       let start : Advanced 0 atZero = record { left = omega zarith; right = omega zarith; top = omega zarith; bottom = omega zarith } in
-      let box = dimensions-success (joinAll (laid (measuredLetter font false) atZero .glyphs)) (laid (measuredLetter font false) atZero .advance) (boxed advance r) (at-zero .1) .1 in
+      let box = dimensions-success (joinAll (laid (measuredAnswer font false) atZero .glyphs)) (laid (measuredAnswer font false) atZero .advance) (boxed advance r) (at-zero .1) .1 in
       subst NearBox box
       (near-text font (opened-limits font (off .0) (off .1 .0)) lineHeight low (characters text) 0 atZero (omega (arith, few-characters text (off .1 .1 .0))) start)
 
-  stands : placeCause (opposite r) lineHeight .applies ≡ false
+  stands : positionCause (opposite r) lineHeight .applies ≡ false
   stands =
       rw (coordinate-in (left r) (near .left-low) (near .left-high), coordinate-in (top r) (near .top-low) (near .top-high), le-ltb 65535 lineHeight (omega arith))
 
   -- what the letters come to, once they are drawn there
-  abbrev letters : Outcome RenderedDimensions
-  letters = dimensions (laid (drawnLetter font false) (opposite r))
+  abbrev answers : Outcome RenderedDimensions
+  answers = dimensions (laid (drawnAnswer font false) (opposite r))
 
-  moved-there : letters ≡ movedDimensions (pos 0 -ℤ left r) (pos 0 -ℤ top r) (dimensions (laid (drawnLetter font false) atZero))
+  moved-there : answers ≡ movedDimensions (pos 0 -ℤ left r) (pos 0 -ℤ top r) (dimensions (laid (drawnAnswer font false) atZero))
   moved-there =
       let x : pos 0 -ℤ left r ≡ (pos 0 -ℤ left r) +ℤ pos 0 = omega (zarith, plus (pos 0 -ℤ left r) (pos 0)) in
       let y : pos 0 -ℤ top r ≡ (pos 0 -ℤ top r) +ℤ pos 0 = omega (zarith, plus (pos 0 -ℤ top r) (pos 0)) in
       let p : opposite r ≡ movedPoint (pos 0 -ℤ left r) (pos 0 -ℤ top r) atZero = cc (x, y) in
-      ap (λ (q : Point). dimensions (laid (drawnLetter font false) q)) p
-      ∙ ap dimensions (text-moved (pos 0 -ℤ left r) (pos 0 -ℤ top r) font text atZero Baseline lineHeight (drawnLetter font false))
-      ∙ dimensions-moved (pos 0 -ℤ left r) (pos 0 -ℤ top r) (laid (drawnLetter font false) atZero)
+      ap (λ (q : Point). dimensions (laid (drawnAnswer font false) q)) p
+      ∙ ap dimensions (text-moved (pos 0 -ℤ left r) (pos 0 -ℤ top r) font text atZero Baseline lineHeight (drawnAnswer font false))
+      ∙ dimensions-moved (pos 0 -ℤ left r) (pos 0 -ℤ top r) (laid (drawnAnswer font false) atZero)
 
   to-corner : movedRectangle (pos 0 -ℤ left r) (pos 0 -ℤ top r) r ≡ inCorner r
   to-corner =
@@ -287,11 +287,11 @@ module _ (font text : List ℕ) (lineHeight : ℕ) (advance : Point) (r : Rectan
       let y : (pos 0 -ℤ top r) +ℤ top r ≡ pos 0 = omega (zarith, minus (pos 0) (top r), plus (pos 0 -ℤ top r) (top r)) in
       cc (x, y)
 
-  seen-letters : SeenWhole advance r letters
-  seen-letters = subst (SeenWhole advance r) (sym moved-there) (by (alike-or-cut font lineHeight atZero (characters text) atZero))
+  seen-answer : SeenWhole advance r answers
+  seen-answer = subst (SeenWhole advance r) (sym moved-there) (by (alike-or-cut font lineHeight atZero (characters text) atZero))
     where
-      by : AlikeOrCut (laid (drawnLetter font false) atZero) (laid (measuredLetter font false) atZero)
-          → SeenWhole advance r (movedDimensions (pos 0 -ℤ left r) (pos 0 -ℤ top r) (dimensions (laid (drawnLetter font false) atZero)))
+      by : AlikeOrCut (laid (drawnAnswer font false) atZero) (laid (measuredAnswer font false) atZero)
+          → SeenWhole advance r (movedDimensions (pos 0 -ℤ left r) (pos 0 -ℤ top r) (dimensions (laid (drawnAnswer font false) atZero)))
       by (inl e) = rw (e, at-zero .1) (ap (boxed advance) to-corner)
       by (inr e) = rw (e .1) (inr refl)
 
@@ -301,9 +301,9 @@ module _ (font text : List ℕ) (lineHeight : ℕ) (advance : Point) (r : Rectan
     sized =
         rw (side-in (r .size .width) (near .some .wide) wide, side-in (r .size .height) (near .some .high) high, eq-eqb (length pixels) (r .size .width * r .size .height) area)
 
-    by-background : (t : Bool) → SeenWhole advance r (pick t (refused 6 0) letters)
+    by-background : (t : Bool) → SeenWhole advance r (pick t (refused 6 0) answers)
     by-background true = inl refl
-    by-background false = seen-letters
+    by-background false = seen-answer
 
     -- All of the text is seen.
     pub seen-whole : SeenWhole advance r (drawnWhole font text lineHeight color r pixels)

@@ -13,7 +13,7 @@ use Rattle.definitions.specs.Refusals.{Outcome, success, Cause, anyAppli
 use Rattle.definitions.specs.Header.{fontCauses}
 use Rattle.definitions.specs.Geometry.{InsideBox}
 use Rattle.definitions.specs.Framebuffer.{framebufferCause}
-use Rattle.definitions.specs.Limits.{textCause, placeCause}
+use Rattle.definitions.specs.Limits.{textCause, positionCause}
 use Rattle.definitions.specs.Calls.{measure, draw, drawBuffer}
 
 -- What the two drawings share: text, place, anchor, line height and ink.
@@ -27,42 +27,42 @@ abbrev pub request : List ℕ → Point → FontStyle → ℕ → Request
 request text position style lineHeight = record { text = text; position = position; style = style; lineHeight = lineHeight }
 
 -- A framebuffer, and what it held before.
-pub record Panel : Type 0 where
+pub record Framebuffer : Type 0 where
   pub width : ℕ
   pub height : ℕ
   pub before : List ℕ
 
-abbrev pub panel : ℕ → ℕ → List ℕ → Panel
-panel width height before = record { width = width; height = height; before = before }
+abbrev pub framebufferOf : ℕ → ℕ → List ℕ → Framebuffer
+framebufferOf width height before = record { width = width; height = height; before = before }
 
 -- Causes 1 to 5 of drawing: the limits of fonts, framebuffers, texts, and of places and line heights.
-abbrev pub limits : List ℕ → Request → Panel → List Cause
+abbrev pub limits : List ℕ → Request → Framebuffer → List Cause
 limits font r p =
     fontCauses font
     ++ framebufferCause (p .width) (p .height) (p .before)
     ∷ textCause (r .text)
-    ∷ placeCause (r .position) (r .lineHeight)
+    ∷ positionCause (r .position) (r .lineHeight)
     ∷ []
 
-abbrev pub WithinLimits : List ℕ → Request → Panel → Type 0
+abbrev pub WithinLimits : List ℕ → Request → Framebuffer → Type 0
 WithinLimits font r p = anyApplies (limits font r p) ≡ false
 
 -- Unknown letters are not skipped, in drawing and in measuring.
-abbrev pub drawn : List ℕ → Request → Panel → Outcome RenderedDimensions
+abbrev pub drawn : List ℕ → Request → Framebuffer → Outcome RenderedDimensions
 drawn font r p = draw font (r .text) (r .position) (r .style) (r .lineHeight) false (p .width) (p .height) (p .before)
 
-abbrev pub after : List ℕ → Request → Panel → List ℕ
+abbrev pub after : List ℕ → Request → Framebuffer → List ℕ
 after font r p = drawBuffer font (r .text) (r .position) (r .style) (r .lineHeight) false (p .width) (p .height) (p .before)
 
 abbrev pub measured : List ℕ → Request → Outcome RenderedDimensions
 measured font r = measure font (r .text) (r .position) (r .style .«vertical_pos») (r .lineHeight) false
 
 -- the pixel (01's cell) of a framebuffer's bytes
-abbrev pub pixel : Panel → List ℕ → ℕ → ℕ → ℕ
+abbrev pub pixel : Framebuffer → List ℕ → ℕ → ℕ → ℕ
 pixel p bytes column row = getD bytes (row * p .width + column) 0
 
 -- No pixel outside the box changes, nor any where there is none: `InsideBox` of none never holds.
-abbrev pub KeptOutside : List ℕ → Request → Panel → RenderedDimensions → Type 0
+abbrev pub KeptOutside : List ℕ → Request → Framebuffer → RenderedDimensions → Type 0
 KeptOutside font r p d =
     (column row : ℕ) → column < p .width → row < p .height
     → (InsideBox (pos column) (pos row) (d .«bounding_box») → ⊥)
@@ -70,14 +70,14 @@ KeptOutside font r p d =
 
 -- The second font is the first with any bytes, or none, added at its end; the second framebuffer is at least as wide and high;
 -- and the first drawing succeeds.
-pub record TwoDrawings (font more : List ℕ) (r : Request) (p q : Panel) (d : RenderedDimensions) : Type 0 where
+pub record TwoDrawings (font more : List ℕ) (r : Request) (p q : Framebuffer) (d : RenderedDimensions) : Type 0 where
   pub first-within : WithinLimits font r p
   pub second-within : WithinLimits (font ++ more) r q
   pub as-wide : p .width ≤ q .width
   pub as-high : p .height ≤ q .height
   pub first-succeeds : drawn font r p ≡ success d
 
-pub record Agree (font more : List ℕ) (r : Request) (p q : Panel) (d : RenderedDimensions) : Type 0 where
+pub record Agree (font more : List ℕ) (r : Request) (p q : Framebuffer) (d : RenderedDimensions) : Type 0 where
   -- the second succeeds, with the same advance and the same box or none
   pub second-succeeds : drawn (font ++ more) r q ≡ success d
   -- measuring succeeds with either font, with exactly that

@@ -26,11 +26,11 @@ use Rattle.definitions.specs.Header.{header, fontCauses}
 use Rattle.definitions.specs.VerticalOffset.{verticalOffset}
 use Rattle.definitions.specs.Glyph.{glyph}
 use Rattle.definitions.specs.Utf8.{decode, codePoints, newlines}
-use Rattle.definitions.specs.Text.{Letter, letter, Layout, point, layout, joinAll, dimensions, aligned, emptyLine}
+use Rattle.definitions.specs.Text.{Answer, answer, Layout, point, layout, joinAll, dimensions, aligned, emptyLine}
 use Rattle.definitions.specs.Runs.{Pixels, pixels, cut, glyphPixels}
 use Rattle.definitions.specs.Picture.{textPicture}
 use Rattle.definitions.specs.Framebuffer.{shown, framebufferCause}
-use Rattle.definitions.specs.Limits.{textCause, placeCause, backgroundCause}
+use Rattle.definitions.specs.Limits.{textCause, positionCause, backgroundCause}
 
 -- ---- opening: the header's values and the default line height
 
@@ -66,7 +66,7 @@ rectangleOutcome (Rectangle·Err e) = refusal e
 
 -- The causes of measuring, in order.
 abbrev pub measureCauses : List ℕ → List ℕ → Point → ℕ → List Cause
-measureCauses font text position lineHeight = fontCauses font ++ textCause text ∷ placeCause position lineHeight ∷ []
+measureCauses font text position lineHeight = fontCauses font ++ textCause text ∷ positionCause position lineHeight ∷ []
 
 -- The letters of a text.
 abbrev pub characters : List ℕ → List ℕ
@@ -80,14 +80,14 @@ origin font text position v lineHeight =
     (position .y +ℤ verticalOffset v (pos (newlines (characters text) * lineHeight)) (header font .ascent) (header font .descent))
 
 -- What a letter shows in measuring, which reads no runs.
-abbrev pub measuredLetter : List ℕ → Bool → ℕ → Letter
-measuredLetter font skip c = letter skip (glyph font c)
+abbrev pub measuredAnswer : List ℕ → Bool → ℕ → Answer
+measuredAnswer font skip c = answer skip (glyph font c)
 
 unfoldable pub measure : List ℕ → List ℕ → Point → VerticalPosition → ℕ → Bool → Outcome RenderedDimensions
 measure font text position v lineHeight skip =
     unlessRefused (measureCauses font text position lineHeight)
     (dimensions
-    (layout (measuredLetter font skip) lineHeight (origin font text position v lineHeight) (point (pos 0) (pos 0)) (characters text)))
+    (layout (measuredAnswer font skip) lineHeight (origin font text position v lineHeight) (point (pos 0) (pos 0)) (characters text)))
 
 abbrev pub dimensionsOutcome : DimensionsResult → Outcome RenderedDimensions
 dimensionsOutcome (Dimensions·Ok d) = success d
@@ -102,7 +102,7 @@ boxOfLayout l (refused n c) = refused n c
 unfoldable pub measureAligned : List ℕ → List ℕ → Point → VerticalPosition → HorizontalAlignment → ℕ → Bool → Outcome BoundingBox
 measureAligned font text position v a lineHeight skip =
     unlessRefused (measureCauses font text position lineHeight)
-    (let l = aligned (measuredLetter font skip) lineHeight a (origin font text position v lineHeight) (pos 0) emptyLine (characters text) in
+    (let l = aligned (measuredAnswer font skip) lineHeight a (origin font text position v lineHeight) (pos 0) emptyLine (characters text) in
     boxOfLayout l (l .advance))
 
 abbrev pub boundingBoxOutcome : BoundingBoxResult → Outcome BoundingBox
@@ -116,7 +116,7 @@ drawCauses font text position style lineHeight width height buffer =
     fontCauses font
     ++ framebufferCause width height buffer
     ∷ textCause text
-    ∷ placeCause position lineHeight
+    ∷ positionCause position lineHeight
     ∷ backgroundCause (style .color) font
     ∷ []
 
@@ -129,8 +129,8 @@ abbrev pub drawable : List ℕ → ℕ → Outcome GlyphReader → Outcome Glyph
 drawable font c (success g) = withRuns c g (glyphPixels font (header font) g)
 drawable font c (refused n d) = refused n d
 
-abbrev pub drawnLetter : List ℕ → Bool → ℕ → Letter
-drawnLetter font skip c = letter skip (drawable font c (glyph font c))
+abbrev pub drawnAnswer : List ℕ → Bool → ℕ → Answer
+drawnAnswer font skip c = answer skip (drawable font c (glyph font c))
 
 abbrev pub pixelList : Pixels → List ℕ
 pixelList (pixels ps) = ps
@@ -142,7 +142,7 @@ pixelsOf font g = pixelList (glyphPixels font (header font) g)
 
 abbrev pub drawnText : List ℕ → List ℕ → Point → VerticalPosition → ℕ → Bool → Layout
 drawnText font text position v lineHeight skip =
-    layout (drawnLetter font skip) lineHeight (origin font text position v lineHeight) (point (pos 0) (pos 0)) (characters text)
+    layout (drawnAnswer font skip) lineHeight (origin font text position v lineHeight) (point (pos 0) (pos 0)) (characters text)
 
 -- What drawing answers ..
 unfoldable pub draw : List ℕ → List ℕ → Point → FontStyle → ℕ → Bool → ℕ → ℕ → List ℕ → Outcome RenderedDimensions

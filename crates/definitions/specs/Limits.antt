@@ -23,8 +23,8 @@ abbrev pub coordinateOff : ℤ → Bool
 coordinateOff z = ltZ z (negsuc 1048575) || ltZ (pos 1048576) z
 
 -- Cause 5: the place as it is given, and a line height of 0 to 65,535.
-abbrev pub placeCause : Point → ℕ → Cause
-placeCause position lineHeight =
+abbrev pub positionCause : Point → ℕ → Cause
+positionCause position lineHeight =
     record { number = 5; applies = coordinateOff (position .x) || coordinateOff (position .y) || ltb 65535 lineHeight }
 
 -- Cause 6: a background colour is wanted, and header byte 1 is 0.

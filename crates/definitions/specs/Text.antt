@@ -18,18 +18,18 @@ use Rattle.types.specs.declared.style.HorizontalAlignment.the-variants.{Left, C
 use Rattle.definitions.specs.Refusals.{Outcome, success, refused}
 use Rattle.definitions.specs.Geometry.{left, join}
 
--- ---- a letter
+-- ---- a character (01's letter)
 
--- A letter shows a glyph, or nothing, or stops the text with a refusal.
-pub data Letter : Type 0 where
-  shows : GlyphReader → Letter
-  nothing : Letter
-  stops : ℕ → ℕ → Letter
+-- What the font answers to it: it shows a glyph, or nothing, or stops the text with a refusal.
+pub data Answer : Type 0 where
+  shows : GlyphReader → Answer
+  nothing : Answer
+  stops : ℕ → ℕ → Answer
 
 -- Skipping unknown letters turns 7 into advance 0 and no box; it never hides 8.
-abbrev pub letter : Bool → Outcome GlyphReader → Letter
-letter skip (success g) = shows g
-letter skip (refused n c) = pick (skip && eqb n 7) nothing (stops n c)
+abbrev pub answer : Bool → Outcome GlyphReader → Answer
+answer skip (success g) = shows g
+answer skip (refused n c) = pick (skip && eqb n 7) nothing (stops n c)
 
 -- The box of a glyph at (X, Y): left X + x, top Y − (h + y). If w or h is 0 there is none.
 abbrev pub boxAt : ℤ → ℤ → GlyphReader → BoundingBox
@@ -72,7 +72,7 @@ abbrev pub before : List Placed → Layout → Layout
 before ps rest = record { glyphs = ps ++ rest .glyphs; advance = rest .advance }
 
 -- A letter stands at the origin moved by the advance so far, and then adds its own advance to x.
-abbrev pub place : Point → Point → Letter → (Point → Layout) → Layout
+abbrev pub place : Point → Point → Answer → (Point → Layout) → Layout
 place origin advance (shows g) rest =
     before
     (record { x = origin .x +ℤ advance .x; y = origin .y +ℤ advance .y; glyph = g } ∷ [])
@@ -81,11 +81,11 @@ place origin advance nothing rest = rest advance
 place origin advance (stops n c) rest = record { glyphs = []; advance = refused n c }
 
 -- A text's letters from the origin on, with the advance so far. Code point 10 is the newline.
-unfoldable pub layout : (ℕ → Letter) → ℕ → Point → Point → List ℕ → Layout
-layout letters lineHeight origin advance [] = record { glyphs = []; advance = success advance }
-layout letters lineHeight origin advance (c ∷ cs) =
-    pick (eqb c 10) (layout letters lineHeight origin (newline lineHeight advance) cs)
-    (place origin advance (letters c) (λ next. layout letters lineHeight origin next cs))
+unfoldable pub layout : (ℕ → Answer) → ℕ → Point → Point → List ℕ → Layout
+layout answers lineHeight origin advance [] = record { glyphs = []; advance = success advance }
+layout answers lineHeight origin advance (c ∷ cs) =
+    pick (eqb c 10) (layout answers lineHeight origin (newline lineHeight advance) cs)
+    (place origin advance (answers c) (λ next. layout answers lineHeight origin next cs))
 
 -- The text's advance is the last one, its box all its letters' boxes joined, or none.
 abbrev pub dimensionsOf : BoundingBox → Outcome Point → Outcome RenderedDimensions
@@ -120,7 +120,7 @@ abbrev pub endLine : HorizontalAlignment → Point → ℤ → Line → List Pla
 endLine a origin y line =
     map (moved (origin .x +ℤ horizontalOffset a (joinAll (line .glyphs)) (line .advance)) (origin .y +ℤ y)) (line .glyphs)
 
-abbrev pub extend : Line → Letter → (Line → Layout) → Layout
+abbrev pub extend : Line → Answer → (Line → Layout) → Layout
 extend line (shows g) rest =
     rest record {
       glyphs = line .glyphs ++ record { x = line .advance; y = pos 0; glyph = g } ∷ [];
@@ -130,10 +130,10 @@ extend line nothing rest = rest line
 extend line (stops n c) rest = record { glyphs = []; advance = refused n c }
 
 -- A text's letters, each line moved once it has ended. `y` is the advance so far in y.
-unfoldable pub aligned : (ℕ → Letter) → ℕ → HorizontalAlignment → Point → ℤ → Line → List ℕ → Layout
-aligned letters lineHeight a origin y line [] =
+unfoldable pub aligned : (ℕ → Answer) → ℕ → HorizontalAlignment → Point → ℤ → Line → List ℕ → Layout
+aligned answers lineHeight a origin y line [] =
     record { glyphs = endLine a origin y line; advance = success (point (line .advance) y) }
-aligned letters lineHeight a origin y line (c ∷ cs) =
+aligned answers lineHeight a origin y line (c ∷ cs) =
     pick (eqb c 10)
-    (before (endLine a origin y line) (aligned letters lineHeight a origin (y +ℤ pos lineHeight) emptyLine cs))
-    (extend line (letters c) (λ next. aligned letters lineHeight a origin y next cs))
+    (before (endLine a origin y line) (aligned answers lineHeight a origin (y +ℤ pos lineHeight) emptyLine cs))
+    (extend line (answers c) (λ next. aligned answers lineHeight a origin y next cs))

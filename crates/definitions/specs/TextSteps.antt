@@ -15,7 +15,7 @@ use Rattle.types.specs.declared.style.FontColor.{FontColor}
 use Rattle.types.specs.declared.style.HorizontalAlignment.{HorizontalAlignment}
 use Rattle.definitions.specs.Refusals.{Outcome, success, refused}
 use Rattle.definitions.specs.Geometry.{left, top, join}
-use Rattle.definitions.specs.Text.{Letter, shows, nothing, stops, boxAt, point, newline, horizontalOffset}
+use Rattle.definitions.specs.Text.{Answer, shows, nothing, stops, boxAt, point, newline, horizontalOffset}
 use Rattle.definitions.specs.Picture.{boxPicture}
 use Rattle.definitions.specs.Framebuffer.{shown}
 
@@ -39,18 +39,18 @@ glyphStep origin d g = record {
   «bounding_box» = join (d .«bounding_box») (nextBox origin d g);
 }
 
-abbrev pub letterStep : Point → RenderedDimensions → Letter → Outcome RenderedDimensions
-letterStep origin d (shows g) = success (glyphStep origin d g)
-letterStep origin d nothing = success d
-letterStep origin d (stops n c) = refused n c
+abbrev pub answerStep : Point → RenderedDimensions → Answer → Outcome RenderedDimensions
+answerStep origin d (shows g) = success (glyphStep origin d g)
+answerStep origin d nothing = success d
+answerStep origin d (stops n c) = refused n c
 
-abbrev pub step : (ℕ → Letter) → ℕ → Point → RenderedDimensions → ℕ → Outcome RenderedDimensions
-step letters lineHeight origin d c = pick (eqb c 10) (success (newlineStep lineHeight d)) (letterStep origin d (letters c))
+abbrev pub step : (ℕ → Answer) → ℕ → Point → RenderedDimensions → ℕ → Outcome RenderedDimensions
+step answers lineHeight origin d c = pick (eqb c 10) (success (newlineStep lineHeight d)) (answerStep origin d (answers c))
 
-unfoldable pub measureFrom : (ℕ → Letter) → ℕ → Point → RenderedDimensions → List ℕ → Outcome RenderedDimensions
-measureFrom letters lineHeight origin d [] = success d
-measureFrom letters lineHeight origin d (c ∷ cs) =
-    andThen (step letters lineHeight origin d c) (λ next. measureFrom letters lineHeight origin next cs)
+unfoldable pub measureFrom : (ℕ → Answer) → ℕ → Point → RenderedDimensions → List ℕ → Outcome RenderedDimensions
+measureFrom answers lineHeight origin d [] = success d
+measureFrom answers lineHeight origin d (c ∷ cs) =
+    andThen (step answers lineHeight origin d c) (λ next. measureFrom answers lineHeight origin next cs)
 
 -- where a text begins
 abbrev pub start : RenderedDimensions
@@ -59,26 +59,26 @@ start = record { advance = point (pos 0) (pos 0); «bounding_box» = None }
 -- ---- drawing: the framebuffer too is carried along
 
 -- A glyph that comes next is shown; other letters draw nothing.
-abbrev pub letterShown : ℕ → FontColor → (GlyphReader → List ℕ) → Point → RenderedDimensions → Letter → List ℕ → List ℕ
-letterShown width color pixelsOf origin d (shows g) buffer =
+abbrev pub answerShown : ℕ → FontColor → (GlyphReader → List ℕ) → Point → RenderedDimensions → Answer → List ℕ → List ℕ
+answerShown width color pixelsOf origin d (shows g) buffer =
     shown width (boxPicture color (pixelsOf g) (nextBox origin d g)) buffer
-letterShown width color pixelsOf origin d nothing buffer = buffer
-letterShown width color pixelsOf origin d (stops n c) buffer = buffer
+answerShown width color pixelsOf origin d nothing buffer = buffer
+answerShown width color pixelsOf origin d (stops n c) buffer = buffer
 
-abbrev pub stepShown : ℕ → FontColor → (GlyphReader → List ℕ) → (ℕ → Letter) → Point → RenderedDimensions → ℕ → List ℕ → List ℕ
-stepShown width color pixelsOf letters origin d c buffer =
-    pick (eqb c 10) buffer (letterShown width color pixelsOf origin d (letters c) buffer)
+abbrev pub stepShown : ℕ → FontColor → (GlyphReader → List ℕ) → (ℕ → Answer) → Point → RenderedDimensions → ℕ → List ℕ → List ℕ
+stepShown width color pixelsOf answers origin d c buffer =
+    pick (eqb c 10) buffer (answerShown width color pixelsOf origin d (answers c) buffer)
 
 -- a refusal leaves what the letters before it drew
 abbrev pub orKept : Outcome RenderedDimensions → List ℕ → (RenderedDimensions → List ℕ) → List ℕ
 orKept (success d) buffer rest = rest d
 orKept (refused n c) buffer rest = buffer
 
-unfoldable pub drawFrom : ℕ → FontColor → (GlyphReader → List ℕ) → (ℕ → Letter) → ℕ → Point → RenderedDimensions → List ℕ → List ℕ → List ℕ
-drawFrom width color pixelsOf letters lineHeight origin d buffer [] = buffer
-drawFrom width color pixelsOf letters lineHeight origin d buffer (c ∷ cs) =
-    let after = stepShown width color pixelsOf letters origin d c buffer in
-    orKept (step letters lineHeight origin d c) after (λ next. drawFrom width color pixelsOf letters lineHeight origin next after cs)
+unfoldable pub drawFrom : ℕ → FontColor → (GlyphReader → List ℕ) → (ℕ → Answer) → ℕ → Point → RenderedDimensions → List ℕ → List ℕ → List ℕ
+drawFrom width color pixelsOf answers lineHeight origin d buffer [] = buffer
+drawFrom width color pixelsOf answers lineHeight origin d buffer (c ∷ cs) =
+    let after = stepShown width color pixelsOf answers origin d c buffer in
+    orKept (step answers lineHeight origin d c) after (λ next. drawFrom width color pixelsOf answers lineHeight origin next after cs)
 
 -- ---- measuring line by line: each line is measured from its own start, and moved once it has ended
 
@@ -104,18 +104,18 @@ abbrev pub nextLine : HorizontalAlignment → ℕ → Point → LineState → Li
 nextLine a lineHeight origin s = record { line = start; y = s .y +ℤ pos lineHeight; box = withLine a origin s }
 
 -- A letter of the line is measured as in plain measuring at (0, 0).
-abbrev pub letterOfLine : LineState → Letter → Outcome LineState
-letterOfLine s l =
-    andThen (letterStep (point (pos 0) (pos 0)) (s .line) l) (λ line. success record { line = line; y = s .y; box = s .box })
+abbrev pub answerOfLine : LineState → Answer → Outcome LineState
+answerOfLine s l =
+    andThen (answerStep (point (pos 0) (pos 0)) (s .line) l) (λ line. success record { line = line; y = s .y; box = s .box })
 
-abbrev pub lineStep : (ℕ → Letter) → HorizontalAlignment → ℕ → Point → LineState → ℕ → Outcome LineState
-lineStep letters a lineHeight origin s c =
-    pick (eqb c 10) (success (nextLine a lineHeight origin s)) (letterOfLine s (letters c))
+abbrev pub lineStep : (ℕ → Answer) → HorizontalAlignment → ℕ → Point → LineState → ℕ → Outcome LineState
+lineStep answers a lineHeight origin s c =
+    pick (eqb c 10) (success (nextLine a lineHeight origin s)) (answerOfLine s (answers c))
 
-unfoldable pub measureLinesFrom : (ℕ → Letter) → HorizontalAlignment → ℕ → Point → LineState → List ℕ → Outcome LineState
-measureLinesFrom letters a lineHeight origin s [] = success s
-measureLinesFrom letters a lineHeight origin s (c ∷ cs) =
-    andThen (lineStep letters a lineHeight origin s c) (λ next. measureLinesFrom letters a lineHeight origin next cs)
+unfoldable pub measureLinesFrom : (ℕ → Answer) → HorizontalAlignment → ℕ → Point → LineState → List ℕ → Outcome LineState
+measureLinesFrom answers a lineHeight origin s [] = success s
+measureLinesFrom answers a lineHeight origin s (c ∷ cs) =
+    andThen (lineStep answers a lineHeight origin s c) (λ next. measureLinesFrom answers a lineHeight origin next cs)
 
 abbrev pub startLines : LineState
 startLines = record { line = start; y = pos 0; box = None }
@@ -124,6 +124,6 @@ startLines = record { line = start; y = pos 0; box = None }
 abbrev pub linesDimensions : HorizontalAlignment → Point → LineState → RenderedDimensions
 linesDimensions a origin s = record { advance = point (s .line .advance .x) (s .y); «bounding_box» = withLine a origin s }
 
-abbrev pub measureLines : (ℕ → Letter) → HorizontalAlignment → ℕ → Point → List ℕ → Outcome RenderedDimensions
-measureLines letters a lineHeight origin cs =
-    andThen (measureLinesFrom letters a lineHeight origin startLines cs) (λ s. success (linesDimensions a origin s))
+abbrev pub measureLines : (ℕ → Answer) → HorizontalAlignment → ℕ → Point → List ℕ → Outcome RenderedDimensions
+measureLines answers a lineHeight origin cs =
+    andThen (measureLinesFrom answers a lineHeight origin startLines cs) (λ s. success (linesDimensions a origin s))

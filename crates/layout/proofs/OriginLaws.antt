@@ -19,7 +19,7 @@ use Rattle.types.specs.declared.style.VerticalPosition.{VerticalPosition}
 use Rattle.definitions.specs.Refusals.{Outcome, success, refused, unlessRefused}
 use Rattle.definitions.specs.Utf8.{decode, isUtf8, newlines}
 use Rattle.definitions.specs.VerticalOffset.{verticalOffset}
-use Rattle.definitions.specs.Limits.{textCause, coordinateOff, placeCause}
+use Rattle.definitions.specs.Limits.{textCause, coordinateOff, positionCause}
 use Rattle.definitions.specs.Calls.{openFont, measureCauses, characters, origin}
 use Rattle.definitions.proofs.OpenedLaws.{or-false, opened, open-goes-on}
 use Rattle.definitions.proofs.Utf8Laws.{utf8-characters, character-count}
@@ -50,7 +50,7 @@ text-limits text e =
       count = omega (arith, newlines-length (characters text), character-count text (utf8-characters (decode text) utf8));
     }
 
-pub record PlaceLimits (position : Point) (lineHeight : ℕ) : Type 0 where
+pub record PositionLimits (position : Point) (lineHeight : ℕ) : Type 0 where
   pub left : negsuc 1048575 ≤ℤ position .x
   pub right : position .x ≤ℤ pos 1048576
   pub top : negsuc 1048575 ≤ℤ position .y
@@ -60,8 +60,8 @@ pub record PlaceLimits (position : Point) (lineHeight : ℕ) : Type 0 where
 coordinate-limits : (z : ℤ) → coordinateOff z ≡ false → (negsuc 1048575 ≤ℤ z) × (z ≤ℤ pos 1048576)
 coordinate-limits z e = let l = or-false (ltZ z (negsuc 1048575)) (ltZ (pos 1048576) z) e in (omega zarith, omega zarith)
 
-pub place-limits : (position : Point) (lineHeight : ℕ) → placeCause position lineHeight .applies ≡ false → PlaceLimits position lineHeight
-place-limits position lineHeight e =
+pub position-limits : (position : Point) (lineHeight : ℕ) → positionCause position lineHeight .applies ≡ false → PositionLimits position lineHeight
+position-limits position lineHeight e =
     let l = or-false _ _ e in
     let k = or-false _ _ (l .0) in
     let x = coordinate-limits (position .x) (k .0) in
@@ -74,7 +74,7 @@ module _ (head : FontReader) (text : List ℕ) (position : Point) (v : VerticalP
   abbrev pub offset : ℤ
   offset = verticalOffset v (pos (newlines (characters text) * lineHeight)) (head .ascent) (head .descent)
 
-  module _ (f : SFits w8 (head .ascent)) (g : SFits w8 (head .descent)) (a : TextLimits text) (b : PlaceLimits position lineHeight) where
+  module _ (f : SFits w8 (head .ascent)) (g : SFits w8 (head .descent)) (a : TextLimits text) (b : PositionLimits position lineHeight) where
     pub offset-near : (negsuc 268431487 ≤ℤ offset) × (offset ≤ℤ pos 128)
     offset-near = offset-limits (newlines (characters text) * lineHeight) f g v (newlines-most (a .count) (b .line))
 
@@ -97,17 +97,17 @@ module _ (head : FontReader) (text : List ℕ) (position : Point) (v : VerticalP
 
   pub record Passed (o : Point) : Type 0 where
     pub text-in : TextLimits text
-    pub place-in : PlaceLimits position lineHeight
+    pub place-in : PositionLimits position lineHeight
     pub is : originBy head text position v lineHeight ≡ o
 
-  passed-by : (s t : Bool) → textCause text .applies ≡ s → placeCause position lineHeight .applies ≡ t → (o : Point)
+  passed-by : (s t : Bool) → textCause text .applies ≡ s → positionCause position lineHeight .applies ≡ t → (o : Point)
       → after (success (originBy head text position v lineHeight)) s t ≡ success o → Passed o
   passed-by true t p q o e = let z : _≡_ {A = ℕ} 0 1 = cc in absurd (omega arith)
   passed-by false true p q o e = let z : _≡_ {A = ℕ} 0 1 = cc in absurd (omega arith)
-  passed-by false false p q o e = record { text-in = text-limits text p; place-in = place-limits position lineHeight q; is = cc }
+  passed-by false false p q o e = record { text-in = text-limits text p; place-in = position-limits position lineHeight q; is = cc }
 
   pub passed : (o : Point) → checkedOrigin head text position v lineHeight ≡ success o → Passed o
-  passed o e = passed-by (textCause text .applies) (placeCause position lineHeight .applies) refl refl o e
+  passed o e = passed-by (textCause text .applies) (positionCause position lineHeight .applies) refl refl o e
 
   pub passed-checked : {o : Point} → SFits w8 (head .ascent) → SFits w8 (head .descent) → Passed o → Checked text o lineHeight
   passed-checked f g p = subst (λ (o : Point). Checked text o lineHeight) (p .is) (origin-checked f g (p .text-in) (p .place-in))
@@ -119,8 +119,8 @@ module _ (head : FontReader) (text : List ℕ) (position : Point) (v : VerticalP
     refused-by false false n c e = let z : _≡_ {A = ℕ} 0 1 = cc in absurd (omega arith)
 
     pub origin-refused : (n c : ℕ) → checkedOrigin head text position v lineHeight ≡ refused n c
-        → unlessRefused (textCause text ∷ placeCause position lineHeight ∷ []) rest ≡ refused n c
-    origin-refused n c e = refused-by (textCause text .applies) (placeCause position lineHeight .applies) n c e
+        → unlessRefused (textCause text ∷ positionCause position lineHeight ∷ []) rest ≡ refused n c
+    origin-refused n c e = refused-by (textCause text .applies) (positionCause position lineHeight .applies) n c e
 
     goes-on-by : (s t : Bool) (o : Point) → after (success (originBy head text position v lineHeight)) s t ≡ success o → after rest s t ≡ rest
     goes-on-by true t o e = let z : _≡_ {A = ℕ} 0 1 = cc in absurd (omega arith)
@@ -128,8 +128,8 @@ module _ (head : FontReader) (text : List ℕ) (position : Point) (v : VerticalP
     goes-on-by false false o e = refl
 
     pub origin-goes-on : (o : Point) → checkedOrigin head text position v lineHeight ≡ success o
-        → unlessRefused (textCause text ∷ placeCause position lineHeight ∷ []) rest ≡ rest
-    origin-goes-on o e = goes-on-by (textCause text .applies) (placeCause position lineHeight .applies) o e
+        → unlessRefused (textCause text ∷ positionCause position lineHeight ∷ []) rest ≡ rest
+    origin-goes-on o e = goes-on-by (textCause text .applies) (positionCause position lineHeight .applies) o e
 
 -- ---- a call that measures, on a font that opens
 

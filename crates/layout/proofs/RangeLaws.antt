@@ -20,8 +20,8 @@ use Rattle.types.specs.declared.glyph_reader.GlyphReader.{GlyphReader}
 use Rattle.definitions.specs.Refusals.{success}
 use Rattle.definitions.specs.Geometry.{SpanInReach, InReach}
 use Rattle.definitions.specs.Utf8.{newlines}
-use Rattle.definitions.specs.Text.{Letter, shows, nothing, stops, boxAt}
-use Rattle.definitions.specs.TextSteps.{newlineStep, nextBox, glyphStep, letterStep, step}
+use Rattle.definitions.specs.Text.{Answer, shows, nothing, stops, boxAt}
+use Rattle.definitions.specs.TextSteps.{newlineStep, nextBox, glyphStep, answerStep, step}
 use Rattle.definitions.proofs.BitsLaws.{SignedByte}
 use Rattle.definitions.proofs.JoinLaws.{reach-join}
 use Rattle.definitions.proofs.GlyphLaws.{InRange}
@@ -148,9 +148,9 @@ module _ {lineHeight at c : ℕ} {cs : List ℕ} {x y : ℤ} {n : ℕ} (some : 1
         bottom = omega (zarith, plus y (pos lineHeight), plus (y +ℤ pos lineHeight) (pos (newlines cs * lineHeight)), plus y (pos ((1 + newlines cs) * lineHeight)));
       }
 
-  pub advanced-letter : Advanced lineHeight at (c ∷ cs) x y → eqb c 10 ≡ false → {d : ℤ} → SignedByte d → Advanced lineHeight (at + n) cs (x +ℤ d) y
+  pub advanced-answer : Advanced lineHeight at (c ∷ cs) x y → eqb c 10 ≡ false → {d : ℤ} → SignedByte d → Advanced lineHeight (at + n) cs (x +ℤ d) y
   unfolding newlines
-  advanced-letter a e {d} s =
+  advanced-answer a e {d} s =
       let b = rw (e, zero-add) at (a .bottom) in
       record { left = omega (zarith, plus x d); right = omega (zarith, plus x d); top = a .top; bottom = b }
 
@@ -177,13 +177,13 @@ has-room k h w =
       box = w .box;
     }
 
-module _ {letters : ℕ → Letter} (small : (c : ℕ) (g : GlyphReader) → letters c ≡ shows g → Small g) where
+module _ {answers : ℕ → Answer} (small : (c : ℕ) (g : GlyphReader) → answers c ≡ shows g → Small g) where
   module _ {lineHeight at c : ℕ} {cs : List ℕ} {d next : RenderedDimensions} {origin : Point} {n : ℕ} (room : HasRoom origin d) (w : Within lineHeight at (c ∷ cs) d) (some : 1 ≤ n) where
-    pub within-next : step letters lineHeight origin d c ≡ success next → Within lineHeight (at + n) cs next
-    within-next e = by (eqb c 10) refl (letters c) refl e
+    pub within-next : step answers lineHeight origin d c ≡ success next → Within lineHeight (at + n) cs next
+    within-next e = by (eqb c 10) refl (answers c) refl e
       where
-        by : (t : Bool) → eqb c 10 ≡ t → (l : Letter) → letters c ≡ l
-            → pick t (success (newlineStep lineHeight d)) (letterStep origin d l) ≡ success next
+        by : (t : Bool) → eqb c 10 ≡ t → (l : Answer) → answers c ≡ l
+            → pick t (success (newlineStep lineHeight d)) (answerStep origin d l) ≡ success next
             → Within lineHeight (at + n) cs next
         by true p l f e =
             let same : newlineStep lineHeight d ≡ next = cc in
@@ -193,7 +193,7 @@ module _ {letters : ℕ → Letter} (small : (c : ℕ) (g : GlyphReader) → let
             let same : glyphStep origin d g ≡ next = cc in
             subst (Within lineHeight (at + n) cs) same
             record {
-              advance = advanced-letter some (w .advance) p (s .advance);
+              advance = advanced-answer some (w .advance) p (s .advance);
               box = reach-join (d .«bounding_box») (nextBox origin d g) (w .box) (box-in-reach g (room .column) (room .row) s);
             }
         by false p nothing f e =

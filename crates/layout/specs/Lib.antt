@@ -1,4 +1,4 @@
-pub mod Letters
+pub mod CharAnswers
 pub mod Ranges
 pub mod Origins
 pub mod Sizes

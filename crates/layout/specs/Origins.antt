@@ -9,7 +9,7 @@ use Rattle.definitions.specs.Refusals.{Outcome, success, refusal, unlessRefused
 use Rattle.definitions.specs.Utf8.{newlines}
 use Rattle.definitions.specs.VerticalOffset.{verticalOffset}
 use Rattle.definitions.specs.Text.{point}
-use Rattle.definitions.specs.Limits.{textCause, placeCause}
+use Rattle.definitions.specs.Limits.{textCause, positionCause}
 use Rattle.definitions.specs.Calls.{characters}
 use Rattle.layout.specs.declared.origin.OriginResult.{OriginResult}
 use Rattle.layout.specs.declared.origin.OriginResult.the-variants.{Ok, Err}
@@ -24,7 +24,7 @@ originBy head text position v lineHeight =
 -- .. unless 01's cause 4 or 5 applies
 abbrev pub checkedOrigin : FontReader → List ℕ → Point → VerticalPosition → ℕ → Outcome Point
 checkedOrigin head text position v lineHeight =
-    unlessRefused (textCause text ∷ placeCause position lineHeight ∷ []) (success (originBy head text position v lineHeight))
+    unlessRefused (textCause text ∷ positionCause position lineHeight ∷ []) (success (originBy head text position v lineHeight))
 
 abbrev pub originOutcome : OriginResult → Outcome Point
 originOutcome (Ok p) = success p

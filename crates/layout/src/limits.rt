@@ -1,7 +1,7 @@
 // The limits of framebuffers, texts, places, line heights and colours: 01's causes 3 to 6.
 ghost use mathlib.Core.Path.{_≡_};
 ghost use Rattle.definitions.specs.Framebuffer.{sideOff};
-ghost use Rattle.definitions.specs.Limits.{textCause, coordinateOff, placeCause};
+ghost use Rattle.definitions.specs.Limits.{textCause, coordinateOff, positionCause};
 ghost use Rattle.layout.specs.Sizes.{sizeOff, colorOff};
 use content::text::is_utf8;
 use types::geometry::Point;
@@ -51,8 +51,8 @@ fn has_bad_coordinate(coordinate: i32) -> bool
 }
 
 // Cause 5. The place is the given one: the anchor and the advance may move a glyph past the limit.
-pub fn has_bad_place(position: Point, line_height: u32) -> bool
-    ensures { λ r. ⌜ r ≡ placeCause position «line_height» .applies ⌝ }
+pub fn has_bad_position(position: Point, line_height: u32) -> bool
+    ensures { λ r. ⌜ r ≡ positionCause position «line_height» .applies ⌝ }
 {
     has_bad_coordinate(position.x)
         | has_bad_coordinate(position.y)

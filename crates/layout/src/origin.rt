@@ -1,9 +1,9 @@
 // Where a text begins: its place, moved by the anchor.
 ghost use mathlib.Core.Path.{_≡_};
 ghost use mathlib.Core.Bool.{false};
-ghost use Rattle.definitions.specs.Limits.{textCause, placeCause};
+ghost use Rattle.definitions.specs.Limits.{textCause, positionCause};
 ghost use Rattle.layout.specs.Origins.{originBy, checkedOrigin, originOutcome};
-use crate::limits::has_bad_place;
+use crate::limits::has_bad_position;
 use crate::limits::has_bad_text;
 use content::text::get_newline_count;
 use content::vertical_offset::compute_vertical_offset;
@@ -24,7 +24,7 @@ fn text_origin(
     vertical_pos: VerticalPosition,
     line_height: u32,
 ) -> Point
-    requires { ⌜ (textCause (now text) .applies ≡ false) × (placeCause position «line_height» .applies ≡ false) ⌝ }
+    requires { ⌜ (textCause (now text) .applies ≡ false) × (positionCause position «line_height» .applies ≡ false) ⌝ }
     ensures { λ r. ⌜ r ≡ originBy head (now (text .entry)) position «vertical_pos» «line_height» ⌝ }
 {
     let newline_count = get_newline_count(text);
@@ -52,11 +52,11 @@ pub fn checked_origin(
     ensures { λ r. ⌜ originOutcome r ≡ checkedOrigin head (now (text .entry)) position «vertical_pos» «line_height» ⌝ }
 {
     let bad_text = has_bad_text(text);
-    let bad_place = has_bad_place(position, line_height);
+    let bad_position = has_bad_position(position, line_height);
     if bad_text {
         return OriginResult::Err(Error::TextEncoding);
     }
-    if bad_place {
+    if bad_position {
         return OriginResult::Err(Error::PositionOrLineHeight);
     }
     OriginResult::Ok(text_origin(head, text, position, vertical_pos, line_height))

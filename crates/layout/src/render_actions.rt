@@ -1,12 +1,12 @@
-// What one letter brings, and by how much an aligned line is moved.
+// What the font answers to one character, and by how much an aligned line is moved.
 ghost use mathlib.Core.Path.{_≡_};
 ghost use lib.IntN.{pos, _+ℤ_, _-ℤ_};
 ghost use Rattle.definitions.specs.Refusals.{refusal};
 ghost use Rattle.definitions.specs.Header.{Opened};
 ghost use Rattle.definitions.specs.Glyph.{glyphOutcome};
-ghost use Rattle.definitions.specs.Text.{letter, boxAt, horizontalOffset};
-ghost use Rattle.definitions.specs.Calls.{measuredLetter};
-ghost use Rattle.layout.specs.Letters.{asLetter, centerOffset};
+ghost use Rattle.definitions.specs.Text.{answer, boxAt, horizontalOffset};
+ghost use Rattle.definitions.specs.Calls.{measuredAnswer};
+ghost use Rattle.layout.specs.CharAnswers.{asAnswer, centerOffset};
 ghost use Rattle.layout.specs.Ranges.{Near, LineInReach};
 use font_reader::retrieve_glyph_data;
 use types::error::Error;
@@ -19,50 +19,50 @@ use types::glyph_reader::GlyphReader;
 use types::results::GlyphResult;
 use types::style::HorizontalAlignment;
 
-// A letter shows a glyph, or nothing where it is unknown and skipped, or stops the text.
-pub enum Letter {
+// A character (01's letter) shows a glyph, or nothing where it is unknown and skipped, or stops the text.
+pub enum Answer {
     Shows(GlyphReader),
     Nothing,
     Stops(Error),
 }
 
-// Only an unknown letter is skipped: the end of the font always stops the text.
-fn skip_unknown(error: Error, ignore_unknown_chars: bool) -> Letter
-    ensures { λ r. ⌜ asLetter r ≡ letter «ignore_unknown_chars» (refusal error) ⌝ }
+// Only an unknown character is skipped: the end of the font always stops the text.
+fn skip_unknown(error: Error, ignore_unknown_chars: bool) -> Answer
+    ensures { λ r. ⌜ asAnswer r ≡ answer «ignore_unknown_chars» (refusal error) ⌝ }
 {
     let Error::GlyphNotFound(_) = error else {
-        return Letter::Stops(error);
+        return Answer::Stops(error);
     };
     if ignore_unknown_chars {
-        return Letter::Nothing;
+        return Answer::Nothing;
     }
-    Letter::Stops(error)
+    Answer::Stops(error)
 }
 
-// The letter that a lookup's answer makes.
-pub fn letter_of(lookup: GlyphResult, ignore_unknown_chars: bool) -> Letter
-    ensures { λ r. ⌜ asLetter r ≡ letter «ignore_unknown_chars» (glyphOutcome lookup) ⌝ }
+// What a lookup comes to in a text.
+pub fn answer_of(lookup: GlyphResult, ignore_unknown_chars: bool) -> Answer
+    ensures { λ r. ⌜ asAnswer r ≡ answer «ignore_unknown_chars» (glyphOutcome lookup) ⌝ }
 {
     let GlyphResult::Ok(glyph) = lookup else {
         let GlyphResult::Err(error) = lookup else {
-            return Letter::Nothing;
+            return Answer::Nothing;
         };
         return skip_unknown(error, ignore_unknown_chars);
     };
-    Letter::Shows(glyph)
+    Answer::Shows(glyph)
 }
 
-// The letter of a code point in measuring, which reads no runs.
+// The answer to a code point in measuring, which reads no runs.
 pub fn try_retrieve_glyph_data(
     font: &[u8],
     head: FontReader,
     ch: u32,
     ignore_unknown_chars: bool,
-) -> Letter
+) -> Answer
     requires { ⌜ Opened (now font) head ⌝ }
-    ensures { λ r. ⌜ asLetter r ≡ measuredLetter (now (font .entry)) «ignore_unknown_chars» ch ⌝ }
+    ensures { λ r. ⌜ asAnswer r ≡ measuredAnswer (now (font .entry)) «ignore_unknown_chars» ch ⌝ }
 {
-    letter_of(retrieve_glyph_data(font, head, ch), ignore_unknown_chars)
+    answer_of(retrieve_glyph_data(font, head, ch), ignore_unknown_chars)
 }
 
 // A coordinate moved by an offset or an advance of a glyph.

@@ -16,9 +16,9 @@ use Rattle.types.specs.declared.style.HorizontalAlignment.the-variants.{Left}
 use Rattle.types.specs.declared.style.VerticalPosition.{VerticalPosition}
 use Rattle.definitions.specs.Refusals.{Outcome, success, refused, Cause, unlessRefused}
 use Rattle.definitions.specs.Utf8.{character, firstCharacter, decode, codePoints}
-use Rattle.definitions.specs.Text.{Letter, shows, dimensions, emptyLine, aligned}
+use Rattle.definitions.specs.Text.{Answer, shows, dimensions, emptyLine, aligned}
 use Rattle.definitions.specs.TextSteps.{LineState, lineStep, measureLinesFrom, startLines, linesDimensions, measureLines}
-use Rattle.definitions.specs.Calls.{openFont, measureCauses, characters, origin, measuredLetter, measure, measureAligned}
+use Rattle.definitions.specs.Calls.{openFont, measureCauses, characters, origin, measuredAnswer, measure, measureAligned}
 use Rattle.definitions.proofs.TextLaws.{measure-lines, boxAlone, box-of-layout, left-dimensions, lines-next, lines-stop}
 use Rattle.definitions.proofs.Utf8Laws.{position, character-count}
 use Rattle.layout.specs.Origins.{checkedOrigin}
@@ -32,11 +32,11 @@ use Rattle.measuring.proofs.MeasureLaws.{checked-characters}
 
 -- ---- the loop
 
-pub record Aligned (letters : ℕ → Letter) (a : HorizontalAlignment) (lineHeight : ℕ) (origin : Point) (text : List ℕ) (s : LineState) (at : ℕ) : Type 0 where
-  pub reached : Reached (measureLinesFrom letters a lineHeight origin) (InLines lineHeight) startLines text s at
+pub record Aligned (answers : ℕ → Answer) (a : HorizontalAlignment) (lineHeight : ℕ) (origin : Point) (text : List ℕ) (s : LineState) (at : ℕ) : Type 0 where
+  pub reached : Reached (measureLinesFrom answers a lineHeight origin) (InLines lineHeight) startLines text s at
 
-module _ {letters : ℕ → Letter} {a : HorizontalAlignment} {lineHeight : ℕ} {origin : Point} {text : List ℕ} (k : Checked text origin lineHeight) where
-  pub aligned-start : Aligned letters a lineHeight origin text startLines 0
+module _ {answers : ℕ → Answer} {a : HorizontalAlignment} {lineHeight : ℕ} {origin : Point} {text : List ℕ} (k : Checked text origin lineHeight) where
+  pub aligned-start : Aligned answers a lineHeight origin text startLines 0
   aligned-start =
       let e = checked-characters k in
       record {
@@ -44,39 +44,39 @@ module _ {letters : ℕ → Letter} {a : HorizontalAlignment} {lineHeight : ℕ}
             record { advance = advanced-start _ (omega (arith, character-count text e, k .short)) (k .line); level = refl; line = tt; box = tt };
       }
 
-  module _ {s : LineState} {at : ℕ} (r : Aligned letters a lineHeight origin text s at) where
+  module _ {s : LineState} {at : ℕ} (r : Aligned answers a lineHeight origin text s at) where
     short : at ≤ 4096
     short = omega (arith, r .reached .inside, k .short)
 
     pub aligned-room : LineHasRoom origin s
     aligned-room = line-has-room short (r .reached .within) k
 
-    pub aligned-end : length text ≤ at → success (linesDimensions a origin s) ≡ measureLines letters a lineHeight origin (codePoints (decode text))
+    pub aligned-end : length text ≤ at → success (linesDimensions a origin s) ≡ measureLines answers a lineHeight origin (codePoints (decode text))
     unfolding measureLinesFrom
     aligned-end h = rw (reached-end (r .reached) h)
 
     module _ {c n : ℕ} (first : firstCharacter (drop at text) ≡ character c n) where
-      pub aligned-next : (small : (c : ℕ) (g : GlyphReader) → letters c ≡ shows g → Small g) {s′ : LineState}
-          → lineStep letters a lineHeight origin s c ≡ success s′ → Aligned letters a lineHeight origin text s′ (at + n)
+      pub aligned-next : (small : (c : ℕ) (g : GlyphReader) → answers c ≡ shows g → Small g) {s′ : LineState}
+          → lineStep answers a lineHeight origin s c ≡ success s′ → Aligned answers a lineHeight origin text s′ (at + n)
       aligned-next small e =
           record {
-            reached = reached-next (r .reached) first (λ cs. lines-next letters a lineHeight origin s c cs e) (λ cs w.
+            reached = reached-next (r .reached) first (λ cs. lines-next answers a lineHeight origin s c cs e) (λ cs w.
                 in-lines-next small a short aligned-room w (position text at first .some) e);
           }
 
-      pub aligned-stops : {m e : ℕ} → lineStep letters a lineHeight origin s c ≡ refused m e
-          → refused m e ≡ measureLines letters a lineHeight origin (codePoints (decode text))
-      aligned-stops e = rw (reached-stops (r .reached) first (λ cs. lines-stop letters a lineHeight origin s c cs e))
+      pub aligned-stops : {m e : ℕ} → lineStep answers a lineHeight origin s c ≡ refused m e
+          → refused m e ≡ measureLines answers a lineHeight origin (codePoints (decode text))
+      aligned-stops e = rw (reached-stops (r .reached) first (λ cs. lines-stop answers a lineHeight origin s c cs e))
 
 -- ---- what the calls share
 
 module _ (font : List ℕ) {head : FontReader} (opens : openFont font ≡ success head) (text : List ℕ) (position : Point) (v : VerticalPosition) (a : HorizontalAlignment) (lineHeight : ℕ) (skip : Bool) where
   pub aligned-is : {o : Point} → checkedOrigin head text position v lineHeight ≡ success o
-      → measureLines (measuredLetter font skip) a lineHeight o (codePoints (decode text)) ≡ alignedDimensions font text position v a lineHeight skip
+      → measureLines (measuredAnswer font skip) a lineHeight o (codePoints (decode text)) ≡ alignedDimensions font text position v a lineHeight skip
   unfolding alignedDimensions
   aligned-is {o} e =
-      ap (λ (p : Point). measureLines (measuredLetter font skip) a lineHeight p (codePoints (decode text))) (sym (origin-is font opens text position v lineHeight e))
-      ∙ measure-lines (measuredLetter font skip) a lineHeight (origin font text position v lineHeight) (codePoints (decode text))
+      ap (λ (p : Point). measureLines (measuredAnswer font skip) a lineHeight p (codePoints (decode text))) (sym (origin-is font opens text position v lineHeight e))
+      ∙ measure-lines (measuredAnswer font skip) a lineHeight (origin font text position v lineHeight) (codePoints (decode text))
       ∙ sym (call-goes-on font opens text position v lineHeight _ e)
 
   pub aligned-refused : {n c : ℕ} → checkedOrigin head text position v lineHeight ≡ refused n c → refused n c ≡ alignedDimensions font text position v a lineHeight skip
@@ -100,12 +100,12 @@ module _ (font text : List ℕ) (position : Point) (v : VerticalPosition) where
   unfolding alignedDimensions measure
   plain-is-left lineHeight skip =
       ap (unlessRefused (measureCauses font text position lineHeight))
-      (left-dimensions (measuredLetter font skip) lineHeight (origin font text position v lineHeight) (characters text))
+      (left-dimensions (measuredAnswer font skip) lineHeight (origin font text position v lineHeight) (characters text))
 
   -- aligned measuring answers with the box
   pub aligned-box : (a : HorizontalAlignment) (lineHeight : ℕ) (skip : Bool)
       → boxAlone (alignedDimensions font text position v a lineHeight skip) ≡ measureAligned font text position v a lineHeight skip
   unfolding alignedDimensions measureAligned
   aligned-box a lineHeight skip =
-      let l = aligned (measuredLetter font skip) lineHeight a (origin font text position v lineHeight) (pos 0) emptyLine (characters text) in
+      let l = aligned (measuredAnswer font skip) lineHeight a (origin font text position v lineHeight) (pos 0) emptyLine (characters text) in
       sym (ap (unlessRefused (measureCauses font text position lineHeight)) (box-of-layout l) ∙ box-unless (measureCauses font text position lineHeight) (dimensions l))

@@ -20,12 +20,12 @@ use Rattle.types.specs.declared.style.HorizontalAlignment.{HorizontalAlignment}
 use Rattle.types.specs.declared.style.HorizontalAlignment.the-variants.{Left, Center, Right}
 use Rattle.definitions.specs.Refusals.{success}
 use Rattle.definitions.specs.Geometry.{left, spanLength, join, SpanInReach, InReach}
-use Rattle.definitions.specs.Text.{Letter, shows, nothing, stops, boxAt, point, horizontalOffset}
-use Rattle.definitions.specs.TextSteps.{nextBox, glyphStep, movedBox, LineState, withLine, nextLine, letterOfLine, lineStep}
+use Rattle.definitions.specs.Text.{Answer, shows, nothing, stops, boxAt, point, horizontalOffset}
+use Rattle.definitions.specs.TextSteps.{nextBox, glyphStep, movedBox, LineState, withLine, nextLine, answerOfLine, lineStep}
 use Rattle.definitions.proofs.JoinLaws.{end, join-end, reach-join}
 use Rattle.definitions.proofs.TextLaws.{either-box}
 use Rattle.layout.specs.Ranges.{Near, HasRoom, Checked, LineSpan, LineInReach, LineHasRoom}
-use Rattle.layout.proofs.RangeLaws.{Small, Advanced, advanced-y, near-row, advanced-newline, advanced-letter, advanced-nothing}
+use Rattle.layout.proofs.RangeLaws.{Small, Advanced, advanced-y, near-row, advanced-newline, advanced-answer, advanced-nothing}
 
 -- ---- boxes
 
@@ -108,8 +108,8 @@ module _ {origin : Point} {s : LineState} (room : LineHasRoom origin s) where
   with-line-in-reach a = reach-join (s .box) _ (room .box) (moved-in-reach (s .line .«bounding_box») (column-near a) (room .row) (room .line))
 
   -- one more letter of the line
-  pub letter-room : HasRoom (point (pos 0) (pos 0)) (s .line)
-  letter-room =
+  pub answer-room : HasRoom (point (pos 0) (pos 0)) (s .line)
+  answer-room =
       let x = x-near in
       let z = room .level in
       record {
@@ -157,13 +157,13 @@ module _ {lineHeight at : ℕ} {rest : List ℕ} {s : LineState} (h : at ≤ 409
       line-join (s .line .«bounding_box») (nextBox (point (pos 0) (pos 0)) (s .line) g) (w .line)
       (line-box {x = pos 0 +ℤ x} {y = pos 0 +ℤ y} g (omega (zarith, plus (pos 0) x)) (omega (zarith, plus (pos 0) x)) (omega (zarith, plus (pos 0) y)) q)
 
-module _ {letters : ℕ → Letter} (small : (c : ℕ) (g : GlyphReader) → letters c ≡ shows g → Small g) (a : HorizontalAlignment) where
+module _ {answers : ℕ → Answer} (small : (c : ℕ) (g : GlyphReader) → answers c ≡ shows g → Small g) (a : HorizontalAlignment) where
   module _ {lineHeight at c : ℕ} {cs : List ℕ} {s next : LineState} {origin : Point} {n : ℕ} (h : at ≤ 4096) (room : LineHasRoom origin s) (w : InLines lineHeight at (c ∷ cs) s) (some : 1 ≤ n) where
-    pub in-lines-next : lineStep letters a lineHeight origin s c ≡ success next → InLines lineHeight (at + n) cs next
-    in-lines-next e = by (eqb c 10) refl (letters c) refl e
+    pub in-lines-next : lineStep answers a lineHeight origin s c ≡ success next → InLines lineHeight (at + n) cs next
+    in-lines-next e = by (eqb c 10) refl (answers c) refl e
       where
-        by : (t : Bool) → eqb c 10 ≡ t → (l : Letter) → letters c ≡ l
-            → pick t (success (nextLine a lineHeight origin s)) (letterOfLine s l) ≡ success next
+        by : (t : Bool) → eqb c 10 ≡ t → (l : Answer) → answers c ≡ l
+            → pick t (success (nextLine a lineHeight origin s)) (answerOfLine s l) ≡ success next
             → InLines lineHeight (at + n) cs next
         by true p l f e =
             let same : nextLine a lineHeight origin s ≡ next = cc in
@@ -174,7 +174,7 @@ module _ {letters : ℕ → Letter} (small : (c : ℕ) (g : GlyphReader) → let
             let longer : LineState = record { line = glyphStep (point (pos 0) (pos 0)) (s .line) g; y = s .y; box = s .box } in
             let same : longer ≡ next = cc in
             subst (InLines lineHeight (at + n) cs) same
-            record { advance = advanced-letter some (w .advance) p (q .advance); level = w .level; line = longer-in-reach h w g q; box = w .box }
+            record { advance = advanced-answer some (w .advance) p (q .advance); level = w .level; line = longer-in-reach h w g q; box = w .box }
         by false p nothing f e =
             let same : s ≡ next = cc in
             subst (InLines lineHeight (at + n) cs) same

@@ -16,9 +16,9 @@ use Rattle.definitions.specs.Refusals.{Outcome, success, refused}
 use Rattle.definitions.specs.Header.{Opened}
 use Rattle.definitions.specs.Glyph.{glyph}
 use Rattle.definitions.specs.Utf8.{character, firstCharacter, characters, decode, codePoints}
-use Rattle.definitions.specs.Text.{Letter, shows, nothing, stops, letter}
+use Rattle.definitions.specs.Text.{Answer, shows, nothing, stops, answer}
 use Rattle.definitions.specs.TextSteps.{step, measureFrom, start}
-use Rattle.definitions.specs.Calls.{measuredLetter}
+use Rattle.definitions.specs.Calls.{measuredAnswer}
 use Rattle.definitions.proofs.GlyphLaws.{glyph-range}
 use Rattle.definitions.proofs.TextLaws.{measure-next, measure-stops}
 use Rattle.definitions.proofs.Utf8Laws.{position, utf8-characters, character-count}
@@ -27,7 +27,7 @@ use Rattle.measuring.proofs.LoopLaws.{Reached, reached-start, reached-e
 use Rattle.layout.proofs.RangeLaws.{Small, in-range-small, Within, advanced-start, has-room, within-next}
 
 -- the glyphs that the letters of an opened font show
-pub shown-glyph : (skip : Bool) (o : Outcome GlyphReader) (g : GlyphReader) → letter skip o ≡ shows g → o ≡ success g
+pub shown-glyph : (skip : Bool) (o : Outcome GlyphReader) (g : GlyphReader) → answer skip o ≡ shows g → o ≡ success g
 shown-glyph skip (success h) g e = cc
 shown-glyph skip (refused n c) g e = by (skip && eqb n 7) e
   where
@@ -35,7 +35,7 @@ shown-glyph skip (refused n c) g e = by (skip && eqb n 7) e
     by true e = let z : _≡_ {A = ℕ} 0 1 = cc in absurd (omega arith)
     by false e = let z : _≡_ {A = ℕ} 0 1 = cc in absurd (omega arith)
 
-pub measured-small : {font : List ℕ} {head : FontReader} → Opened font head → (skip : Bool) (c : ℕ) (g : GlyphReader) → measuredLetter font skip c ≡ shows g → Small g
+pub measured-small : {font : List ℕ} {head : FontReader} → Opened font head → (skip : Bool) (c : ℕ) (g : GlyphReader) → measuredAnswer font skip c ≡ shows g → Small g
 measured-small {font} {head} o skip c g e = in-range-small (glyph-range font head c g o (shown-glyph skip (glyph font c) g e))
 
 -- the code points of a checked text
@@ -44,31 +44,31 @@ checked-characters {text} k = utf8-characters (decode text) (k .utf8)
 
 -- ---- the loop
 
-pub record Measured (letters : ℕ → Letter) (lineHeight : ℕ) (origin : Point) (text : List ℕ) (d : RenderedDimensions) (at : ℕ) : Type 0 where
-  pub reached : Reached (measureFrom letters lineHeight origin) (Within lineHeight) start text d at
+pub record Measured (answers : ℕ → Answer) (lineHeight : ℕ) (origin : Point) (text : List ℕ) (d : RenderedDimensions) (at : ℕ) : Type 0 where
+  pub reached : Reached (measureFrom answers lineHeight origin) (Within lineHeight) start text d at
 
-module _ {letters : ℕ → Letter} {lineHeight : ℕ} {origin : Point} {text : List ℕ} (k : Checked text origin lineHeight) where
-  unfoldable pub measured-start : Measured letters lineHeight origin text start 0
+module _ {answers : ℕ → Answer} {lineHeight : ℕ} {origin : Point} {text : List ℕ} (k : Checked text origin lineHeight) where
+  unfoldable pub measured-start : Measured answers lineHeight origin text start 0
   measured-start =
       let e = checked-characters k in
       record { reached = reached-start e record { advance = advanced-start _ (omega (arith, character-count text e, k .short)) (k .line); box = tt } }
 
-  module _ {d : RenderedDimensions} {at : ℕ} (r : Measured letters lineHeight origin text d at) where
+  module _ {d : RenderedDimensions} {at : ℕ} (r : Measured answers lineHeight origin text d at) where
     pub measured-room : HasRoom origin d
     measured-room = has-room k (omega (arith, r .reached .inside, k .short)) (r .reached .within)
 
-    pub measured-end : length text ≤ at → measureFrom letters lineHeight origin start (codePoints (decode text)) ≡ success d
+    pub measured-end : length text ≤ at → measureFrom answers lineHeight origin start (codePoints (decode text)) ≡ success d
     unfolding measureFrom
     measured-end h = reached-end (r .reached) h
 
     module _ {c n : ℕ} (first : firstCharacter (drop at text) ≡ character c n) where
-      unfoldable pub measured-next : (small : (c : ℕ) (g : GlyphReader) → letters c ≡ shows g → Small g) {d′ : RenderedDimensions}
-          → step letters lineHeight origin d c ≡ success d′ → Measured letters lineHeight origin text d′ (at + n)
+      unfoldable pub measured-next : (small : (c : ℕ) (g : GlyphReader) → answers c ≡ shows g → Small g) {d′ : RenderedDimensions}
+          → step answers lineHeight origin d c ≡ success d′ → Measured answers lineHeight origin text d′ (at + n)
       measured-next small e =
           record {
-            reached = reached-next (r .reached) first (λ cs. measure-next letters lineHeight origin d c cs e) (λ cs w.
+            reached = reached-next (r .reached) first (λ cs. measure-next answers lineHeight origin d c cs e) (λ cs w.
                 within-next small measured-room w (position text at first .some) e);
           }
 
-      pub measured-stops : {m e : ℕ} → step letters lineHeight origin d c ≡ refused m e → measureFrom letters lineHeight origin start (codePoints (decode text)) ≡ refused m e
-      measured-stops e = reached-stops (r .reached) first (λ cs. measure-stops letters lineHeight origin d c cs e)
+      pub measured-stops : {m e : ℕ} → step answers lineHeight origin d c ≡ refused m e → measureFrom answers lineHeight origin start (codePoints (decode text)) ≡ refused m e
+      measured-stops e = reached-stops (r .reached) first (λ cs. measure-stops answers lineHeight origin d c cs e)

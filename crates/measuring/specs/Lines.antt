@@ -10,7 +10,7 @@ use Rattle.types.specs.declared.style.VerticalPosition.{VerticalPosition}
 use Rattle.definitions.specs.Refusals.{Outcome, success, refusal, unlessRefused}
 use Rattle.definitions.specs.Text.{dimensions, emptyLine, aligned}
 use Rattle.definitions.specs.TextSteps as steps
-use Rattle.definitions.specs.Calls.{measureCauses, characters, origin, measuredLetter}
+use Rattle.definitions.specs.Calls.{measureCauses, characters, origin, measuredAnswer}
 use Rattle.measuring.specs.declared.lines.LineState.{LineState}
 use Rattle.measuring.specs.declared.lines.LineResult.{LineResult}
 use Rattle.measuring.specs.declared.lines.LineResult.the-variants.{Ok, Err}
@@ -26,4 +26,4 @@ stateOutcome (Err e) = refusal e
 unfoldable pub alignedDimensions : List ℕ → List ℕ → Point → VerticalPosition → HorizontalAlignment → ℕ → Bool → Outcome RenderedDimensions
 alignedDimensions font text position v a lineHeight skip =
     unlessRefused (measureCauses font text position lineHeight)
-    (dimensions (aligned (measuredLetter font skip) lineHeight a (origin font text position v lineHeight) (pos 0) emptyLine (characters text)))
+    (dimensions (aligned (measuredAnswer font skip) lineHeight a (origin font text position v lineHeight) (pos 0) emptyLine (characters text)))

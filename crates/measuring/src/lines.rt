@@ -3,11 +3,11 @@ ghost use mathlib.Core.Path.{_≡_};
 ghost use Prim.Native.Nat.{_≤_};
 ghost use Rattle.definitions.specs.Header.{Opened};
 ghost use Rattle.definitions.specs.TextSteps.{start, movedBox, withLine, nextLine, lineStep, linesDimensions, measureLines};
-ghost use Rattle.definitions.specs.Calls.{characters, measuredLetter, dimensionsOutcome};
+ghost use Rattle.definitions.specs.Calls.{characters, measuredAnswer, dimensionsOutcome};
 ghost use Rattle.measuring.specs.Lines.{asState, stateOutcome, alignedDimensions};
 ghost use Rattle.layout.specs.Ranges.{Near, LineInReach, LineHasRoom, Checked};
-use crate::rendered_dimensions::NEWLINE;
-use crate::rendered_dimensions::add_letter;
+use crate::steps::NEWLINE;
+use crate::steps::add_answer;
 use content::text::NextChar;
 use content::text::next_char;
 use font_reader::new_from_raw_data;
@@ -108,15 +108,15 @@ fn add_char(
     ignore_unknown_chars: bool,
 ) -> LineResult
     requires { ⌜ Opened (now font) head × (LineHasRoom origin (asState state) × («line_height» ≤ 65535)) ⌝ }
-    ensures { λ r. ⌜ stateOutcome r ≡ lineStep (measuredLetter (now (font .entry)) «ignore_unknown_chars») «horizontal_align» «line_height» origin (asState state) ch ⌝ }
+    ensures { λ r. ⌜ stateOutcome r ≡ lineStep (measuredAnswer (now (font .entry)) «ignore_unknown_chars») «horizontal_align» «line_height» origin (asState state) ch ⌝ }
 {
     if ch == NEWLINE {
         return LineResult::Ok(add_newline(state, horizontal_align, line_height, origin));
     }
-    let letter = try_retrieve_glyph_data(font, head, ch, ignore_unknown_chars);
+    let answer = try_retrieve_glyph_data(font, head, ch, ignore_unknown_chars);
     let line_so_far = state.line;
     let bounding_box = state.bounding_box;
-    match add_letter(line_so_far, Point { x: 0, y: 0 }, letter) {
+    match add_answer(line_so_far, Point { x: 0, y: 0 }, answer) {
         DimensionsResult::Err(error) => LineResult::Err(error),
         DimensionsResult::Ok(line) => {
             LineResult::Ok(LineState {
@@ -159,7 +159,7 @@ fn measure_lines(
     ignore_unknown_chars: bool,
 ) -> DimensionsResult
     requires { ⌜ Opened (now font) head × Checked (now text) origin «line_height» ⌝ }
-    ensures { λ r. ⌜ dimensionsOutcome r ≡ measureLines (measuredLetter (now (font .entry)) «ignore_unknown_chars») «horizontal_align» «line_height» origin (characters (now (text .entry))) ⌝ }
+    ensures { λ r. ⌜ dimensionsOutcome r ≡ measureLines (measuredAnswer (now (font .entry)) «ignore_unknown_chars») «horizontal_align» «line_height» origin (characters (now (text .entry))) ⌝ }
 {
     let mut state = LineState {
         line: empty_line(),

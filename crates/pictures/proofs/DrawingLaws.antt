@@ -23,8 +23,8 @@ use Rattle.types.specs.declared.style.VerticalPosition.the-variants.{Baseline}
 use Rattle.definitions.specs.Refusals.{Outcome, success, refused, unlessRefused}
 use Rattle.definitions.specs.Header.{header, signedByte}
 use Rattle.definitions.specs.Text.{dimensions}
-use Rattle.definitions.specs.Limits.{textCause, placeCause}
-use Rattle.definitions.specs.Calls.{openFont, measuredLetter, measure}
+use Rattle.definitions.specs.Limits.{textCause, positionCause}
+use Rattle.definitions.specs.Calls.{openFont, measuredAnswer, measure}
 use Rattle.definitions.specs.Whole.{atZero, measuredAtZero, drawnWhole, shownWhole, boxed, SeenWhole}
 use Rattle.definitions.proofs.OpenedLaws.{opened, open-refused}
 use Rattle.definitions.proofs.MovedLaws.{laidAt}
@@ -76,8 +76,8 @@ module _ (font text : List ℕ) (lineHeight : ℕ) where
   unfolding measure
   opening-refused {n} {c} e =
       open-refused font
-      (unlessRefused (textCause text ∷ placeCause atZero lineHeight ∷ [])
-      (dimensions (laidAt font text Baseline lineHeight (measuredLetter font false) atZero)))
+      (unlessRefused (textCause text ∷ positionCause atZero lineHeight ∷ [])
+      (dimensions (laidAt font text Baseline lineHeight (measuredAnswer font false) atZero)))
       n c e
 
 low-height : (b : ℕ) → b < 256 → pos 0 ≤ℤ signed8 b → natAbs (signed8 b +ℤ pos 1) ≤ 128

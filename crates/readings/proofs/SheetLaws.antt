@@ -15,7 +15,7 @@ use Rattle.types.specs.declared.geometry.BoundingBox.the-variants.{None, Some}
 use Rattle.types.specs.declared.geometry.RenderedDimensions.{RenderedDimensions}
 use Rattle.definitions.specs.Refusals.{Outcome, success, refused}
 use Rattle.definitions.specs.Framebuffer.{framebufferCause}
-use Rattle.definitions.specs.Agreement.{Request, Panel, panel, drawn, after, measured}
+use Rattle.definitions.specs.Agreement.{Request, Framebuffer, framebufferOf, drawn, after, measured}
 use Rattle.definitions.specs.Redraw.{fillPicture, filled, clearedBuffer, cleared, redrawnOver, afterOver, redrawnBuffer, Holds}
 use Rattle.definitions.proofs.FramebufferLaws.{length-shown, shown-blank}
 use Rattle.definitions.proofs.RedrawLaws.{length-after, drawn-measured, same-answer, empty-has-no-box, empty-is-measured, no-mark-left}
@@ -29,7 +29,7 @@ use Rattle.readings.specs.Sheet.{narrowedBox, toFill, stepAnswer, stepBu
 
 -- ---- filling
 
-module _ (color : ℕ) (p : Panel) where
+module _ (color : ℕ) (p : Framebuffer) where
   length-cleared : (box : BoundingBox) → length (clearedBuffer color p box) ≡ length (p .before)
   length-cleared box = by (framebufferCause (p .width) (p .height) (p .before) .applies)
     where
@@ -58,8 +58,8 @@ still-refused true n c = refl
 still-refused false n c = refl
 
 module _ (narrow : Bool) (font : List ℕ) (old new : Request) (color width height : ℕ) (bytes : List ℕ) where
-  abbrev screen : Panel
-  screen = panel width height bytes
+  abbrev screen : Framebuffer
+  screen = framebufferOf width height bytes
 
   module _ (d : RenderedDimensions) (m : measured font old ≡ success d) where
     pub step-answer : stepAnswer narrow font old new color screen ≡ drawn font new screen
@@ -82,7 +82,7 @@ module _ (narrow : Bool) (font : List ℕ) (old new : Request) (color width heig
     step-over-nothing none =
         let f = to-fill narrow d in
         rw (m, f .1 .0, f .1 .1 none)
-        (ap (λ (b : List ℕ). after font new (panel width height b)) (none-cleared color screen))
+        (ap (λ (b : List ℕ). after font new (framebufferOf width height b)) (none-cleared color screen))
 
   pub step-stops : (n c : ℕ) → measured font old ≡ refused n c → stepAnswer narrow font old new color screen ≡ refused n c
   unfolding stepAnswer

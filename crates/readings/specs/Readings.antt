@@ -4,7 +4,7 @@ use Prim.Native.Nat.{ℕ}
 use lib.Dec.{leb}
 use lib.IntN.{pos, _-ℤ_}
 use Rattle.integers.specs.Integers.{pick}
-use Rattle.definitions.specs.Agreement.{Request, request, Panel, panel}
+use Rattle.definitions.specs.Agreement.{Request, request, Framebuffer, framebufferOf}
 use Rattle.angles.specs.AngleText.{angleText}
 use Rattle.readings.specs.declared.values.Place.{Place}
 
@@ -20,5 +20,5 @@ abbrev pub reading : Place → ℕ → Request
 reading place k = asked place (readingText k)
 
 -- a framebuffer of the place's size
-abbrev pub framebuffer : Place → List ℕ → Panel
-framebuffer place bytes = panel (place .width) (place .height) bytes
+abbrev pub framebuffer : Place → List ℕ → Framebuffer
+framebuffer place bytes = framebufferOf (place .width) (place .height) bytes

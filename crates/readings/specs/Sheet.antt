@@ -9,7 +9,7 @@ use Rattle.types.specs.declared.geometry.BoundingBox.{BoundingBox}
 use Rattle.types.specs.declared.geometry.BoundingBox.the-variants.{None, Some}
 use Rattle.types.specs.declared.geometry.RenderedDimensions.{RenderedDimensions}
 use Rattle.definitions.specs.Refusals.{Outcome, success, refused, refusal}
-use Rattle.definitions.specs.Agreement.{Request, Panel, panel, drawn, after, measured}
+use Rattle.definitions.specs.Agreement.{Request, Framebuffer, framebufferOf, drawn, after, measured}
 use Rattle.definitions.specs.Redraw.{redrawnOver, afterOver}
 use Rattle.redraw.specs.Differences.{differences}
 use Rattle.readings.specs.declared.values.Checked.{Checked}
@@ -38,10 +38,10 @@ toFill true (refused n c) = refused n c
 toFill false o = o
 
 -- The step of Redraw.antt, with the fault or without.
-unfoldable pub stepAnswer : Bool → List ℕ → Request → Request → ℕ → Panel → Outcome RenderedDimensions
+unfoldable pub stepAnswer : Bool → List ℕ → Request → Request → ℕ → Framebuffer → Outcome RenderedDimensions
 stepAnswer narrow font old new color p = redrawnOver font new color p (toFill narrow (measured font old))
 
-unfoldable pub stepBuffer : Bool → List ℕ → Request → Request → ℕ → Panel → List ℕ
+unfoldable pub stepBuffer : Bool → List ℕ → Request → Request → ℕ → Framebuffer → List ℕ
 stepBuffer narrow font old new color p = afterOver font new color p (toFill narrow (measured font old))
 
 -- what the sheet finds: how many pixels differ, if the reading was drawn
@@ -49,10 +49,10 @@ abbrev pub found : Outcome RenderedDimensions → ℕ → Outcome ℕ
 found (success d) n = success n
 found (refused n c) m = refused n c
 
-abbrev pub stepFinding : Bool → List ℕ → Request → Request → ℕ → Panel → List ℕ → Outcome ℕ
+abbrev pub stepFinding : Bool → List ℕ → Request → Request → ℕ → Framebuffer → List ℕ → Outcome ℕ
 stepFinding narrow font old new color p ground =
     found (stepAnswer narrow font old new color p)
-    (differences (stepBuffer narrow font old new color p) (after font new (panel (p .width) (p .height) ground)))
+    (differences (stepBuffer narrow font old new color p) (after font new (framebufferOf (p .width) (p .height) ground)))
 
 abbrev pub checkedOutcome : Checked → Outcome ℕ
 checkedOutcome (Differs n) = success n

@@ -7,17 +7,17 @@ use Rattle.types.specs.declared.geometry.BoundingBox.{BoundingBox}
 use Rattle.types.specs.declared.geometry.RenderedDimensions.{RenderedDimensions}
 use Rattle.definitions.specs.Refusals.{Outcome, success, refused}
 use Rattle.definitions.specs.Framebuffer.{framebufferCause}
-use Rattle.definitions.specs.Agreement.{Request, Panel, panel, drawn, after, measured}
+use Rattle.definitions.specs.Agreement.{Request, Framebuffer, framebufferOf, drawn, after, measured}
 use Rattle.definitions.specs.Redraw.{filled, clearedBuffer, cleared, redrawn, redrawnBuffer}
 
-module _ (color : ℕ) (p : Panel) (box : BoundingBox) where
+module _ (color : ℕ) (p : Framebuffer) (box : BoundingBox) where
   pub not-filled : framebufferCause (p .width) (p .height) (p .before) .applies ≡ true → p .before ≡ clearedBuffer color p box
   not-filled e = rw e
 
   pub is-filled : framebufferCause (p .width) (p .height) (p .before) .applies ≡ false → filled p color box (p .before) ≡ clearedBuffer color p box
   is-filled e = rw e
 
-module _ (font : List ℕ) (old new : Request) (color : ℕ) (p : Panel) where
+module _ (font : List ℕ) (old new : Request) (color : ℕ) (p : Framebuffer) where
   module _ (n c : ℕ) (e : measured font old ≡ refused n c) where
     pub stops : redrawn font old new color p ≡ refused n c
     unfolding redrawn
@@ -28,10 +28,10 @@ module _ (font : List ℕ) (old new : Request) (color : ℕ) (p : Panel) where
     stays = rw e
 
   module _ (d : RenderedDimensions) (e : measured font old ≡ success d) {bytes : List ℕ} (f : bytes ≡ clearedBuffer color p (d .«bounding_box»)) where
-    pub answers : {answer : Outcome RenderedDimensions} → answer ≡ drawn font new (panel (p .width) (p .height) bytes) → answer ≡ redrawn font old new color p
+    pub answers : {answer : Outcome RenderedDimensions} → answer ≡ drawn font new (framebufferOf (p .width) (p .height) bytes) → answer ≡ redrawn font old new color p
     unfolding redrawn
-    answers a = a ∙ rw e (ap (λ (b : List ℕ). drawn font new (panel (p .width) (p .height) b)) f)
+    answers a = a ∙ rw e (ap (λ (b : List ℕ). drawn font new (framebufferOf (p .width) (p .height) b)) f)
 
-    pub shows : {exit : List ℕ} → exit ≡ after font new (panel (p .width) (p .height) bytes) → exit ≡ redrawnBuffer font old new color p
+    pub shows : {exit : List ℕ} → exit ≡ after font new (framebufferOf (p .width) (p .height) bytes) → exit ≡ redrawnBuffer font old new color p
     unfolding redrawnBuffer
-    shows a = a ∙ rw e (ap (λ (b : List ℕ). after font new (panel (p .width) (p .height) b)) f)
+    shows a = a ∙ rw e (ap (λ (b : List ℕ). after font new (framebufferOf (p .width) (p .height) b)) f)

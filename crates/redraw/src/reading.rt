@@ -1,7 +1,7 @@
 // A reading drawn over the one before, as the gauge does it.
 ghost use mathlib.Core.Path.{_≡_};
 ghost use Rattle.definitions.specs.Calls.{dimensionsOutcome};
-ghost use Rattle.definitions.specs.Agreement.{request, panel};
+ghost use Rattle.definitions.specs.Agreement.{request, framebufferOf};
 ghost use Rattle.definitions.specs.Redraw.{clearedBuffer, redrawn, redrawnBuffer, NoMarkLeft};
 use crate::fill::fill_box;
 use layout::limits::has_bad_size;
@@ -20,7 +20,7 @@ pub fn clear_box(
     bounding_box: BoundingBox,
     color: u8,
 )
-    ensures { λ r. ⌜ now (buffer .exit) ≡ clearedBuffer color (panel width height (now (buffer .entry))) «bounding_box» ⌝ }
+    ensures { λ r. ⌜ now (buffer .exit) ≡ clearedBuffer color (framebufferOf width height (now (buffer .entry))) «bounding_box» ⌝ }
 {
     if has_bad_size(width, height, buffer.len()) {
         return;
@@ -43,8 +43,8 @@ pub fn redraw(
     height: usize,
     buffer: &mut [u8],
 ) -> DimensionsResult
-    ensures answered { λ r. ⌜ dimensionsOutcome r ≡ redrawn (now (font .entry)) (request (now («old_text» .entry)) position style «line_height») (request (now («new_text» .entry)) position style «line_height») background (panel width height (now (buffer .entry))) ⌝ }
-    ensures shown { λ r. ⌜ now (buffer .exit) ≡ redrawnBuffer (now (font .entry)) (request (now («old_text» .entry)) position style «line_height») (request (now («new_text» .entry)) position style «line_height») background (panel width height (now (buffer .entry))) ⌝ }
+    ensures answered { λ r. ⌜ dimensionsOutcome r ≡ redrawn (now (font .entry)) (request (now («old_text» .entry)) position style «line_height») (request (now («new_text» .entry)) position style «line_height») background (framebufferOf width height (now (buffer .entry))) ⌝ }
+    ensures shown { λ r. ⌜ now (buffer .exit) ≡ redrawnBuffer (now (font .entry)) (request (now («old_text» .entry)) position style «line_height») (request (now («new_text» .entry)) position style «line_height») background (framebufferOf width height (now (buffer .entry))) ⌝ }
     ensures clean { λ r. ⌜ NoMarkLeft (now (font .entry)) (request (now («old_text» .entry)) position style «line_height») (request (now («new_text» .entry)) position style «line_height») background width height (now (buffer .entry)) (now (buffer .exit)) ⌝ }
 {
     let vertical_pos = style.vertical_pos;

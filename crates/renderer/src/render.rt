@@ -4,11 +4,11 @@ ghost use Prim.Native.Nat.{_≤_};
 ghost use lib.ListN.{length};
 ghost use Rattle.definitions.specs.Header.{Opened};
 ghost use Rattle.definitions.specs.Glyph.{glyph, glyphOutcome};
-ghost use Rattle.definitions.specs.TextSteps.{letterShown, step, stepShown, measureFrom, drawFrom, start};
-ghost use Rattle.definitions.specs.Calls.{characters, drawable, drawnLetter, pixelsOf, draw, drawBuffer, dimensionsOutcome};
+ghost use Rattle.definitions.specs.TextSteps.{answerShown, step, stepShown, measureFrom, drawFrom, start};
+ghost use Rattle.definitions.specs.Calls.{characters, drawable, drawnAnswer, pixelsOf, draw, drawBuffer, dimensionsOutcome};
 ghost use Rattle.glyph_renderer.specs.Drawing.{BufferFits};
-ghost use Rattle.layout.specs.Letters.{asLetter};
-ghost use Rattle.renderer.specs.Letters.{RunsChecked};
+ghost use Rattle.layout.specs.CharAnswers.{asAnswer};
+ghost use Rattle.renderer.specs.CharAnswers.{RunsChecked};
 ghost use Rattle.layout.specs.Ranges.{HasRoom, Checked};
 use content::text::NextChar;
 use content::text::next_char;
@@ -20,12 +20,12 @@ use layout::limits::has_bad_color;
 use layout::limits::has_bad_size;
 use layout::origin::OriginResult;
 use layout::origin::checked_origin;
-use layout::render_actions::Letter;
-use layout::render_actions::letter_of;
-use measuring::rendered_dimensions::NEWLINE;
-use measuring::rendered_dimensions::add_letter;
-use measuring::rendered_dimensions::add_newline;
-use measuring::rendered_dimensions::get_next_bounding_box;
+use layout::render_actions::Answer;
+use layout::render_actions::answer_of;
+use measuring::steps::NEWLINE;
+use measuring::steps::add_answer;
+use measuring::steps::add_newline;
+use measuring::steps::get_next_bounding_box;
 use types::error::Error;
 use types::font_reader::FontReader;
 use types::geometry::BoundingBox;
@@ -53,19 +53,19 @@ fn retrieve_whole_glyph(font: &[u8], head: FontReader, ch: u32) -> GlyphResult
     GlyphResult::Err(Error::FontEnds(ch))
 }
 
-// The letter of a code point in drawing.
-fn retrieve_letter(font: &[u8], head: FontReader, ch: u32, ignore_unknown_chars: bool) -> Letter
+// The answer to a code point in drawing.
+fn retrieve_answer(font: &[u8], head: FontReader, ch: u32, ignore_unknown_chars: bool) -> Answer
     requires { ⌜ Opened (now font) head ⌝ }
-    ensures { λ r. ⌜ asLetter r ≡ drawnLetter (now (font .entry)) «ignore_unknown_chars» ch ⌝ }
+    ensures { λ r. ⌜ asAnswer r ≡ drawnAnswer (now (font .entry)) «ignore_unknown_chars» ch ⌝ }
 {
-    letter_of(retrieve_whole_glyph(font, head, ch), ignore_unknown_chars)
+    answer_of(retrieve_whole_glyph(font, head, ch), ignore_unknown_chars)
 }
 
-// Draws the glyph that a letter shows, at the advance so far. Other letters draw nothing.
-fn draw_letter(
+// Draws the glyph that a character shows, at the advance so far. Other answers draw nothing.
+fn draw_answer(
     font: &[u8],
     head: FontReader,
-    letter: Letter,
+    answer: Answer,
     dimensions: RenderedDimensions,
     origin: Point,
     color: FontColor,
@@ -73,11 +73,11 @@ fn draw_letter(
     width: usize,
     height: usize,
 )
-    requires { ⌜ RunsChecked (now font) head (asLetter letter) × (HasRoom origin dimensions × BufferFits (length (now buffer)) width height) ⌝ }
-    ensures { λ r. ⌜ now (buffer .exit) ≡ letterShown width color (pixelsOf (now (font .entry))) origin dimensions (asLetter letter) (now (buffer .entry)) ⌝ }
+    requires { ⌜ RunsChecked (now font) head (asAnswer answer) × (HasRoom origin dimensions × BufferFits (length (now buffer)) width height) ⌝ }
+    ensures { λ r. ⌜ now (buffer .exit) ≡ answerShown width color (pixelsOf (now (font .entry))) origin dimensions (asAnswer answer) (now (buffer .entry)) ⌝ }
 {
-    match letter {
-        Letter::Shows(glyph) => {
+    match answer {
+        Answer::Shows(glyph) => {
             let glyph_box = get_next_bounding_box(dimensions, origin, glyph);
             render_glyph(
                 font,
@@ -90,8 +90,8 @@ fn draw_letter(
                 height,
             );
         }
-        Letter::Nothing => {}
-        Letter::Stops(_) => {}
+        Answer::Nothing => {}
+        Answer::Stops(_) => {}
     }
 }
 
@@ -110,17 +110,17 @@ fn draw_char(
     height: usize,
 ) -> DimensionsResult
     requires { ⌜ Opened (now font) head × (HasRoom origin dimensions × ((«line_height» ≤ 65535) × BufferFits (length (now buffer)) width height)) ⌝ }
-    ensures counted { λ r. ⌜ dimensionsOutcome r ≡ step (drawnLetter (now (font .entry)) «ignore_unknown_chars») «line_height» origin dimensions ch ⌝ }
-    ensures shown { λ r. ⌜ now (buffer .exit) ≡ stepShown width color (pixelsOf (now (font .entry))) (drawnLetter (now (font .entry)) «ignore_unknown_chars») origin dimensions ch (now (buffer .entry)) ⌝ }
+    ensures counted { λ r. ⌜ dimensionsOutcome r ≡ step (drawnAnswer (now (font .entry)) «ignore_unknown_chars») «line_height» origin dimensions ch ⌝ }
+    ensures shown { λ r. ⌜ now (buffer .exit) ≡ stepShown width color (pixelsOf (now (font .entry))) (drawnAnswer (now (font .entry)) «ignore_unknown_chars») origin dimensions ch (now (buffer .entry)) ⌝ }
 {
     if ch == NEWLINE {
         return DimensionsResult::Ok(add_newline(dimensions, line_height));
     }
-    let letter = retrieve_letter(font, head, ch, ignore_unknown_chars);
-    draw_letter(
+    let answer = retrieve_answer(font, head, ch, ignore_unknown_chars);
+    draw_answer(
         font,
         head,
-        letter,
+        answer,
         dimensions,
         origin,
         color,
@@ -128,7 +128,7 @@ fn draw_char(
         width,
         height,
     );
-    add_letter(dimensions, origin, letter)
+    add_answer(dimensions, origin, answer)
 }
 
 // The letters of a checked text, one after the other. The first that stops the text is the answer, and those before it stay.
@@ -145,8 +145,8 @@ fn draw_text(
     height: usize,
 ) -> DimensionsResult
     requires { ⌜ Opened (now font) head × (Checked (now text) origin «line_height» × BufferFits (length (now buffer)) width height) ⌝ }
-    ensures counted { λ r. ⌜ dimensionsOutcome r ≡ measureFrom (drawnLetter (now (font .entry)) «ignore_unknown_chars») «line_height» origin start (characters (now (text .entry))) ⌝ }
-    ensures shown { λ r. ⌜ now (buffer .exit) ≡ drawFrom width color (pixelsOf (now (font .entry))) (drawnLetter (now (font .entry)) «ignore_unknown_chars») «line_height» origin start (now (buffer .entry)) (characters (now (text .entry))) ⌝ }
+    ensures counted { λ r. ⌜ dimensionsOutcome r ≡ measureFrom (drawnAnswer (now (font .entry)) «ignore_unknown_chars») «line_height» origin start (characters (now (text .entry))) ⌝ }
+    ensures shown { λ r. ⌜ now (buffer .exit) ≡ drawFrom width color (pixelsOf (now (font .entry))) (drawnAnswer (now (font .entry)) «ignore_unknown_chars») «line_height» origin start (now (buffer .entry)) (characters (now (text .entry))) ⌝ }
 {
     let mut dimensions = RenderedDimensions {
         advance: Point { x: 0, y: 0 },

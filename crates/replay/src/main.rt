@@ -1,7 +1,7 @@
 // Replays the cases of data/cases.bin through the public calls and prints what each answers. The file
 // stdout holds what tools/model.py, written from 01 alone, says of them (tools/cases.py writes both).
 mod case_file;
-mod panels;
+mod framebuffers;
 mod request;
 
 use case_file::unpack;
@@ -14,7 +14,7 @@ fn replay(
     label: &mut [u8],
     font: &mut [u8],
     text: &mut [u8],
-    panel: &mut [u8],
+    framebuffer: &mut [u8],
 ) -> usize
     requires { ⌜ at ≤ 1048576 ⌝ }
 {
@@ -35,17 +35,29 @@ fn replay(
     let text_len = t.len;
     printing::text(&label[..label_len]);
     printing::text(b": ");
-    request::answer(file, t.next, &font[..font_len], &text[..text_len], panel);
+    request::answer(
+        file,
+        t.next,
+        &font[..font_len],
+        &text[..text_len],
+        framebuffer,
+    );
     printing::text(b"\n");
     t.next + request::SIZE
 }
 
-fn replay_all(file: &[u8], label: &mut [u8], font: &mut [u8], text: &mut [u8], panel: &mut [u8]) {
+fn replay_all(
+    file: &[u8],
+    label: &mut [u8],
+    font: &mut [u8],
+    text: &mut [u8],
+    framebuffer: &mut [u8],
+) {
     let count = case_file::number(file, 0);
     let mut at = 4;
     let mut i = 0;
     while i < count {
-        at = replay(file, at, label, font, text, panel);
+        at = replay(file, at, label, font, text, framebuffer);
         if 1048576 < at {
             printing::text(b"the file of cases ends too early\n");
             return;
@@ -59,7 +71,7 @@ fn main() {
     let mut font = [0u8; 262400];
     let mut text = [0u8; 4200];
     let mut label = [0u8; 128];
-    let mut panel = [0u8; 65600];
+    let mut framebuffer = [0u8; 65600];
     let path = b"cases.bin";
     let fd = os::open_read(path);
     if fd < 0 {
@@ -68,5 +80,11 @@ fn main() {
     }
     let n = io::read_full(fd, &mut file);
     libc::close(fd);
-    replay_all(&file[..n], &mut label, &mut font, &mut text, &mut panel);
+    replay_all(
+        &file[..n],
+        &mut label,
+        &mut font,
+        &mut text,
+        &mut framebuffer,
+    );
 }

@@ -1,7 +1,7 @@
 // A case's numbers, and the call that they ask for.
 use crate::case_file::number;
 use crate::case_file::signed_number;
-use crate::panels;
+use crate::framebuffers;
 use font_reader::new_from_raw_data;
 use measuring::font_bounding_box::get_font_bounding_box;
 use measuring::rendered_dimensions::get_rendered_dimensions;
@@ -108,7 +108,14 @@ fn byte(file: &[u8], at: usize) -> u8 {
 }
 
 // Draws on a framebuffer with the contents that the case asks for, and prints the answer and the framebuffer.
-fn answer_draw(file: &[u8], at: usize, font: &[u8], text: &[u8], position: Point, panel: &mut [u8])
+fn answer_draw(
+    file: &[u8],
+    at: usize,
+    font: &[u8],
+    text: &[u8],
+    position: Point,
+    framebuffer: &mut [u8],
+)
     requires { ⌜ at ≤ 1048576 ⌝ }
 {
     let style = FontStyle {
@@ -124,7 +131,7 @@ fn answer_draw(file: &[u8], at: usize, font: &[u8], text: &[u8], position: Point
     let width = number(file, at + 40) as usize;
     let height = number(file, at + 44) as usize;
     let fill = byte(file, at + 48);
-    panels::fill(&mut panel[..], fill);
+    framebuffers::fill(&mut framebuffer[..], fill);
     let result = render(
         font,
         text,
@@ -134,10 +141,10 @@ fn answer_draw(file: &[u8], at: usize, font: &[u8], text: &[u8], position: Point
         skip,
         width,
         height,
-        &mut panel[..],
+        &mut framebuffer[..],
     );
     print_dimensions(result);
-    panels::print(&panel[..], fill, width, height);
+    framebuffers::print(&framebuffer[..], fill, width, height);
 }
 
 // The framebuffer of the case's length.
@@ -147,20 +154,20 @@ fn answer_draw_on_part(
     font: &[u8],
     text: &[u8],
     position: Point,
-    panel: &mut [u8],
+    framebuffer: &mut [u8],
 )
     requires { ⌜ at ≤ 1048576 ⌝ }
 {
     let length = number(file, at + 52) as usize;
-    if panel.len() < length {
+    if framebuffer.len() < length {
         printing::text(b"no room for the framebuffer");
         return;
     }
-    answer_draw(file, at, font, text, position, &mut panel[..length]);
+    answer_draw(file, at, font, text, position, &mut framebuffer[..length]);
 }
 
 // Makes the call whose numbers stand at `at` and prints its answer.
-pub fn answer(file: &[u8], at: usize, font: &[u8], text: &[u8], panel: &mut [u8])
+pub fn answer(file: &[u8], at: usize, font: &[u8], text: &[u8], framebuffer: &mut [u8])
     requires { ⌜ at ≤ 1048576 ⌝ }
 {
     let kind = number(file, at);
@@ -185,6 +192,6 @@ pub fn answer(file: &[u8], at: usize, font: &[u8], text: &[u8], panel: &mut [u8]
             line,
             skip,
         )),
-        _ => answer_draw_on_part(file, at, font, text, position, panel),
+        _ => answer_draw_on_part(file, at, font, text, position, framebuffer),
     }
 }

@@ -3,6 +3,7 @@ use borrow.Author.Needs.{needs}
 use mathlib.Core.Path.{_≡_, _∙_}
 use native.Mathlib.Omega.{arith}
 use mir.Facts.{toZ-ofZ}
+use Rattle.integers.proofs.Laws.{zarith, size}
 use Rattle.angles.proofs.AngleLaws.{whole, below-zero, above-zero, at-zero}
 use Rattle.angles.proofs.write_angle.Statement.{statement}
 use Rattle.angles.proofs.write_angle.Tie as tie
@@ -11,7 +12,10 @@ magnitude-requires : tie.Need-magnitude-requires
 magnitude-requires c κs = search needs
 
 put-tenths-requires : tie.Need-put-tenths-requires
-put-tenths-requires c κs = search needs
+put-tenths-requires c κs =
+    let s = c .before .before .before in
+    let e = simp (toZ-ofZ, s .fits .tenths) at (c .magnitude .ensures) in
+    (s .pre .0, omega (zarith, e, size (s .args .tenths), s .pre .1 .0, s .pre .1 .1))
 
 put-before-requires : tie.Need-put-before-requires
 put-before-requires c κs = search needs
@@ -24,7 +28,7 @@ returns c =
     let s = c .before .before .before .before .before .before .before .before .before .before .before in
     let z = s .args .tenths in
     let q = c .before .before .before .before .before .before .before .put-tenths .ensures in
-    let e = whole z (simp (toZ-ofZ, s .fits .tenths) at (c .before .before .before .before .before .before .before .before .magnitude .ensures .0)) (q .1 .1) in
+    let e = whole z (simp (toZ-ofZ, s .fits .tenths) at (c .before .before .before .before .before .before .before .before .magnitude .ensures)) (q .1 .1) in
     let t = simp (toZ-ofZ, s .fits .tenths) at (c .before .before .before .before .if1 .taken) in
     let p = c .before .before .put-before .ensures in
     (omega (arith, p .0, q .0, q .1 .0), p .1 ∙ below-zero z e t)
@@ -40,7 +44,7 @@ returns-2 c =
     let s = c .before .before .before .before .before .before .before .before .before .before .before .before in
     let z = s .args .tenths in
     let q = c .before .before .before .before .before .before .before .before .put-tenths .ensures in
-    let e = whole z (simp (toZ-ofZ, s .fits .tenths) at (c .before .before .before .before .before .before .before .before .before .magnitude .ensures .0)) (q .1 .1) in
+    let e = whole z (simp (toZ-ofZ, s .fits .tenths) at (c .before .before .before .before .before .before .before .before .before .magnitude .ensures)) (q .1 .1) in
     let f = simp (toZ-ofZ, s .fits .tenths) at (c .before .before .before .before .before .if1 .left) in
     let t = simp (toZ-ofZ, s .fits .tenths) at (c .before .before .before .before .if2 .taken) in
     let p = c .before .before .put-before2 .ensures in
@@ -54,7 +58,7 @@ returns-3 c =
     let s = c .before .before .before .before .before .before .before .before in
     let z = s .args .tenths in
     let q = c .before .before .before .before .put-tenths .ensures in
-    let e = whole z (simp (toZ-ofZ, s .fits .tenths) at (c .before .before .before .before .before .magnitude .ensures .0)) (q .1 .1) in
+    let e = whole z (simp (toZ-ofZ, s .fits .tenths) at (c .before .before .before .before .before .magnitude .ensures)) (q .1 .1) in
     let f = simp (toZ-ofZ, s .fits .tenths) at (c .before .if1 .left) in
     let t = simp (toZ-ofZ, s .fits .tenths) at (c .if2 .left) in
     (omega (arith, q .0, q .1 .0), at-zero z e f t)

@@ -7,30 +7,30 @@ use Rattle.layout.proofs.origin.checked_origin.Tie as tie
 has-bad-text-requires : tie.Need-has-bad-text-requires
 has-bad-text-requires c κs = search needs
 
-has-bad-place-requires : tie.Need-has-bad-place-requires
-has-bad-place-requires c κs = search needs
+has-bad-position-requires : tie.Need-has-bad-position-requires
+has-bad-position-requires c κs = search needs
 
 returns : tie.Need-returns
 returns c = simp (sym (c .before .before .has-bad-text .ensures), c .if1 .taken)
 
 returns-2 : tie.Need-returns-2
-returns-2 c = simp (sym (c .before .before .before .has-bad-text .ensures), c .before .if1 .left, sym (c .before .before .has-bad-place .ensures), c .if2 .taken)
+returns-2 c = simp (sym (c .before .before .before .has-bad-text .ensures), c .before .if1 .left, sym (c .before .before .has-bad-position .ensures), c .if2 .taken)
 
 text-origin-requires : tie.Need-text-origin-requires
 text-origin-requires c κs =
-    (sym (c .before .before .before .has-bad-text .ensures) ∙ c .before .if1 .left, sym (c .before .before .has-bad-place .ensures) ∙ c .if2 .left)
+    (sym (c .before .before .before .has-bad-text .ensures) ∙ c .before .if1 .left, sym (c .before .before .has-bad-position .ensures) ∙ c .if2 .left)
 
 returns-3 : tie.Need-returns-3
 returns-3 c =
     simp
-    (sym (c .before .before .before .before .has-bad-text .ensures), c .before .before .if1 .left, sym (c .before .before .before .has-bad-place .ensures), c .before .if2 .left, c .text-origin .ensures)
+    (sym (c .before .before .before .before .has-bad-text .ensures), c .before .before .if1 .left, sym (c .before .before .before .has-bad-position .ensures), c .before .if2 .left, c .text-origin .ensures)
 
 pub checked-origin-spec : {M : Type 1} → statement M
 checked-origin-spec =
     tie.close
     (tie.spec
     has-bad-text-requires
-    has-bad-place-requires
+    has-bad-position-requires
     returns
     returns-2
     text-origin-requires

@@ -6,7 +6,7 @@ use mir.Val.{SFits, toZ, ofZ}
 use mir.Facts.{toZ-ofZ}
 use borrow.Author.Needs.{needs}
 use Rattle.integers.proofs.Laws.{zarith, plus, stored}
-use Rattle.layout.proofs.OriginLaws.{TextLimits, text-limits, PlaceLimits, place-limits, offset, offset-near}
+use Rattle.layout.proofs.OriginLaws.{TextLimits, text-limits, PositionLimits, position-limits, offset, offset-near}
 use Rattle.layout.proofs.origin.text_origin.Statement.{statement}
 use Rattle.layout.proofs.origin.text_origin.Tie as tie
 
@@ -14,8 +14,8 @@ module _ (c : tie.Start) where
   text-in : TextLimits (c .args .text .now)
   text-in = text-limits _ (c .pre .0)
 
-  place-in : PlaceLimits (c .args .position) (c .args .line-height)
-  place-in = place-limits _ _ (c .pre .1)
+  place-in : PositionLimits (c .args .position) (c .args .line-height)
+  place-in = position-limits _ _ (c .pre .1)
 
   ascent-fits : SFits w8 (c .args .head .ascent)
   ascent-fits = search needs

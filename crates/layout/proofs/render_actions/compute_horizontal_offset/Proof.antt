@@ -10,7 +10,7 @@ use Rattle.types.specs.declared.geometry.BoundingBox.{BoundingBox}
 use Rattle.types.specs.declared.geometry.BoundingBox.the-variants.{None, Some}
 use Rattle.types.specs.declared.style.HorizontalAlignment.the-variants.{Center}
 use Rattle.definitions.specs.Text.{horizontalOffset}
-use Rattle.layout.specs.Letters.{centerOffset}
+use Rattle.layout.specs.CharAnswers.{centerOffset}
 use Rattle.layout.proofs.RangeLaws.{negated}
 use Rattle.layout.proofs.render_actions.compute_horizontal_offset.Statement.{statement}
 use Rattle.layout.proofs.render_actions.compute_horizontal_offset.Tie as tie

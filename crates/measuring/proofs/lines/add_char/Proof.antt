@@ -5,10 +5,10 @@ use mir.Facts.{toZ-ofZ}
 use borrow.Author.Needs.{needs}
 use borrow.Author.Tests.{eq-eqb, ne-eqb}
 use Rattle.definitions.specs.Text.{point}
-use Rattle.definitions.specs.TextSteps.{letterStep}
-use Rattle.definitions.specs.Calls.{measuredLetter, dimensionsOutcome}
+use Rattle.definitions.specs.TextSteps.{answerStep}
+use Rattle.definitions.specs.Calls.{measuredAnswer, dimensionsOutcome}
 use Rattle.layout.proofs.RangeLaws.{near-fits}
-use Rattle.measuring.proofs.LineLaws.{letter-room}
+use Rattle.measuring.proofs.LineLaws.{answer-room}
 use Rattle.measuring.proofs.lines.add_char.Statement.{statement}
 use Rattle.measuring.proofs.lines.add_char.Tie as tie
 
@@ -21,8 +21,8 @@ returns c = simp (c .add-newline .ensures, eq-eqb _ _ (c .before .if1 .taken))
 try-retrieve-glyph-data-requires : tie.Need-try-retrieve-glyph-data-requires
 try-retrieve-glyph-data-requires c κs = search needs
 
-add-letter-requires : tie.Need-add-letter-requires
-add-letter-requires c κs = letter-room (c .before .before .before .before .pre .1 .0)
+add-answer-requires : tie.Need-add-answer-requires
+add-answer-requires c κs = answer-room (c .before .before .before .before .pre .1 .0)
 
 enum-known-error : tie.Need-enum-known-error
 enum-known-error c = search needs
@@ -31,12 +31,12 @@ enum-known-line : tie.Need-enum-known-line
 enum-known-line c = search needs
 
 -- the letter is added to the line
-module _ (c : tie.After-add-letter) where
+module _ (c : tie.After-add-answer) where
   abbrev entry : tie.Start
   entry = c .before .before .before .before .before
 
-  added : dimensionsOutcome (c .add-letter .result) ≡ letterStep (point (pos 0) (pos 0)) (entry .args .state .line) (measuredLetter (entry .args .font .now) (entry .args .ignore-unknown-chars) (entry .args .ch))
-  added = simp (c .before .before .try-retrieve-glyph-data .ensures) at (c .add-letter .ensures)
+  added : dimensionsOutcome (c .add-answer .result) ≡ answerStep (point (pos 0) (pos 0)) (entry .args .state .line) (measuredAnswer (entry .args .font .now) (entry .args .ignore-unknown-chars) (entry .args .ch))
+  added = simp (c .before .before .try-retrieve-glyph-data .ensures) at (c .add-answer .ensures)
 
 returns-2 : tie.Need-returns-2
 returns-2 c =
@@ -57,7 +57,7 @@ add-char-spec =
     add-newline-requires
     returns
     try-retrieve-glyph-data-requires
-    add-letter-requires
+    add-answer-requires
     enum-known-error
     enum-known-line
     returns-2

@@ -2,7 +2,7 @@
 use mathlib.Core.Path.{_≡_, ap, _∙_}
 use mathlib.Core.List.{List}
 use Prim.Native.Nat.{ℕ}
-use Rattle.definitions.specs.Agreement.{request, panel, after}
+use Rattle.definitions.specs.Agreement.{request, framebufferOf, after}
 use Rattle.redraw.specs.Differences.{differences}
 use borrow.Author.Needs.{needs}
 use Rattle.readings.proofs.check.compare.Statement.{statement}
@@ -26,7 +26,7 @@ returns c =
     c .count-differences .ensures
     ∙ ap (differences (a .screen .now))
     (c .before .before .before .before .render .ensures .1
-    ∙ ap (λ (l : List ℕ). after (a .font .now) (request (a .text .now) (a .place .position) (a .place .style) (a .place .«line_height»)) (panel (a .place .width) (a .place .height) l)) (c .before .before .before .before .before .before .before .before .before .before .copy .ensures))
+    ∙ ap (λ (l : List ℕ). after (a .font .now) (request (a .text .now) (a .place .position) (a .place .style) (a .place .«line_height»)) (framebufferOf (a .place .width) (a .place .height) l)) (c .before .before .before .before .before .before .before .before .before .before .copy .ensures))
 
 pub compare-spec : {M : Type 1} → statement M
 compare-spec =

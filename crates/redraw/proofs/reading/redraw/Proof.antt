@@ -4,7 +4,7 @@ use borrow.Author.Needs.{needs}
 use mathlib.Core.Path.{_≡_, sym, ap, _∙_}
 use Rattle.definitions.specs.Refusals.{number, codePoint, success, refused}
 use Rattle.definitions.specs.Calls.{dimensionsOutcome}
-use Rattle.definitions.specs.Agreement.{Request, request, Panel, panel, measured}
+use Rattle.definitions.specs.Agreement.{Request, request, Framebuffer, framebufferOf, measured}
 use Rattle.definitions.proofs.RedrawLaws.{no-mark-left}
 use Rattle.redraw.proofs.StepLaws.{stops, stays, answers, shows}
 use Rattle.redraw.proofs.reading.redraw.Statement.{statement}
@@ -16,8 +16,8 @@ old s = request (s .args .old-text .now) (s .args .position) (s .args .style) (s
 abbrev new : tie.Start → Request
 new s = request (s .args .new-text .now) (s .args .position) (s .args .style) (s .args .line-height)
 
-abbrev screen : tie.Start → Panel
-screen s = panel (s .args .width) (s .args .height) (s .args .buffer .now)
+abbrev screen : tie.Start → Framebuffer
+screen s = framebufferOf (s .args .width) (s .args .height) (s .args .buffer .now)
 
 get-rendered-dimensions-requires : tie.Need-get-rendered-dimensions-requires
 get-rendered-dimensions-requires c κs = search needs

@@ -12,27 +12,27 @@ add-newline-requires c κs = search needs
 returns : tie.Need-returns
 returns c = (simp (c .add-newline .ensures, eq-eqb _ _ (c .before .if1 .taken)), simp (eq-eqb _ _ (c .before .if1 .taken)))
 
-retrieve-letter-requires : tie.Need-retrieve-letter-requires
-retrieve-letter-requires c κs = search needs
+retrieve-answer-requires : tie.Need-retrieve-answer-requires
+retrieve-answer-requires c κs = search needs
 
-draw-letter-requires : tie.Need-draw-letter-requires
-draw-letter-requires c κs =
+draw-answer-requires : tie.Need-draw-answer-requires
+draw-answer-requires c κs =
     let s = c .before .before .before .before .before in (
-      λ g e. runs-checked (s .pre .0) (s .args .ignore-unknown-chars) (s .args .ch) g (sym (c .before .retrieve-letter .ensures) ∙ e),
+      λ g e. runs-checked (s .pre .0) (s .args .ignore-unknown-chars) (s .args .ch) g (sym (c .before .retrieve-answer .ensures) ∙ e),
       (s .pre .1 .0, s .pre .1 .1 .1),
     )
 
-add-letter-requires : tie.Need-add-letter-requires
-add-letter-requires c κs = search needs
+add-answer-requires : tie.Need-add-answer-requires
+add-answer-requires c κs = search needs
 
 same-length : tie.Need-same-length
 same-length c = search needs
 
 returns-2 : tie.Need-returns-2
 returns-2 c =
-    let looked = c .before .before .before .before .before .retrieve-letter .ensures in
+    let looked = c .before .before .before .before .before .retrieve-answer .ensures in
     let other = ne-eqb _ _ (c .before .before .before .before .before .before .if1 .left) in
-    (simp (c .add-letter .ensures, looked, other), c .before .before .before .draw-letter .ensures ∙ simp (looked, other))
+    (simp (c .add-answer .ensures, looked, other), c .before .before .before .draw-answer .ensures ∙ simp (looked, other))
 
 pub draw-char-spec : {M : Type 1} → statement M
 draw-char-spec =
@@ -40,8 +40,8 @@ draw-char-spec =
     (tie.spec
     add-newline-requires
     returns
-    retrieve-letter-requires
-    draw-letter-requires
-    add-letter-requires
+    retrieve-answer-requires
+    draw-answer-requires
+    add-answer-requires
     same-length
     returns-2)

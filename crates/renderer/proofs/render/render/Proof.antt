@@ -15,7 +15,7 @@ use Rattle.layout.specs.Origins.{checkedOrigin, originOutcome}
 use Rattle.layout.proofs.OriginLaws.{passed, passed-checked}
 use Rattle.layout.proofs.LimitLaws.{color-is}
 use Rattle.renderer.proofs.SizeLaws.{size-fits}
-use Rattle.renderer.proofs.DrawLaws.{font-refused, size-refused, place-refused, color-refused, drawn-whole}
+use Rattle.renderer.proofs.DrawLaws.{font-refused, size-refused, position-refused, color-refused, drawn-whole}
 use Rattle.renderer.proofs.render.render.Statement.{statement}
 use Rattle.renderer.proofs.render.render.Tie as tie
 
@@ -117,7 +117,7 @@ returns-4 c =
     let e = c .before .before .before .before in
     let k = e .before .before in
     let a = entry k .args in
-    place-refused (a .font .now) (a .text .now) (a .position) (a .style) (a .line-height) (a .ignore-unknown-chars) (a .width) (a .height) (a .buffer .now) (opens k) (size-in e) (sym (c .before .before .before .checked-origin .ensures) ∙ ap originOutcome (c .before .error2 .given .1))
+    position-refused (a .font .now) (a .text .now) (a .position) (a .style) (a .line-height) (a .ignore-unknown-chars) (a .width) (a .height) (a .buffer .now) (opens k) (size-in e) (sym (c .before .before .before .checked-origin .ensures) ∙ ap originOutcome (c .before .error2 .given .1))
 
 same-length : tie.Need-same-length
 same-length c = search needs

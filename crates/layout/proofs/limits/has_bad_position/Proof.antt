@@ -1,0 +1,24 @@
+-- The tests are those of the definition, joined in its order.
+use mir.Syntax.{w32}
+use mir.Val.{SFits}
+use mir.Facts.{toZ-ofZ}
+use borrow.Author.Needs.{needs}
+use Rattle.layout.proofs.limits.has_bad_position.Statement.{statement}
+use Rattle.layout.proofs.limits.has_bad_position.Tie as tie
+
+has-bad-coordinate-requires : tie.Need-has-bad-coordinate-requires
+has-bad-coordinate-requires c κs = search needs
+
+has-bad-coordinate-requires-2 : tie.Need-has-bad-coordinate-requires-2
+has-bad-coordinate-requires-2 c κs = search needs
+
+returns : tie.Need-returns
+returns c =
+    let p = c .before .before .before .before .args .position in
+    let f : SFits w32 (p .x) = search needs in
+    let g : SFits w32 (p .y) = search needs in
+    simp (c .before .before .has-bad-coordinate .ensures, c .has-bad-coordinate2 .ensures, toZ-ofZ, f, g)
+
+pub has-bad-position-spec : {M : Type 1} → statement M
+has-bad-position-spec =
+    tie.close (tie.spec has-bad-coordinate-requires has-bad-coordinate-requires-2 returns)

@@ -1,0 +1,37 @@
+-- The sum of a near number and a line height fits.
+use mathlib.Core.Path.{_≡_}
+use lib.IntN.{pos, _+ℤ_}
+use mir.Syntax.{w32}
+use mir.Val.{SFits, toZ}
+use mir.Facts.{toZ-ofZ, toZ-pos}
+use borrow.Author.Needs.{needs}
+use Rattle.integers.proofs.Laws.{zarith, plus}
+use Rattle.layout.proofs.RangeLaws.{near-fits}
+use Rattle.measuring.proofs.steps.add_newline.Statement.{statement}
+use Rattle.measuring.proofs.steps.add_newline.Tie as tie
+
+module _ (c : tie.Start) where
+  line-is : toZ w32 (c .args .line-height) ≡ pos (c .args .line-height)
+  line-is = toZ-pos w32 (search needs)
+
+  y-fits : SFits w32 (c .args .dimensions .advance .y)
+  y-fits = near-fits (c .pre .0)
+
+  sum-fits : SFits w32 (c .args .dimensions .advance .y +ℤ pos (c .args .line-height))
+  sum-fits = omega (zarith, plus (c .args .dimensions .advance .y) (pos (c .args .line-height)))
+
+cast-t5 : tie.Need-cast-t5
+cast-t5 c = search needs
+
+add-t6 : tie.Need-add-t6
+add-t6 c =
+    let s = c .before .before .before in
+    simp (line-is s, toZ-ofZ, y-fits s) (sum-fits s)
+
+returns : tie.Need-returns
+returns c =
+    let s = c .before .before .before in
+    simp (line-is s, toZ-ofZ, y-fits s, sum-fits s)
+
+pub add-newline-spec : {M : Type 1} → statement M
+add-newline-spec = tie.close (tie.spec cast-t5 add-t6 returns)

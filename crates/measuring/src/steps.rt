@@ -1,0 +1,79 @@
+// The steps of counting a text, character by character: drawing takes them from the text's origin, measuring from each line's start.
+ghost use mathlib.Core.Path.{_≡_};
+ghost use Prim.Native.Nat.{_≤_};
+ghost use Rattle.definitions.specs.Geometry.{InReach};
+ghost use Rattle.definitions.specs.TextSteps.{newlineStep, nextBox, glyphStep, answerStep};
+ghost use Rattle.definitions.specs.Calls.{dimensionsOutcome};
+ghost use Rattle.layout.specs.CharAnswers.{asAnswer};
+ghost use Rattle.layout.specs.Ranges.{Near, HasRoom};
+use layout::render_actions::Answer;
+use layout::render_actions::get_glyph_bounding_box;
+use layout::render_actions::moved;
+use types::geometry::BoundingBox;
+use types::geometry::Point;
+use types::geometry::RenderedDimensions;
+use types::glyph_reader::GlyphReader;
+use types::results::DimensionsResult;
+use utils::combine_bounding_boxes;
+
+pub const NEWLINE: u32 = 10;
+
+pub fn add_newline(dimensions: RenderedDimensions, line_height: u32) -> RenderedDimensions
+    requires { ⌜ Near (dimensions .advance .y) × («line_height» ≤ 65535) ⌝ }
+    ensures { λ r. ⌜ r ≡ newlineStep «line_height» dimensions ⌝ }
+{
+    let advance = dimensions.advance;
+    let bounding_box = dimensions.bounding_box;
+    RenderedDimensions {
+        advance: Point {
+            x: 0,
+            y: advance.y + (line_height as i32),
+        },
+        bounding_box,
+    }
+}
+
+// A glyph stands at the advance so far ..
+pub fn get_next_bounding_box(
+    dimensions: RenderedDimensions,
+    origin: Point,
+    glyph: GlyphReader,
+) -> BoundingBox
+    requires { ⌜ HasRoom origin dimensions ⌝ }
+    ensures { λ r. ⌜ (r ≡ nextBox origin dimensions glyph) × InReach r ⌝ }
+{
+    let advance = dimensions.advance;
+    get_glyph_bounding_box(glyph, origin.x + advance.x, origin.y + advance.y)
+}
+
+// .. and then adds its own.
+pub fn add_glyph(
+    dimensions: RenderedDimensions,
+    origin: Point,
+    glyph: GlyphReader,
+) -> RenderedDimensions
+    requires { ⌜ HasRoom origin dimensions ⌝ }
+    ensures { λ r. ⌜ r ≡ glyphStep origin dimensions glyph ⌝ }
+{
+    let advance = dimensions.advance;
+    let bounding_box = dimensions.bounding_box;
+    let glyph_box = get_next_bounding_box(dimensions, origin, glyph);
+    RenderedDimensions {
+        advance: Point {
+            x: moved(advance.x, glyph.advance),
+            y: advance.y,
+        },
+        bounding_box: combine_bounding_boxes(bounding_box, glyph_box),
+    }
+}
+
+pub fn add_answer(dimensions: RenderedDimensions, origin: Point, answer: Answer) -> DimensionsResult
+    requires { ⌜ HasRoom origin dimensions ⌝ }
+    ensures { λ r. ⌜ dimensionsOutcome r ≡ answerStep origin dimensions (asAnswer answer) ⌝ }
+{
+    match answer {
+        Answer::Shows(glyph) => DimensionsResult::Ok(add_glyph(dimensions, origin, glyph)),
+        Answer::Nothing => DimensionsResult::Ok(dimensions),
+        Answer::Stops(error) => DimensionsResult::Err(error),
+    }
+}

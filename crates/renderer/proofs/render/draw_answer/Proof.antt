@@ -1,0 +1,61 @@
+-- `answerShown` goes by the same cases.
+use mathlib.Core.Path.{_≡_, ap, _∙_}
+use lib.IntN.{_+ℤ_}
+use Rattle.layout.specs.CharAnswers.{asAnswer}
+use borrow.Author.Needs.{needs}
+use Rattle.renderer.proofs.render.draw_answer.Statement.{statement}
+use Rattle.renderer.proofs.render.draw_answer.Tie as tie
+
+enum-known-answer : tie.Need-enum-known-answer
+enum-known-answer c = search needs
+
+get-next-bounding-box-requires : tie.Need-get-next-bounding-box-requires
+get-next-bounding-box-requires c κs = search needs
+
+render-glyph-requires : tie.Need-render-glyph-requires
+render-glyph-requires c κs =
+    let s = c .before .before .before .before .before .before .before in
+    let d = s .args .dimensions .advance in (
+      s .pre .0 _ (ap asAnswer (c .before .before .before .answer .given .1)),
+      (
+        record {
+          x = s .args .origin .x +ℤ d .x;
+          y = s .args .origin .y +ℤ d .y;
+          is = c .before .get-next-bounding-box .ensures .0;
+          reach = c .before .get-next-bounding-box .ensures .1;
+        },
+        s .pre .1 .1,
+      ),
+    )
+
+enum-told : tie.Need-enum-told
+enum-told c = search needs
+
+enum-told-2 : tie.Need-enum-told-2
+enum-told-2 c = search needs
+
+same-length : tie.Need-same-length
+same-length c = search needs
+
+returns : tie.Need-returns
+returns c = c .before .before .render-glyph .ensures ∙ simp (c .before .before .before .before .get-next-bounding-box .ensures .0, c .before .before .before .before .before .before .answer .given .1)
+
+returns-2 : tie.Need-returns-2
+returns-2 c = simp (c .enum-told .given .1)
+
+returns-3 : tie.Need-returns-3
+returns-3 c = simp (c .enum-told2 .given .1)
+
+pub draw-answer-spec : {M : Type 1} → statement M
+draw-answer-spec =
+    tie.close
+    (tie.spec
+    enum-known-answer
+    get-next-bounding-box-requires
+    render-glyph-requires
+    enum-told
+    enum-told-2
+    same-length
+    returns
+    returns-2
+    returns-3)

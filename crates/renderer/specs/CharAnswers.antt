@@ -1,0 +1,12 @@
+-- When the answer to a character may be drawn.
+use mathlib.Core.Path.{_≡_}
+use mathlib.Core.List.{List}
+use Prim.Native.Nat.{ℕ}
+use Rattle.types.specs.declared.font_reader.FontReader.{FontReader}
+use Rattle.types.specs.declared.glyph_reader.GlyphReader.{GlyphReader}
+use Rattle.definitions.specs.Text.{Answer, shows}
+use Rattle.glyph_renderer.specs.Stands.{CheckedGlyph}
+
+-- the runs of the glyph that it shows were read to the last pixel
+abbrev pub RunsChecked : List ℕ → FontReader → Answer → Type 0
+RunsChecked font head l = (g : GlyphReader) → l ≡ shows g → CheckedGlyph font head g

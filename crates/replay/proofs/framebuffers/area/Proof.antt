@@ -1,0 +1,15 @@
+-- Both sides are at most 256.
+use native.Mathlib.Nat.{mul-le-mul}
+use native.Mathlib.Omega.{arith}
+use borrow.Author.Needs.{needs}
+use Rattle.replay.proofs.framebuffers.area.Statement.{statement}
+use Rattle.replay.proofs.framebuffers.area.Tie as tie
+
+mul-result : tie.Need-mul-result
+mul-result c = omega (arith, mul-le-mul (c .pre .0) (c .pre .1))
+
+returns : tie.Need-returns
+returns c = search needs
+
+pub area-spec : {M : Type 1} → statement M
+area-spec = tie.close (tie.spec mul-result returns)
