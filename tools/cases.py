@@ -349,6 +349,16 @@ for x, y in ((-1000, 0), (0, -1000), (300, 300), (-100, 100), (0, 255), (1, 256)
     draw('255 x 255 pixels at %d, %d' % (x, y), HUGE, '-', None, x=x, y=y, ink=(1, 2), size=(256, 256), fill=5)
     draw('a diagonal at %d, %d' % (x, y), FULL, '-', None, x=x, y=y, size=(256, 256), fill=5)
 
+# ---- the longest font
+
+LONGEST = T + bytes(1048576 - len(T))
+header('the longest font', LONGEST, 'ok 4')
+look('the longest font, -4', LONGEST, '-4', 'ok 6 0 0 -3 5 3')
+look('the longest jump table, U+0100', LONGEST, '\u0100', 'no 7 256')
+draw('the longest font, -4 drawn', LONGEST, '-4', None, x=2, y=4)
+for name, kind in (('opened', OPEN), ('measured', MEASURE), ('drawn', DRAW)):
+    case('a byte too long, ' + name, kind, LONGEST + bytes(1), '-4', want='no 1 0')
+
 # ---- what the Rust answered
 
 CASES += oracle_cases.load(show_panel)

@@ -68,7 +68,7 @@ fn replay_all(
 
 fn main() {
     let mut file = [0u8; 262400];
-    let mut font = [0u8; 262400];
+    let mut font = font_file::buffer();
     let mut text = [0u8; 4200];
     let mut label = [0u8; 128];
     let mut framebuffer = [0u8; 65600];
