@@ -16,6 +16,11 @@ use Rattle.integers.specs.Integers.{pick}
 use Rattle.definitions.specs.Header.{byte, bigEndian16, header, Opened}
 use Rattle.definitions.specs.Lookup.{Search, found, missing, short, chain, unicodeChain, Distance, sum, none, jumpTable, records, chainStart, tableStart, fromTable, search}
 
+-- The table is walked on where a distance leads past the end: an entry with a limit of 0, and then one that answers.
+pub past-the-end : jumpTable 256 0 (255 ∷ 255 ∷ 0 ∷ 0 ∷ 0 ∷ 0 ∷ 1 ∷ 0 ∷ []) ≡ sum 65535
+unfolding jumpTable
+past-the-end = refl
+
 -- What the answer of a choice shows of its test.
 of-pick : {A Q : Type 0} (t : Bool) {a b o : A} → (t ≡ true → a ≡ o → Q) → (t ≡ false → b ≡ o → Q) → pick t a b ≡ o → Q
 of-pick true f g e = f refl e
