@@ -1,21 +1,9 @@
 """Answers the driver's calls by tools/model.py: a line in, a line out."""
-import struct
 import sys
 from pathlib import Path
 
 sys.path.insert(0, str(Path(__file__).parent.parent / 'tools'))
 import model as m
-
-
-def opened(f):
-    """The header's values, which model.py answers only by the last."""
-    answer = m.open_font(f)
-    if answer[0] == 'no':
-        return answer
-    values = list(f[:9])
-    values[1] = int(f[1] != 0)
-    values += struct.unpack('>8b3H', f[9:23])
-    return ('ok',) + tuple(values) + answer[1:]
 
 
 def words(answer):
@@ -34,7 +22,7 @@ for line in sys.stdin:
     font, text, buffer = (bytes.fromhex(v[1:]) for v in fields[11:])
     out = []
     if kind == 0:
-        answer = opened(font)
+        answer = m.open_font(font)
     elif kind == 1:
         answer = m.font_box(font, which)
     elif kind == 2:

@@ -20,6 +20,8 @@ T = bytes([2, 0, 2, 2, 3, 3, 2, 3, 3, 2, 3, 0, 0, 3, 0, 3, 0, 0, 10, 0, 10, 0, 1
            45, 5, 138, 62, 2, 52, 5, 146, 60, 73, 0, 0])
 TAIL = bytes([2, 3, 0, 0, 3, 0, 3, 0, 0, 0, 0, 0, 0, 0])
 K = bytes([1, 0, 2, 2, 3, 3, 2, 3, 3]) + TAIL
+# 23 different bytes, none of them 0
+H = bytes([150, 200, 5, 6, 7, 3, 2, 4, 8, 11, 13, 251, 247, 235, 239, 253, 242, 1, 9, 10, 12, 15, 16])
 
 
 def but(font, *changes):
@@ -62,6 +64,12 @@ def say(answer):
     return ' '.join(words)
 
 
+def meets(said, want):
+    """Whether an answer is the wanted one, in which two dots stand for any words."""
+    first, dots, last = want.partition(' .. ')
+    return said.startswith(first + ' ') and said.endswith(' ' + last) if dots else said == want
+
+
 def show_panel(panel, before, width, height):
     """Small panels in full, larger ones by the number of changed bytes and a checksum."""
     if len(panel) <= 400 and max(width, height) <= 256 and len(panel) == width * height:
@@ -92,7 +100,7 @@ def case(label, kind, font, text=b'', x=0, y=0, anchor=0, align=0, line=4, skip=
         panel = bytearray(before)
         answer = m.draw(font, text, x, y, anchor, ink, line, skip, width, height, panel)
         lines = show_panel(panel, before, width, height)
-    if want is not None and say(answer) != want:
+    if want is not None and not meets(say(answer), want):
         sys.exit('%s: model says %s, wanted %s' % (label, say(answer), want))
     out = [label + ': ' + say(answer)] + lines
     CASES.append((label, kind, font, text, x, y, anchor, align, line, skip, ink, size, fill, length, out))
@@ -138,26 +146,29 @@ def record(c):
 
 # ---- opening and the font box
 
-def header(label, font, want=None):
+def header(label, font, want=None, boxes=(None, None, None, None)):
     case('open ' + label, OPEN, font, want=want)
     for anchor, name in enumerate(('Baseline', 'Top', 'Center', 'Bottom')):
-        case('font box ' + label + ', ' + name, FONT_BOX, font, anchor=anchor)
+        case('font box ' + label + ', ' + name, FONT_BOX, font, anchor=anchor, want=boxes[anchor])
 
 
-header('T', T, 'ok 4')
+header('T', T, 'ok 2 0 2 2 3 3 2 3 3 2 3 0 0 3 0 3 0 10 10 12 4')
+header('23 different bytes', H, 'ok 150 1 5 6 7 3 2 4 8 11 13 -5 -9 -21 -17 -3 -14 265 2572 3856 14',
+       ('ok -5 -4 11 13', 'ok -5 -24 11 13', 'ok -5 -22 11 13', 'ok -5 -21 11 13'))
+case('open 23 different bytes, byte 1 being 0', OPEN, but(H, (1, 0)), want='ok 150 0 .. 14')
 header('no bytes', b'', 'no 1 0')
 header('T cut to 22 bytes', T[:22], 'no 1 0')
-header('T cut to 23 bytes', T[:23], 'ok 4')
+header('T cut to 23 bytes', T[:23], 'ok .. 4')
 for i, name in enumerate(('zero runs', 'one runs', 'w', 'h', 'x', 'y', 'advance'), 2):
-    header(name + ' of 0 bits', but(T, (i, 0)), 'ok 4' if i < 6 else 'no 2 0')
-    header(name + ' of 8 bits', but(T, (i, 8)), 'ok 4')
+    header(name + ' of 0 bits', but(T, (i, 0)), 'ok .. 4' if i < 6 else 'no 2 0')
+    header(name + ' of 8 bits', but(T, (i, 8)), 'ok .. 4')
     header(name + ' of 9 bits', but(T, (i, 9)), 'no 2 0')
     header(name + ' of 255 bits', but(T, (i, 255)), 'no 2 0')
 for i, name in ((9, 'width'), (10, 'height')):
     header('box %s -128' % name, but(T, (i, 128)), 'no 2 0')
     header('box %s -1' % name, but(T, (i, 255)), 'no 2 0')
-header('box 0 x 0', but(T, (9, 0), (10, 0)), 'ok 1')
-header('box height 127', but(T, (10, 127)), 'ok 128')
+header('box 0 x 0', but(T, (9, 0), (10, 0)), 'ok .. 1')
+header('box height 127', but(T, (10, 127)), 'ok .. 128')
 header('box at -1, -2', but(T, (11, 255), (12, 254)))
 header('ascent -4', but(T, (13, 252)))
 header('ascent -128, descent 127', but(T, (13, 128), (14, 127)))
@@ -352,7 +363,7 @@ for x, y in ((-1000, 0), (0, -1000), (300, 300), (-100, 100), (0, 255), (1, 256)
 # ---- the longest font
 
 LONGEST = T + bytes(1048576 - len(T))
-header('the longest font', LONGEST, 'ok 4')
+header('the longest font', LONGEST, 'ok .. 4')
 look('the longest font, -4', LONGEST, '-4', 'ok 6 0 0 -3 5 3')
 look('the longest jump table, U+0100', LONGEST, '\u0100', 'no 7 256')
 draw('the longest font, -4 drawn', LONGEST, '-4', None, x=2, y=4)

@@ -1,6 +1,6 @@
 """Document 01's rules, written a second time in Python, to work out what the case programs must print.
 
-It is written from 01 alone and shares nothing with the crates. expected.py beside it prints the stored outputs.
+It is written from 01 alone and shares nothing with the crates. cases.py beside it writes the stored outputs.
 A refusal is ('no', number, code point).
 """
 
@@ -36,8 +36,17 @@ def offset(anchor, t, f):
     return (abs(n) // 2) * (1 if n >= 0 else -1) + d - t
 
 
+def header(f):
+    """The header's twenty values in 01's order, and the default line height."""
+    ground = int(f[1] != 0)
+    widths = tuple(f[2:9])
+    box_and_heights = tuple(signed(b) for b in f[9:17])
+    offsets = (u16(f, 17), u16(f, 19), u16(f, 21))
+    return (f[0], ground) + widths + box_and_heights + offsets + (f[10] + 1,)
+
+
 def open_font(f):
-    return font_fault(f) or ('ok', f[10] + 1)
+    return font_fault(f) or ('ok', header(f))
 
 
 def font_box(f, anchor):

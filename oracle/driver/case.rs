@@ -148,7 +148,12 @@ impl Case {
 
 impl std::fmt::Display for Case {
     fn fmt(&self, f: &mut std::fmt::Formatter) -> std::fmt::Result {
-        let bytes = |v: &[u8]| v.iter().map(|b| b.to_string()).collect::<Vec<_>>().join(" ");
+        // a long run of one byte by its length
+        let run = |v: &[u8]| match v.len() {
+            0..=40 => v.iter().map(|b| b.to_string()).collect::<Vec<_>>().join(" "),
+            n => format!("{} ({n} times)", v[0]),
+        };
+        let bytes = |v: &[u8]| v.chunk_by(|a, b| a == b).map(run).collect::<Vec<_>>().join(" ");
         writeln!(f, "  font ({} bytes): {}", self.font.len(), bytes(&self.font))?;
         writeln!(f, "  text: \"{}\" = {}", self.text_is(), bytes(&self.text))?;
         writeln!(

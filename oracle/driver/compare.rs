@@ -27,7 +27,8 @@ fn outcome_name(answer: &Answer) -> &'static str {
         Answer::FontBox(_) | Answer::Text { bounds: Some(_), .. } | Answer::Bounds(Some(_)) => "ok with a box",
         Answer::Text { .. } | Answer::Bounds(None) => "ok without a box",
         Answer::Refused { number, .. } => {
-            ["", "number 1", "number 2", "number 3", "number 4", "number 5", "number 6", "number 7", "number 8"][*number as usize]
+            let names = ["number 1", "number 2", "number 3", "number 4", "number 5", "number 6", "number 7", "number 8"];
+            names.get((*number as usize).wrapping_sub(1)).copied().unwrap_or("a number without a meaning")
         }
         Answer::Panicked { .. } => "panic",
     }
@@ -53,7 +54,7 @@ pub fn verdict(case: &Case, call: Call, ours: &Outcome) -> Verdict {
     if let Some(number) = case.off_limits(call) {
         let expected = Answer::Refused { number, code_point: 0 };
         if ours.answer != expected {
-            return Verdict::Different(format!("off limits: {expected:?} expected, ours {:?}", ours.answer));
+            return Verdict::Different(format!("off limits: number {number} expected, ours {}", outcome_name(&ours.answer)));
         }
         if call.ink().is_some() && ours.buffer != case.buffer {
             return Verdict::Different("off limits: the framebuffer changed".to_string());
@@ -138,13 +139,16 @@ impl Tally {
 /// Prints each kind of difference with its smallest case.
 pub fn explain(tally: &Tally, mut ours: impl FnMut(&Case, Call) -> Outcome) {
     for ((name, what), (n, case)) in &tally.different {
-        let mut shows = |c: &Case| {
-            Call::ALL.iter().any(|call| {
-                call.name() == *name && matches!(verdict(c, *call, &ours(c, *call)), Verdict::Different(w) if w == *what)
+        let mut shown = |c: &Case| {
+            Call::ALL.into_iter().filter(|call| call.name() == *name).find_map(|call| {
+                let answer = ours(c, call);
+                let same = matches!(verdict(c, call, &answer), Verdict::Different(w) if w == *what);
+                same.then(|| format!("{call:?}, ours {:?}", answer.answer))
             })
         };
         println!("{}: {what} ({n} times); the smallest case found:", Call::NAMES[*name]);
-        print!("{}", shrink(case.clone(), &mut shows));
+        let least = shrink(case.clone(), |c| shown(c).is_some());
+        println!("{least}  {}", shown(&least).unwrap_or_default());
     }
     if let Some(case) = &tally.listed {
         let mut shows = |c: &Case| {

@@ -6,15 +6,22 @@ use std::collections::VecDeque;
 use crate::case::{Case, ANCHORS};
 use crate::fonts::{self, Font};
 use crate::random::Random;
+use crate::sequences::Sequences;
 
 pub struct Cases {
     random: Random,
     fonts: VecDeque<Font>,
+    sequences: Option<Sequences>,
 }
 
 impl Cases {
     pub fn new(seed: u64) -> Self {
-        Cases { random: Random::new(seed), fonts: VecDeque::new() }
+        Cases { sequences: Some(Sequences::new(seed)), ..Self::plain(seed) }
+    }
+
+    /// The same cases without the sequences of sequences.rs: the stored answers are chosen from these.
+    pub fn plain(seed: u64) -> Self {
+        Cases { random: Random::new(seed), fonts: VecDeque::new(), sequences: None }
     }
 
     pub fn next(&mut self) -> Case {
@@ -22,7 +29,11 @@ impl Cases {
             self.round();
         }
         let font = self.fonts.pop_front().expect("a round has fonts");
-        case(&mut self.random, font)
+        let mut case = case(&mut self.random, font);
+        if let Some(sequences) = &mut self.sequences {
+            sequences.put(&mut case.text);
+        }
+        case
     }
 
     fn round(&mut self) {

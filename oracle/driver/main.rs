@@ -16,6 +16,7 @@ mod papayahelm;
 mod random;
 mod record;
 mod rust_side;
+mod sequences;
 mod shrink;
 
 use case::{Call, Case, Outcome};

@@ -2,7 +2,7 @@
 -- longer one and in a row agree. Assumes nothing.
 use mathlib.Core.Path.{_≡_, refl, sym, ap, subst, _∙_}
 use mathlib.Core.Bool.{Bool, true, false}
-use mathlib.Core.List.{List, [], _∷_, _++_, append-assoc}
+use mathlib.Core.List.{List, [], _∷_, _++_, map, append-assoc}
 use Prim.Native.Nat.{ℕ, zero, suc, _+_, _-_, _*_, _/_, _%_, _^_, _≤_, _<_}
 use native.Mathlib.Nat.{add-zero, mul-assoc, div-one}
 use native.Mathlib.Numerals.{add-one, one-add}
@@ -181,6 +181,10 @@ read-small font at b n e = rw (read-inside font at b n e .1) (number-small font 
 -- An unsigned field of up to 8 bits.
 pub unsigned-range : (font : List ℕ) (at b n : ℕ) → b ≤ 8 → readAt font at b ≡ got n → n ≤ 255
 unsigned-range font at b n h e = omega (arith, read-small font at b n e, pow-mono h)
+
+-- Signed fields of 3 and of 8 bits reach from −4 to 3 and from −128 to 127.
+pub biased-ends : map (biased 3) (0 ∷ 7 ∷ []) ++ map (biased 8) (0 ∷ 255 ∷ []) ≡ negsuc 3 ∷ pos 3 ∷ negsuc 127 ∷ pos 127 ∷ []
+biased-ends = refl
 
 pub power-pred : (b : ℕ) → 1 ≤ b → 2 ^ b ≡ 2 * 2 ^ (b - 1)
 power-pred zero h = absurd (omega arith)

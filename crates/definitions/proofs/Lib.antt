@@ -13,9 +13,10 @@ pub mod FramebufferLaws
 pub mod TextLaws
 pub mod PictureLaws
 pub mod RefusalLaws
+pub mod ComesLaws
+pub mod LetterRefusals
 pub mod Agreement
 pub mod AgreementCase
-pub mod RedrawLaws
 pub mod MovedLaws
 pub mod WholeLaws
 pub mod LineCases

@@ -1,10 +1,10 @@
--- The starred cases of document 01, and the facts of font T's header: one table of what the definitions give and what 01
--- says, and one theorem, which computes them all.
+-- The starred cases of document 01, and cases of what no law speaks of: the header's bytes, both inks, skipping. One table of
+-- what the definitions give and what 01 says, and one theorem, which computes them all.
 use mathlib.Core.Path.{_≡_, refl}
-use mathlib.Core.Bool.{false}
+use mathlib.Core.Bool.{Bool, true, false}
 use mathlib.Core.List.{List, [], _∷_, map}
 use Prim.Native.Nat.{ℕ, _+_, _*_}
-use lib.IntN.{ℤ, pos, negsuc}
+use lib.IntN.{ℤ, pos, negℤ}
 use lib.ListN.{take, set, replicate}
 use Rattle.types.specs.declared.font_reader.FontReader.{FontReader}
 use Rattle.types.specs.declared.geometry.BoundingBox.{BoundingBox}
@@ -13,8 +13,10 @@ use Rattle.types.specs.declared.geometry.Point.{Point}
 use Rattle.types.specs.declared.geometry.Rectangle.{Rectangle}
 use Rattle.types.specs.declared.geometry.RenderedDimensions.{RenderedDimensions}
 use Rattle.types.specs.declared.glyph_reader.GlyphReader.{GlyphReader}
-use Rattle.types.specs.declared.style.FontColor.the-variants.{Transparent}
+use Rattle.types.specs.declared.style.FontColor.{FontColor}
+use Rattle.types.specs.declared.style.FontColor.the-variants.{Transparent, WithBackground}
 use Rattle.types.specs.declared.style.FontStyle.{FontStyle}
+use Rattle.types.specs.declared.style.HorizontalAlignment.{HorizontalAlignment}
 use Rattle.types.specs.declared.style.HorizontalAlignment.the-variants.{Center as Alignment·Center, Right as Alignment·Right}
 use Rattle.types.specs.declared.style.VerticalPosition.the-variants.{Baseline, Top, Center, Bottom}
 use Rattle.integers.specs.Integers.{signed8}
@@ -46,31 +48,72 @@ pub record Case : Type 0 where
   pub given : Result
   pub expected : Result
 
+abbrev neg : ℕ → ℤ
+neg n = negℤ (pos n)
+
 abbrev rectangle : ℤ → ℤ → ℕ → ℕ → Rectangle
 rectangle x y w h = record { «top_left» = record { x = x; y = y }; size = record { width = w; height = h } }
 
 abbrev metrics : ℕ → ℕ → ℤ → ℤ → ℤ → ℕ → GlyphReader
 metrics w h x y d at = record { «glyph_width» = w; «glyph_height» = h; «offset_x» = x; «offset_y» = y; advance = d; «bit_pos» = at }
 
--- a text measured at (10, 20) on the baseline, with T's line height
-abbrev measuredAt : List ℕ → List ℕ → Result
-measuredAt font text = measured (measure font text (point (pos 10) (pos 20)) Baseline 4 false)
+-- a text at (10, 20) on the baseline, with T's line height: measured, skipping unknown letters or not ..
+abbrev measuredWith : Bool → List ℕ → List ℕ → Result
+measuredWith skip font text = measured (measure font text (point (pos 10) (pos 20)) Baseline 4 skip)
 
--- .. and drawn with colour 1 on 12 × 22 pixels of 0
-abbrev drawnAt : List ℕ → List ℕ → Result
-drawnAt font text =
-    let style : FontStyle = record { color = Transparent 1; «vertical_pos» = Baseline } in
+abbrev measuredAt : List ℕ → List ℕ → Result
+measuredAt = measuredWith false
+
+abbrev alignedAt : HorizontalAlignment → List ℕ → List ℕ → Result
+alignedAt a font text = boxed (measureAligned font text (point (pos 10) (pos 20)) Baseline a 4 false)
+
+-- .. and drawn on 15 × 24 pixels of 0, in the colour 1 unless another is given
+abbrev drawnWith : FontColor → Bool → List ℕ → List ℕ → Result
+drawnWith color skip font text =
+    let style : FontStyle = record { color = color; «vertical_pos» = Baseline } in
     drawn
-    (draw font text (point (pos 10) (pos 20)) style 4 false 12 22 (replicate 264 0))
-    (drawBuffer font text (point (pos 10) (pos 20)) style 4 false 12 22 (replicate 264 0))
+    (draw font text (point (pos 10) (pos 20)) style 4 skip 15 24 (replicate 360 0))
+    (drawBuffer font text (point (pos 10) (pos 20)) style 4 skip 15 24 (replicate 360 0))
+
+abbrev drawnAt : List ℕ → List ℕ → Result
+drawnAt = drawnWith (Transparent 1) false
 
 abbrev dims : ℤ → ℤ → BoundingBox → Outcome RenderedDimensions
 dims x y b = success record { advance = point x y; «bounding_box» = b }
 
--- the 12 × 22 pixels with those set whose column and row are listed
+-- the 15 × 24 pixels with a colour where column and row are listed ..
+abbrev colored : ℕ → List (ℕ × ℕ) → List ℕ → List ℕ
+colored color [] pixels = pixels
+colored color (p ∷ ps) pixels = set (colored color ps pixels) (p .1 * 15 + p .0) color
+
+-- .. the colour 1
 abbrev inked : List (ℕ × ℕ) → List ℕ
-inked [] = replicate 264 0
-inked (p ∷ ps) = set (inked ps) (p .1 * 12 + p .0) 1
+inked ps = colored 1 ps (replicate 360 0)
+
+-- T's "-", "4", "-4", and "4" on the line below "-": advance and box, and the pixels that are set
+abbrev minus : Outcome RenderedDimensions
+minus = dims (pos 3) (pos 0) (Some (rectangle (pos 10) (pos 17) 2 1))
+
+abbrev minusPixels : List (ℕ × ℕ)
+minusPixels = (10, 17) ∷ (11, 17) ∷ []
+
+abbrev four : Outcome RenderedDimensions
+four = dims (pos 3) (pos 0) (Some (rectangle (pos 10) (pos 18) 2 2))
+
+abbrev fourPixels : List (ℕ × ℕ)
+fourPixels = (10, 18) ∷ (10, 19) ∷ (11, 19) ∷ []
+
+abbrev minusFour : Outcome RenderedDimensions
+minusFour = dims (pos 6) (pos 0) (Some (rectangle (pos 10) (pos 17) 5 3))
+
+abbrev minusFourPixels : List (ℕ × ℕ)
+minusFourPixels = (10, 17) ∷ (11, 17) ∷ (13, 18) ∷ (13, 19) ∷ (14, 19) ∷ []
+
+abbrev fourBelow : Outcome RenderedDimensions
+fourBelow = dims (pos 3) (pos 4) (Some (rectangle (pos 10) (pos 17) 2 7))
+
+abbrev fourBelowPixels : List (ℕ × ℕ)
+fourBelowPixels = (10, 17) ∷ (11, 17) ∷ (10, 22) ∷ (10, 23) ∷ (11, 23) ∷ []
 
 -- header values of T, and its line height 4
 abbrev headerOfT : FontReader
@@ -98,6 +141,40 @@ headerOfT = record {
   «line_height» = 4;
 }
 
+-- A font of 23 different bytes, none of them 0: a value that is read from another byte differs. Bytes 11 to 16 are negative,
+-- and Center divides −3 by 2.
+abbrev H : List ℕ
+H =
+    150 ∷ 200 ∷ 5 ∷ 6 ∷ 7 ∷ 3 ∷ 2 ∷ 4 ∷ 8 ∷ 11 ∷ 13 ∷ 251 ∷ 247 ∷ 235 ∷ 239 ∷ 253 ∷ 242
+    ∷ 1 ∷ 9 ∷ 10 ∷ 12 ∷ 15 ∷ 16
+    ∷ []
+
+-- its values, byte 1 being 0 or not
+abbrev headerOfH : Bool → FontReader
+headerOfH background = record {
+  «glyph_count» = 150;
+  «supports_background_color» = background;
+  m0 = 5;
+  m1 = 6;
+  «bitcnt_w» = 7;
+  «bitcnt_h» = 3;
+  «bitcnt_x» = 2;
+  «bitcnt_y» = 4;
+  «bitcnt_d» = 8;
+  «font_bounding_box_width» = pos 11;
+  «font_bounding_box_height» = pos 13;
+  «font_bounding_box_x_offset» = neg 5;
+  «font_bounding_box_y_offset» = neg 9;
+  ascent = neg 21;
+  descent = neg 17;
+  «ascent_of_parentheses» = neg 3;
+  «descent_of_parentheses» = neg 14;
+  «array_offset_upper_a» = 265;
+  «array_offset_lower_a» = 2572;
+  «array_offset_0x0100» = 3856;
+  «line_height» = 14;
+}
+
 -- T's header with all offsets 0, a glyph "!" of no pixels and advance 1, and T's "-"
 abbrev F : List ℕ
 F =
@@ -110,13 +187,20 @@ F =
 unfoldable pub cases : List Case
 cases =
     -- * Center, ascent −4, descent 0, no newline
-    record { given = offset (verticalOffset Center (pos 0) (negsuc 3) (pos 0)); expected = offset (negsuc 0) }
+    record { given = offset (verticalOffset Center (pos 0) (neg 4) (pos 0)); expected = offset (neg 1) }
     -- T opens, with line height 4; T's font box from each anchor
     ∷ record { given = opened (openFont T); expected = opened (success headerOfT) }
-    ∷ record { given = box (fontBoundingBox T Baseline); expected = box (success (rectangle (pos 0) (negsuc 2) 2 3)) }
+    ∷ record { given = box (fontBoundingBox T Baseline); expected = box (success (rectangle (pos 0) (neg 3) 2 3)) }
     ∷ record { given = box (fontBoundingBox T Top); expected = box (success (rectangle (pos 0) (pos 1) 2 3)) }
-    ∷ record { given = box (fontBoundingBox T Center); expected = box (success (rectangle (pos 0) (negsuc 0) 2 3)) }
-    ∷ record { given = box (fontBoundingBox T Bottom); expected = box (success (rectangle (pos 0) (negsuc 2) 2 3)) }
+    ∷ record { given = box (fontBoundingBox T Center); expected = box (success (rectangle (pos 0) (neg 1) 2 3)) }
+    ∷ record { given = box (fontBoundingBox T Bottom); expected = box (success (rectangle (pos 0) (neg 3) 2 3)) }
+    -- H opens, with its byte 1 and with 0 there; H's font box from each anchor
+    ∷ record { given = opened (openFont H); expected = opened (success (headerOfH true)) }
+    ∷ record { given = opened (openFont (set H 1 0)); expected = opened (success (headerOfH false)) }
+    ∷ record { given = box (fontBoundingBox H Baseline); expected = box (success (rectangle (neg 5) (neg 4) 11 13)) }
+    ∷ record { given = box (fontBoundingBox H Top); expected = box (success (rectangle (neg 5) (neg 24) 11 13)) }
+    ∷ record { given = box (fontBoundingBox H Center); expected = box (success (rectangle (neg 5) (neg 22) 11 13)) }
+    ∷ record { given = box (fontBoundingBox H Bottom); expected = box (success (rectangle (neg 5) (neg 21) 11 13)) }
     -- the glyphs of "-" and "4"
     ∷ record { given = answered (glyph T 45); expected = answered (success (metrics 2 1 (pos 0) (pos 2) (pos 3) 214)) }
     ∷ record { given = answered (glyph T 52); expected = answered (success (metrics 2 2 (pos 0) (pos 0) (pos 3) 254)) }
@@ -131,24 +215,51 @@ cases =
     -- glyph data reaches past its jump: T with the jump of "4" cut to 3
     ∷ record { given = answered (glyph (set T 29 3) 52); expected = answered (success (metrics 2 2 (pos 0) (pos 0) (pos 3) 254)) }
     -- * "-" and "4" at (10, 20)
-    ∷ record { given = measuredAt T (45 ∷ []); expected = measured (dims (pos 3) (pos 0) (Some (rectangle (pos 10) (pos 17) 2 1))) }
-    ∷ record { given = drawnAt T (45 ∷ []); expected = drawn (dims (pos 3) (pos 0) (Some (rectangle (pos 10) (pos 17) 2 1))) (inked ((10, 17) ∷ (11, 17) ∷ [])) }
-    ∷ record { given = drawnAt T (52 ∷ []); expected = drawn (dims (pos 3) (pos 0) (Some (rectangle (pos 10) (pos 18) 2 2))) (inked ((10, 18) ∷ (10, 19) ∷ (11, 19) ∷ [])) }
+    ∷ record { given = measuredAt T (45 ∷ []); expected = measured minus }
+    ∷ record { given = drawnAt T (45 ∷ []); expected = drawn minus (inked minusPixels) }
+    ∷ record { given = drawnAt T (52 ∷ []); expected = drawn four (inked fourPixels) }
+    -- "4" with the background colour 2 where the font allows one (byte 1), and where it does not
+    ∷ record {
+      given = drawnWith (WithBackground 1 2) false (set T 1 3) (52 ∷ []);
+      expected = drawn four (colored 2 ((11, 18) ∷ []) (inked fourPixels));
+    }
+    ∷ record { given = drawnWith (WithBackground 1 2) false T (52 ∷ []); expected = drawn (refused 6 0) (inked []) }
     -- * "-4", plain, centred and from the right
-    ∷ record { given = measuredAt T (45 ∷ 52 ∷ []); expected = measured (dims (pos 6) (pos 0) (Some (rectangle (pos 10) (pos 17) 5 3))) }
-    ∷ record { given = boxed (measureAligned T (45 ∷ 52 ∷ []) (point (pos 10) (pos 20)) Baseline Alignment·Center 4 false); expected = boxed (success (Some (rectangle (pos 8) (pos 17) 5 3))) }
-    ∷ record { given = boxed (measureAligned T (45 ∷ 52 ∷ []) (point (pos 10) (pos 20)) Baseline Alignment·Right 4 false); expected = boxed (success (Some (rectangle (pos 5) (pos 17) 5 3))) }
+    ∷ record { given = measuredAt T (45 ∷ 52 ∷ []); expected = measured minusFour }
+    ∷ record { given = drawnAt T (45 ∷ 52 ∷ []); expected = drawn minusFour (inked minusFourPixels) }
+    ∷ record {
+      given = alignedAt Alignment·Center T (45 ∷ 52 ∷ []);
+      expected = boxed (success (Some (rectangle (pos 8) (pos 17) 5 3)));
+    }
+    ∷ record {
+      given = alignedAt Alignment·Right T (45 ∷ 52 ∷ []);
+      expected = boxed (success (Some (rectangle (pos 5) (pos 17) 5 3)));
+    }
     -- a centred line whose box does not begin at the line's start: "!-" in a font whose "!" has no pixels
-    ∷ record { given = boxed (measureAligned F (33 ∷ 45 ∷ []) (point (pos 10) (pos 10)) Baseline Alignment·Center 4 false); expected = boxed (success (Some (rectangle (pos 9) (pos 7) 2 1))) }
+    ∷ record {
+      given = alignedAt Alignment·Center F (33 ∷ 45 ∷ []);
+      expected = boxed (success (Some (rectangle (pos 9) (pos 17) 2 1)));
+    }
     -- * "-", newline, "4"
-    ∷ record { given = measuredAt T (45 ∷ 10 ∷ 52 ∷ []); expected = measured (dims (pos 3) (pos 4) (Some (rectangle (pos 10) (pos 17) 2 7))) }
+    ∷ record { given = measuredAt T (45 ∷ 10 ∷ 52 ∷ []); expected = measured fourBelow }
+    ∷ record { given = drawnAt T (45 ∷ 10 ∷ 52 ∷ []); expected = drawn fourBelow (inked fourBelowPixels) }
     -- * "A", U+0100 and U+10000: 7; U+0000: 8
     ∷ record { given = measuredAt T (65 ∷ []); expected = measured (refused 7 65) }
     ∷ record { given = measuredAt T (196 ∷ 128 ∷ []); expected = measured (refused 7 256) }
     ∷ record { given = measuredAt T (240 ∷ 144 ∷ 128 ∷ 128 ∷ []); expected = measured (refused 7 65536) }
     ∷ record { given = measuredAt T (0 ∷ []); expected = measured (refused 8 0) }
+    -- skipping turns 7 into advance 0 and no box: "A", and "-A4"; it does not hide 8: "-", U+0000, "4"
+    ∷ record { given = measuredWith true T (65 ∷ []); expected = measured (dims (pos 0) (pos 0) None) }
+    ∷ record {
+      given = drawnWith (Transparent 1) true T (45 ∷ 65 ∷ 52 ∷ []);
+      expected = drawn minusFour (inked minusFourPixels);
+    }
+    ∷ record {
+      given = drawnWith (Transparent 1) true T (45 ∷ 0 ∷ 52 ∷ []);
+      expected = drawn (refused 8 0) (inked minusPixels);
+    }
     -- * T cut to 33 bytes: "4" draws, "A" gives 8
-    ∷ record { given = drawnAt (take 33 T) (52 ∷ []); expected = drawn (dims (pos 3) (pos 0) (Some (rectangle (pos 10) (pos 18) 2 2))) (inked ((10, 18) ∷ (10, 19) ∷ (11, 19) ∷ [])) }
+    ∷ record { given = drawnAt (take 33 T) (52 ∷ []); expected = drawn four (inked fourPixels) }
     ∷ record { given = drawnAt (take 33 T) (65 ∷ []); expected = drawn (refused 8 65) (inked []) }
     -- * the empty text
     ∷ record { given = measuredAt T []; expected = measured (dims (pos 0) (pos 0) None) }

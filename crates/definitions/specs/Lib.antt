@@ -16,7 +16,6 @@ pub mod Limits
 pub mod Calls
 pub mod Line
 pub mod Agreement
-pub mod Redraw
 pub mod Whole
 pub mod FontT
 pub mod Cases

@@ -1,13 +1,13 @@
 -- One example of each kind of fact that `omega` proves with the laws of Laws.antt: what to list, and how.
 -- `_≤ℤ_` and `_<ℤ_` bind tighter than `_+ℤ_`, so a sum beside them stands in parentheses. Assumes nothing.
-use mathlib.Core.Path.{_≡_, refl}
+use mathlib.Core.Path.{_≡_}
 use mathlib.Core.Bool.{true, false}
 use Prim.Native.Nat.{ℕ, _≤_, _<_}
-use lib.IntN.{ℤ, pos, negsuc, natAbs, negℤ, _+ℤ_, _-ℤ_}
+use lib.IntN.{ℤ, pos, natAbs, negℤ, _+ℤ_, _-ℤ_}
 use lib.Signed.{ltZ, _≤ℤ_, _<ℤ_}
 use mir.Syntax.{w8, w32}
 use mir.Val.{SFits}
-use Rattle.integers.specs.Integers.{minZ, maxZ, half, signed8}
+use Rattle.integers.specs.Integers.{minZ, maxZ, half}
 use Rattle.integers.proofs.Laws.{zarith, plus, minus, neg, half-is, min-is, max-is, size, range}
 
 -- an order
@@ -44,14 +44,3 @@ halved a h = omega (zarith, half-is a)
 -- a difference as a natural number
 distance : (a b : ℤ) (n : ℕ) → a ≤ℤ b → b ≤ℤ (a +ℤ pos n) → natAbs (b -ℤ a) ≤ n
 distance a b n h k = omega (zarith, minus b a, plus a (pos n), size (b -ℤ a))
-
--- at closed numbers everything computes
-half-of-minus-three : half (negsuc 2) ≡ negsuc 0
-half-of-minus-three = refl
-
-half-of-three : half (pos 3) ≡ pos 1
-half-of-three = refl
-
-signed8-ends : (signed8 127 ≡ pos 127) × ((signed8 128 ≡ negsuc 127) × (signed8 255 ≡ negsuc 0))
-unfolding signed8
-signed8-ends = (refl, (refl, refl))

@@ -207,6 +207,9 @@ castable {z = z} t f h = (nonneg z h, fits-natAbs t f)
 
 -- ---- division towards zero
 
+pub halves : (half (pos 3) ≡ pos 1) × (half (negsuc 2) ≡ negsuc 0)
+halves = (refl, refl)
+
 up-neg : (r : ℕ) → up (negℤ (pos r)) ≡ 0
 up-neg zero = refl
 up-neg (suc r) = refl
@@ -230,6 +233,10 @@ half-fits w z f = up-fits w (half z) (omega (arith, half-is z, range f))
 pub ruleset zarith = (arith, eq-up, up-eq, le-up, up-le, lt-up, up-lt, ltZ-true, ltZ-false, leZ-true, leZ-false, ltZ-yes, leZ-yes, ltZ-no, leZ-no, up-fits, nonneg, back)
 
 -- ---- a byte read as signed
+
+pub signed8-ends : (signed8 127 ≡ pos 127) × ((signed8 128 ≡ negsuc 127) × (signed8 255 ≡ negsuc 0))
+unfolding signed8
+signed8-ends = (refl, (refl, refl))
 
 signed8′ : (b : ℕ) (t : Bool) → ltb b 128 ≡ t → b < 256 → SFits w8 (pick t (pos b) (pos b -ℤ pos 256))
 signed8′ b true e h = omega (zarith, ltb-true)

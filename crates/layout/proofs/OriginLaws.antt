@@ -70,15 +70,15 @@ position-limits position lineHeight e =
 
 -- ---- the origin
 
-module _ (head : FontReader) (text : List ℕ) (position : Point) (v : VerticalPosition) (lineHeight : ℕ) where
+module _ (ascent descent : ℤ) (text : List ℕ) (position : Point) (v : VerticalPosition) (lineHeight : ℕ) where
   abbrev pub offset : ℤ
-  offset = verticalOffset v (pos (newlines (characters text) * lineHeight)) (head .ascent) (head .descent)
+  offset = verticalOffset v (pos (newlines (characters text) * lineHeight)) ascent descent
 
-  module _ (f : SFits w8 (head .ascent)) (g : SFits w8 (head .descent)) (a : TextLimits text) (b : PositionLimits position lineHeight) where
+  module _ (f : SFits w8 ascent) (g : SFits w8 descent) (a : TextLimits text) (b : PositionLimits position lineHeight) where
     pub offset-near : (negsuc 268431487 ≤ℤ offset) × (offset ≤ℤ pos 128)
     offset-near = offset-limits (newlines (characters text) * lineHeight) f g v (newlines-most (a .count) (b .line))
 
-    pub origin-checked : Checked text (originBy head text position v lineHeight) lineHeight
+    pub origin-checked : Checked text (originBy ascent descent text position v lineHeight) lineHeight
     origin-checked =
         let o = offset-near in
         record {
@@ -97,51 +97,52 @@ module _ (head : FontReader) (text : List ℕ) (position : Point) (v : VerticalP
 
   pub record Passed (o : Point) : Type 0 where
     pub text-in : TextLimits text
+    pub place-off : positionCause position lineHeight .applies ≡ false
     pub place-in : PositionLimits position lineHeight
-    pub is : originBy head text position v lineHeight ≡ o
+    pub is : originBy ascent descent text position v lineHeight ≡ o
 
   passed-by : (s t : Bool) → textCause text .applies ≡ s → positionCause position lineHeight .applies ≡ t → (o : Point)
-      → after (success (originBy head text position v lineHeight)) s t ≡ success o → Passed o
+      → after (success (originBy ascent descent text position v lineHeight)) s t ≡ success o → Passed o
   passed-by true t p q o e = let z : _≡_ {A = ℕ} 0 1 = cc in absurd (omega arith)
   passed-by false true p q o e = let z : _≡_ {A = ℕ} 0 1 = cc in absurd (omega arith)
-  passed-by false false p q o e = record { text-in = text-limits text p; place-in = position-limits position lineHeight q; is = cc }
+  passed-by false false p q o e = record { text-in = text-limits text p; place-off = q; place-in = position-limits position lineHeight q; is = cc }
 
-  pub passed : (o : Point) → checkedOrigin head text position v lineHeight ≡ success o → Passed o
+  pub passed : (o : Point) → checkedOrigin ascent descent text position v lineHeight ≡ success o → Passed o
   passed o e = passed-by (textCause text .applies) (positionCause position lineHeight .applies) refl refl o e
 
-  pub passed-checked : {o : Point} → SFits w8 (head .ascent) → SFits w8 (head .descent) → Passed o → Checked text o lineHeight
+  pub passed-checked : {o : Point} → SFits w8 ascent → SFits w8 descent → Passed o → Checked text o lineHeight
   passed-checked f g p = subst (λ (o : Point). Checked text o lineHeight) (p .is) (origin-checked f g (p .text-in) (p .place-in))
 
   module _ {A : Type 0} (rest : Outcome A) where
-    refused-by : (s t : Bool) (n c : ℕ) → after (success (originBy head text position v lineHeight)) s t ≡ refused n c → after rest s t ≡ refused n c
+    refused-by : (s t : Bool) (n c : ℕ) → after (success (originBy ascent descent text position v lineHeight)) s t ≡ refused n c → after rest s t ≡ refused n c
     refused-by true t n c e = cc
     refused-by false true n c e = cc
     refused-by false false n c e = let z : _≡_ {A = ℕ} 0 1 = cc in absurd (omega arith)
 
-    pub origin-refused : (n c : ℕ) → checkedOrigin head text position v lineHeight ≡ refused n c
+    pub origin-refused : (n c : ℕ) → checkedOrigin ascent descent text position v lineHeight ≡ refused n c
         → unlessRefused (textCause text ∷ positionCause position lineHeight ∷ []) rest ≡ refused n c
     origin-refused n c e = refused-by (textCause text .applies) (positionCause position lineHeight .applies) n c e
 
-    goes-on-by : (s t : Bool) (o : Point) → after (success (originBy head text position v lineHeight)) s t ≡ success o → after rest s t ≡ rest
+    goes-on-by : (s t : Bool) (o : Point) → after (success (originBy ascent descent text position v lineHeight)) s t ≡ success o → after rest s t ≡ rest
     goes-on-by true t o e = let z : _≡_ {A = ℕ} 0 1 = cc in absurd (omega arith)
     goes-on-by false true o e = let z : _≡_ {A = ℕ} 0 1 = cc in absurd (omega arith)
     goes-on-by false false o e = refl
 
-    pub origin-goes-on : (o : Point) → checkedOrigin head text position v lineHeight ≡ success o
+    pub origin-goes-on : (o : Point) → checkedOrigin ascent descent text position v lineHeight ≡ success o
         → unlessRefused (textCause text ∷ positionCause position lineHeight ∷ []) rest ≡ rest
     origin-goes-on o e = goes-on-by (textCause text .applies) (positionCause position lineHeight .applies) o e
 
 -- ---- a call that measures, on a font that opens
 
 module _ (font : List ℕ) {head : FontReader} (opens : openFont font ≡ success head) (text : List ℕ) (position : Point) (v : VerticalPosition) (lineHeight : ℕ) where
-  pub origin-is : {o : Point} → checkedOrigin head text position v lineHeight ≡ success o → origin font text position v lineHeight ≡ o
+  pub origin-is : {o : Point} → checkedOrigin (head .ascent) (head .descent) text position v lineHeight ≡ success o → origin font text position v lineHeight ≡ o
   origin-is {o} e =
-      ap (λ (h : FontReader). originBy h text position v lineHeight) (sym (opened font head opens .read))
-      ∙ passed head text position v lineHeight o e .is
+      ap (λ (h : FontReader). originBy (h .ascent) (h .descent) text position v lineHeight) (sym (opened font head opens .read))
+      ∙ passed (head .ascent) (head .descent) text position v lineHeight o e .is
 
   module _ {A : Type 0} (rest : Outcome A) where
-    pub call-refused : {n c : ℕ} → checkedOrigin head text position v lineHeight ≡ refused n c → unlessRefused (measureCauses font text position lineHeight) rest ≡ refused n c
-    call-refused {n} {c} e = open-goes-on font _ head opens ∙ origin-refused head text position v lineHeight rest n c e
+    pub call-refused : {n c : ℕ} → checkedOrigin (head .ascent) (head .descent) text position v lineHeight ≡ refused n c → unlessRefused (measureCauses font text position lineHeight) rest ≡ refused n c
+    call-refused {n} {c} e = open-goes-on font _ head opens ∙ origin-refused (head .ascent) (head .descent) text position v lineHeight rest n c e
 
-    pub call-goes-on : {o : Point} → checkedOrigin head text position v lineHeight ≡ success o → unlessRefused (measureCauses font text position lineHeight) rest ≡ rest
-    call-goes-on {o} e = open-goes-on font _ head opens ∙ origin-goes-on head text position v lineHeight rest o e
+    pub call-goes-on : {o : Point} → checkedOrigin (head .ascent) (head .descent) text position v lineHeight ≡ success o → unlessRefused (measureCauses font text position lineHeight) rest ≡ rest
+    call-goes-on {o} e = open-goes-on font _ head opens ∙ origin-goes-on (head .ascent) (head .descent) text position v lineHeight rest o e

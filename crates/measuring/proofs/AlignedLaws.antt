@@ -71,7 +71,7 @@ module _ {answers : ℕ → Answer} {a : HorizontalAlignment} {lineHeight : ℕ}
 -- ---- what the calls share
 
 module _ (font : List ℕ) {head : FontReader} (opens : openFont font ≡ success head) (text : List ℕ) (position : Point) (v : VerticalPosition) (a : HorizontalAlignment) (lineHeight : ℕ) (skip : Bool) where
-  pub aligned-is : {o : Point} → checkedOrigin head text position v lineHeight ≡ success o
+  pub aligned-is : {o : Point} → checkedOrigin (head .ascent) (head .descent) text position v lineHeight ≡ success o
       → measureLines (measuredAnswer font skip) a lineHeight o (codePoints (decode text)) ≡ alignedDimensions font text position v a lineHeight skip
   unfolding alignedDimensions
   aligned-is {o} e =
@@ -79,7 +79,7 @@ module _ (font : List ℕ) {head : FontReader} (opens : openFont font ≡ succes
       ∙ measure-lines (measuredAnswer font skip) a lineHeight (origin font text position v lineHeight) (codePoints (decode text))
       ∙ sym (call-goes-on font opens text position v lineHeight _ e)
 
-  pub aligned-refused : {n c : ℕ} → checkedOrigin head text position v lineHeight ≡ refused n c → refused n c ≡ alignedDimensions font text position v a lineHeight skip
+  pub aligned-refused : {n c : ℕ} → checkedOrigin (head .ascent) (head .descent) text position v lineHeight ≡ refused n c → refused n c ≡ alignedDimensions font text position v a lineHeight skip
   unfolding alignedDimensions
   aligned-refused e = sym (call-refused font opens text position v lineHeight _ e)
 

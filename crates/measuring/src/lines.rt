@@ -210,7 +210,14 @@ pub fn aligned_dimensions(
     match new_from_raw_data(font) {
         FontReaderResult::Err(error) => DimensionsResult::Err(error),
         FontReaderResult::Ok(head) => {
-            match checked_origin(head, text, position, vertical_pos, line_height) {
+            match checked_origin(
+                head.ascent,
+                head.descent,
+                text,
+                position,
+                vertical_pos,
+                line_height,
+            ) {
                 OriginResult::Err(error) => DimensionsResult::Err(error),
                 OriginResult::Ok(origin) => {
                     measure_lines(

@@ -1,13 +1,11 @@
 -- The ground, reading by reading: a cleared box is background and stays so, and beside all boxes the rubbish stays. Assumes nothing.
 use mathlib.Core.Path.{_≡_, refl, sym, ap, subst, _∙_}
-use mathlib.Core.Bool.{Bool, true, false, _||_, not}
+use mathlib.Core.Bool.{Bool, true, false}
 use mathlib.Core.List.{List}
 use Prim.Native.Nat.{ℕ, zero, suc, _+_, _*_, _%_, _≤_, _<_}
 use native.Mathlib.Decide.{decLt}
 use native.Mathlib.Nat.{mul-le-mul-right, mul-comm, zero-add}
 use native.Mathlib.Omega.{arith}
-use borrow.Author.Tests.{le-ltb, ne-eqb, eq-eqb}
-use lib.Dec.{eqb, ltb}
 use lib.IntN.{pos}
 use lib.ListN.{length, getD, replicate, length-replicate}
 use lib.Seq.{ext-getD}
@@ -17,16 +15,16 @@ use Rattle.types.specs.declared.geometry.RenderedDimensions.{RenderedDimensions
 use Rattle.definitions.specs.Refusals.{Outcome, success, refused}
 use Rattle.definitions.specs.Geometry.{InsideBox}
 use Rattle.definitions.specs.Picture.{Paint, covers}
-use Rattle.definitions.specs.Framebuffer.{over, mapAt, framebufferCause}
+use Rattle.definitions.specs.Framebuffer.{over, mapAt, shown}
 use Rattle.definitions.specs.Agreement.{measured, pixel}
-use Rattle.definitions.specs.Redraw.{fillPicture, clearedBuffer}
+use Rattle.redraw.specs.Redraw.{fillPicture, clearedBy}
 use Rattle.definitions.proofs.PictureLaws.{covers-inside}
 use Rattle.definitions.proofs.FramebufferLaws.{length-mapAt, getD-mapAt, length-shown, shown-at}
 use Rattle.framebuffer.proofs.RowLaws.{outside}
 use Rattle.redraw.proofs.FillLaws.{fill-inside, fill-outside}
 use Rattle.readings.specs.declared.values.Place.{Place}
 use Rattle.readings.specs.Readings.{reading, framebuffer}
-use Rattle.readings.specs.Ground.{rubbishAt, rubbish, clearedBy, clearedTo, ground, ClearTo, RubbishBeside}
+use Rattle.readings.specs.Ground.{rubbishAt, rubbish, clearedTo, ground, ClearTo, RubbishBeside}
 use Rattle.readings.specs.Grid.{PlaceFits}
 
 -- ---- rubbish
@@ -48,25 +46,19 @@ all-rubbish l n e each =
 -- ---- one box
 
 module _ (place : Place) (fits : PlaceFits (place .width) (place .height)) (bytes : List ℕ) (whole : length bytes ≡ place .width * place .height) where
-  sized : framebufferCause (place .width) (place .height) bytes .applies ≡ false
-  sized =
-      let w : place .width ≡ 0 → ⊥ = λ e. omega (arith, fits .some-wide) in
-      let h : place .height ≡ 0 → ⊥ = λ e. omega (arith, fits .some-high) in
-      rw (ne-eqb (place .width) 0 w, le-ltb 256 (place .width) (fits .wide), ne-eqb (place .height) 0 h, le-ltb 256 (place .height) (fits .high), eq-eqb (length bytes) (place .width * place .height) whole)
-
   module _ (box : BoundingBox) where
-    pub length-cleared : length (clearedBuffer (place .background) (framebuffer place bytes) box) ≡ place .width * place .height
-    length-cleared = rw sized (length-shown (place .width) (fillPicture (place .background) box) bytes ∙ whole)
+    pub length-cleared : length (shown (place .width) (fillPicture (place .background) box) bytes) ≡ place .width * place .height
+    length-cleared = length-shown (place .width) (fillPicture (place .background) box) bytes ∙ whole
 
     module _ (column row : ℕ) (c : column < place .width) (r : row < place .height) where
       lies : row * place .width + column < length bytes
       lies = let below : suc row ≤ place .height = omega arith in omega (arith, whole, mul-le-mul-right (place .width) below, mul-comm (place .width) (place .height))
 
       abbrev after : ℕ
-      after = pixel (framebuffer place bytes) (clearedBuffer (place .background) (framebuffer place bytes) box) column row
+      after = pixel (framebuffer place bytes) (shown (place .width) (fillPicture (place .background) box) bytes) column row
 
       cleared-pixel : after ≡ over (fillPicture (place .background) box (pos column) (pos row)) (pixel (framebuffer place bytes) bytes column row)
-      cleared-pixel = rw sized (shown-at (place .width) (fillPicture (place .background) box) bytes column row c lies)
+      cleared-pixel = shown-at (place .width) (fillPicture (place .background) box) bytes column row c lies
 
   module _ (column row : ℕ) (c : column < place .width) (r : row < place .height) where
     in-box : (box : BoundingBox) → InsideBox (pos column) (pos row) box → after box column row c r ≡ place .background
@@ -92,14 +84,6 @@ module _ (place : Place) (fits : PlaceFits (place .width) (place .height)) (byte
 
 -- ---- one reading after the other
 
-module _ (place : Place) (bytes : List ℕ) (o : Outcome RenderedDimensions) where
-  pub refused-reading : {n c : ℕ} → o ≡ refused n c → bytes ≡ clearedBy place bytes o
-  refused-reading h = rw h
-
-  pub measured-reading : {d : RenderedDimensions} → o ≡ success d
-      → clearedBuffer (place .background) (framebuffer place bytes) (d .«bounding_box») ≡ clearedBy place bytes o
-  measured-reading h = rw h
-
 same-box : {d e : RenderedDimensions} → _≡_ {A = Outcome RenderedDimensions} (success d) (success e) → d .«bounding_box» ≡ e .«bounding_box»
 same-box {d} {e} h = let same : d ≡ e = cc in ap (λ (x : RenderedDimensions). x .«bounding_box») same
 
@@ -108,15 +92,15 @@ not-both e = let z : _≡_ {A = ℕ} 0 1 = cc in omega arith
 
 module _ (font : List ℕ) (place : Place) (fits : PlaceFits (place .width) (place .height)) where
   length-by : (o : Outcome RenderedDimensions) (bytes : List ℕ) → length bytes ≡ place .width * place .height
-      → length (clearedBy place bytes o) ≡ place .width * place .height
+      → length (clearedBy (place .width) (place .background) o bytes) ≡ place .width * place .height
   length-by (success d) bytes l = length-cleared place fits bytes l (d .«bounding_box»)
   length-by (refused n c) bytes l = l
 
   module _ (n : ℕ) (bytes : List ℕ) (whole : length bytes ≡ place .width * place .height) where
-    clear-next : (o : Outcome RenderedDimensions) → measured font (reading place n) ≡ o → ClearTo n font place bytes → ClearTo (suc n) font place (clearedBy place bytes o)
+    clear-next : (o : Outcome RenderedDimensions) → measured font (reading place n) ≡ o → ClearTo n font place bytes → ClearTo (suc n) font place (clearedBy (place .width) (place .background) o bytes)
     clear-next (success d) m clear k h e f column row c r i = by (decLt k n)
       where
-        by : Dec (k < n) → pixel (framebuffer place bytes) (clearedBuffer (place .background) (framebuffer place bytes) (d .«bounding_box»)) column row ≡ place .background
+        by : Dec (k < n) → pixel (framebuffer place bytes) (shown (place .width) (fillPicture (place .background) (d .«bounding_box»)) bytes) column row ≡ place .background
         by (yes p) = stays place fits bytes whole column row c r (d .«bounding_box») (clear k p e f column row c r i)
         by (no p) =
             let last : n ≡ k = omega arith in
@@ -128,7 +112,7 @@ module _ (font : List ℕ) (place : Place) (fits : PlaceFits (place .width) (pla
         by (yes p) = clear k p e f column row c r i
         by (no p) = let last : n ≡ k = omega arith in absurd (not-both (sym m ∙ ap (λ (j : ℕ). measured font (reading place j)) last ∙ f))
 
-    rubbish-next : (o : Outcome RenderedDimensions) → measured font (reading place n) ≡ o → RubbishBeside n font place bytes → RubbishBeside (suc n) font place (clearedBy place bytes o)
+    rubbish-next : (o : Outcome RenderedDimensions) → measured font (reading place n) ≡ o → RubbishBeside n font place bytes → RubbishBeside (suc n) font place (clearedBy (place .width) (place .background) o bytes)
     rubbish-next (success d) m stays column row c r out =
         beside place fits bytes whole column row c r (d .«bounding_box») (λ i. out n (omega arith) d m i)
         ∙ stays column row c r (λ k h e f i. out k (omega arith) e f i)
@@ -161,12 +145,12 @@ module _ (font : List ℕ) (place : Place) where
   laid-start n bytes e = e ∙ ap rubbish (sym (ap length e ∙ length-rubbish n))
 
   pub laid-next : (n k : ℕ) {bytes next : List ℕ} → bytes ≡ clearedTo font place k (rubbish n)
-      → next ≡ clearedBy place bytes (measured font (reading place k))
+      → next ≡ clearedBy (place .width) (place .background) (measured font (reading place k)) bytes
       → next ≡ clearedTo font place (k + 1) (rubbish n)
   unfolding clearedTo
   laid-next n k e h =
       let suc-is : suc k ≡ k + 1 = omega arith in
-      h ∙ ap (λ (b : List ℕ). clearedBy place b (measured font (reading place k))) e ∙ ap (λ (j : ℕ). clearedTo font place j (rubbish n)) suc-is
+      h ∙ ap (λ (b : List ℕ). clearedBy (place .width) (place .background) (measured font (reading place k)) b) e ∙ ap (λ (j : ℕ). clearedTo font place j (rubbish n)) suc-is
 
   -- All readings' boxes are cleared.
   pub laid : PlaceFits (place .width) (place .height) → (n k : ℕ) (bytes : List ℕ) → n ≡ place .width * place .height → k ≡ 901

@@ -4,5 +4,6 @@ pub mod WordLaws
 pub mod GridLaws
 pub mod ExtentLaws
 pub mod GroundLaws
-pub mod StepLaws
+pub mod NarrowLaws
+pub mod AloneLaws
 pub mod SheetLaws

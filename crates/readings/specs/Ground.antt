@@ -5,11 +5,11 @@ use Prim.Native.Nat.{ℕ, zero, suc, _+_, _*_, _%_, _<_}
 use lib.IntN.{pos}
 use lib.ListN.{replicate}
 use Rattle.types.specs.declared.geometry.RenderedDimensions.{RenderedDimensions}
-use Rattle.definitions.specs.Refusals.{Outcome, success, refused}
+use Rattle.definitions.specs.Refusals.{success}
 use Rattle.definitions.specs.Geometry.{InsideBox}
 use Rattle.definitions.specs.Framebuffer.{mapAt}
 use Rattle.definitions.specs.Agreement.{measured, pixel}
-use Rattle.definitions.specs.Redraw.{AllOf, clearedBuffer}
+use Rattle.redraw.specs.Redraw.{AllOf, clearedBy}
 use Rattle.readings.specs.declared.values.Place.{Place}
 use Rattle.readings.specs.Readings.{reading, framebuffer}
 
@@ -19,15 +19,11 @@ rubbishAt i = 96 + i % 101
 unfoldable pub rubbish : ℕ → List ℕ
 rubbish bytes = mapAt (λ i old. rubbishAt i) 0 (replicate bytes 0)
 
--- The box that a reading measures is filled with the background; where measuring refuses it, nothing is.
-abbrev pub clearedBy : Place → List ℕ → Outcome RenderedDimensions → List ℕ
-clearedBy place bytes (success d) = clearedBuffer (place .background) (framebuffer place bytes) (d .«bounding_box»)
-clearedBy place bytes (refused n c) = bytes
-
--- the boxes of the first k readings
+-- The boxes that the first k readings measure are filled with the background; where measuring refuses one, nothing is.
 unfoldable pub clearedTo : List ℕ → Place → ℕ → List ℕ → List ℕ
 clearedTo font place zero bytes = bytes
-clearedTo font place (suc k) bytes = clearedBy place (clearedTo font place k bytes) (measured font (reading place k))
+clearedTo font place (suc k) bytes =
+    clearedBy (place .width) (place .background) (measured font (reading place k)) (clearedTo font place k bytes)
 
 abbrev pub ground : List ℕ → Place → List ℕ
 ground font place = clearedTo font place 901 (rubbish (place .width * place .height))

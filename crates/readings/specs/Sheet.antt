@@ -1,4 +1,4 @@
--- The sheet: each reading drawn over the one before, and compared with the reading drawn alone on the ground.
+-- The sheet: each reading drawn over the one before by the step of the gauge, and the screen compared with what it is to show.
 use mathlib.Core.Path.{_≡_}
 use mathlib.Core.Bool.{Bool, true, false}
 use mathlib.Core.List.{List}
@@ -8,17 +8,17 @@ use Rattle.integers.specs.Integers.{pick}
 use Rattle.types.specs.declared.geometry.BoundingBox.{BoundingBox}
 use Rattle.types.specs.declared.geometry.BoundingBox.the-variants.{None, Some}
 use Rattle.types.specs.declared.geometry.RenderedDimensions.{RenderedDimensions}
-use Rattle.definitions.specs.Refusals.{Outcome, success, refused, refusal}
-use Rattle.definitions.specs.Agreement.{Request, Framebuffer, framebufferOf, drawn, after, measured}
-use Rattle.definitions.specs.Redraw.{redrawnOver, afterOver}
+use Rattle.definitions.specs.Refusals.{Outcome, success, refused, anyApplies}
+use Rattle.definitions.specs.Calls.{dimensionsOutcome}
+use Rattle.definitions.specs.Agreement.{Request, Framebuffer, framebufferOf, drawn}
 use Rattle.redraw.specs.Differences.{differences}
-use Rattle.readings.specs.declared.values.Checked.{Checked}
-use Rattle.readings.specs.declared.values.Checked.the-variants.{Differs, Refused}
+use Rattle.redraw.specs.Redraw.{readingOn, clearedBy, redrawCauses, withText, redrawn, taken}
+use Rattle.readings.specs.declared.values.Found.{Found}
 use Rattle.readings.specs.declared.values.Place.{Place}
 use Rattle.readings.specs.declared.values.Sheet.{Sheet}
 use Rattle.readings.specs.declared.values.Sheet.the-variants.{Made, NoImage}
 use Rattle.readings.specs.declared.values.Totals.{Totals}
-use Rattle.readings.specs.Readings.{reading, framebuffer}
+use Rattle.readings.specs.Readings.{readingText, reading, framebuffer}
 use Rattle.readings.specs.Ground.{ground as groundOf}
 
 -- ---- one reading over another
@@ -31,76 +31,73 @@ narrowedBox (Some r) = Some record {
   size = record { width = r .size .width - 1; height = r .size .height };
 }
 
--- What is filled, by what the old reading measures: its box, or with the fault put in one column less.
+-- What is filled of the old reading: its box, or with the fault put in one column less.
 abbrev pub toFill : Bool → Outcome RenderedDimensions → Outcome RenderedDimensions
 toFill true (success d) = success record { advance = d .advance; «bounding_box» = narrowedBox (d .«bounding_box») }
 toFill true (refused n c) = refused n c
 toFill false o = o
 
--- The step of Redraw.antt, with the fault or without.
-unfoldable pub stepAnswer : Bool → List ℕ → Request → Request → ℕ → Framebuffer → Outcome RenderedDimensions
-stepAnswer narrow font old new color p = redrawnOver font new color p (toFill narrow (measured font old))
-
-unfoldable pub stepBuffer : Bool → List ℕ → Request → Request → ℕ → Framebuffer → List ℕ
-stepBuffer narrow font old new color p = afterOver font new color p (toFill narrow (measured font old))
-
--- what the sheet finds: how many pixels differ, if the reading was drawn
-abbrev pub found : Outcome RenderedDimensions → ℕ → Outcome ℕ
-found (success d) n = success n
-found (refused n c) m = refused n c
-
-abbrev pub stepFinding : Bool → List ℕ → Request → Request → ℕ → Framebuffer → List ℕ → Outcome ℕ
-stepFinding narrow font old new color p ground =
-    found (stepAnswer narrow font old new color p)
-    (differences (stepBuffer narrow font old new color p) (after font new (framebufferOf (p .width) (p .height) ground)))
-
-abbrev pub checkedOutcome : Checked → Outcome ℕ
-checkedOutcome (Differs n) = success n
-checkedOutcome (Refused e) = refusal e
-
--- no pixel differs, if the reading was drawn
-abbrev pub NoDifference : Outcome ℕ → Type 0
-NoDifference (success n) = n ≡ 0
-NoDifference (refused n c) = Unit {0}
+-- What the step leaves, with the fault or without: without it `redrawnBuffer`. What it answers is `redrawn` either way.
+unfoldable pub stepBuffer : Bool → List ℕ → List ℕ → Request → ℕ → Framebuffer → List ℕ
+stepBuffer narrow font old new color p =
+    pick (anyApplies (redrawCauses font old new p)) (p .before)
+    (readingOn font new
+    (framebufferOf (p .width) (p .height) (clearedBy (p .width) color (toFill narrow (drawn font (withText old new) p)) (p .before))))
 
 -- ---- one reading after the other
 
--- what the screen holds, and the number of the reading on it: 901, which has no text, where there is none
+-- what the screen holds, and the number of the reading that the next step is to clear: 901, which has no text, where there is none
 pub record Screen : Type 0 where
   pub old : ℕ
   pub bytes : List ℕ
 
--- Of a refused reading nothing stays: the ground is put back.
-abbrev pub held : ℕ → List ℕ → List ℕ → Outcome ℕ → Screen
-held k bytes ground (success n) = record { old = k; bytes = bytes }
-held k bytes ground (refused n c) = record { old = 901; bytes = ground }
+abbrev pub screenOf : ℕ → List ℕ → Screen
+screenOf old bytes = record { old = old; bytes = bytes }
 
 -- reading k over what the screen holds
-abbrev pub findingOn : Bool → List ℕ → Place → List ℕ → Screen → ℕ → Outcome ℕ
-findingOn narrow font place ground s k =
-    stepFinding narrow font (reading place (s .old)) (reading place k) (place .background) (framebuffer place (s .bytes)) ground
+abbrev pub answerOn : List ℕ → Place → Screen → ℕ → Outcome RenderedDimensions
+answerOn font place s k = redrawn font (readingText (s .old)) (reading place k) (framebuffer place (s .bytes))
 
-abbrev pub screenAfter : Bool → List ℕ → Place → List ℕ → Screen → ℕ → Screen
-screenAfter narrow font place ground s k =
-    held k
-    (stepBuffer narrow font (reading place (s .old)) (reading place k) (place .background) (framebuffer place (s .bytes)))
-    ground
-    (findingOn narrow font place ground s k)
+abbrev pub screenAfter : Bool → List ℕ → Place → Screen → ℕ → Screen
+screenAfter narrow font place s k = record {
+  old = pick (taken (answerOn font place s k)) k (s .old);
+  bytes = stepBuffer narrow font (readingText (s .old)) (reading place k) (place .background) (framebuffer place (s .bytes));
+}
+
+-- the pixels in which a screen differs from what it is to show: its reading on the ground, whole or not at all
+abbrev pub differing : List ℕ → Place → List ℕ → Screen → ℕ
+differing font place ground s = differences (s .bytes) (readingOn font (reading place (s .old)) (framebuffer place ground))
 
 -- the screen before reading k
 unfoldable pub screenAt : Bool → List ℕ → Place → List ℕ → ℕ → Screen
 screenAt narrow font place ground zero = record { old = 901; bytes = ground }
-screenAt narrow font place ground (suc k) = screenAfter narrow font place ground (screenAt narrow font place ground k) k
+screenAt narrow font place ground (suc k) = screenAfter narrow font place (screenAt narrow font place ground k) k
 
-abbrev pub finding : Bool → List ℕ → Place → List ℕ → ℕ → Outcome ℕ
-finding narrow font place ground k = findingOn narrow font place ground (screenAt narrow font place ground k) k
+-- What is found of a step: its answer, the reading to clear next, and how many pixels differ.
+pub record Finds (narrow : Bool) (font : List ℕ) (place : Place) (ground : List ℕ) (s : Screen) (k : ℕ) (found : Found) (exit : List ℕ) : Type 0 where
+  pub answer : dimensionsOutcome (found .answer) ≡ answerOn font place s k
+  pub old : found .old ≡ screenAfter narrow font place s k .old
+  pub bytes : exit ≡ screenAfter narrow font place s k .bytes
+  pub differing : found .differing ≡ differing font place ground (screenAfter narrow font place s k)
 
 -- ---- the totals
 
-abbrev pub tallied : Totals → Outcome ℕ → Totals
-tallied t (success n) =
-    record { drawn = t .drawn + 1; differing = pick (eqb n 0) (t .differing) (t .differing + 1); refused = t .refused }
-tallied t (refused n c) = record { drawn = t .drawn; differing = t .differing; refused = t .refused + 1 }
+-- how many of one answer are refused
+abbrev pub refusedOne : {A : Type 0} → Outcome A → ℕ
+refusedOne (success a) = 0
+refusedOne (refused n c) = 1
+
+abbrev pub drawnOne : {A : Type 0} → Outcome A → ℕ
+drawnOne (success a) = 1
+drawnOne (refused n c) = 0
+
+-- one reading more, by its answer and by how many pixels differ
+abbrev pub tallied : Totals → Outcome RenderedDimensions → ℕ → Totals
+tallied t answer n = record {
+  drawn = t .drawn + drawnOne answer;
+  differing = t .differing + pick (eqb n 0) 0 1;
+  refused = t .refused + refusedOne answer;
+}
 
 -- Room for one more.
 pub record Few (t : Totals) : Type 0 where
@@ -111,21 +108,20 @@ pub record Few (t : Totals) : Type 0 where
 -- of the first n readings
 unfoldable pub totalsTo : Bool → List ℕ → Place → List ℕ → ℕ → Totals
 totalsTo narrow font place ground zero = record { drawn = 0; differing = 0; refused = 0 }
-totalsTo narrow font place ground (suc k) = tallied (totalsTo narrow font place ground k) (finding narrow font place ground k)
+totalsTo narrow font place ground (suc k) =
+    tallied (totalsTo narrow font place ground k)
+    (answerOn font place (screenAt narrow font place ground k) k)
+    (differing font place ground (screenAt narrow font place ground (suc k)))
 
 -- how many of the first n readings are refused when each is drawn alone on the ground
-abbrev pub refusedOne : {A : Type 0} → Outcome A → ℕ
-refusedOne (success a) = 0
-refusedOne (refused n c) = 1
-
 unfoldable pub refusedTo : List ℕ → Place → List ℕ → ℕ → ℕ
 refusedTo font place ground zero = 0
 refusedTo font place ground (suc k) = refusedTo font place ground k + refusedOne (drawn font (reading place k) (framebuffer place ground))
 
 -- ---- what a sheet is to be
 
--- Every reading is counted once, and those are refused that are refused when they are drawn alone. Without the fault no reading
--- differs.
+-- Every reading is counted once, and those are refused that are refused when they are drawn alone. Without the fault the screen
+-- differs after no reading, refused ones among them.
 pub record Sound (narrow : Bool) (font : List ℕ) (place : Place) (ground : List ℕ) (t : Totals) : Type 0 where
   pub all : t .drawn + t .refused ≡ 901
   pub refusals : t .refused ≡ refusedTo font place ground 901

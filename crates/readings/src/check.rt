@@ -2,42 +2,39 @@
 ghost use mathlib.Core.Path.{_≡_};
 ghost use mathlib.Core.Bool.{true, false};
 ghost use lib.ListN.{length};
-ghost use Rattle.types.specs.declared.geometry.RenderedDimensions.{RenderedDimensions};
-ghost use Rattle.definitions.specs.Calls.{dimensionsOutcome};
-ghost use Rattle.definitions.specs.Agreement.{after};
-ghost use Rattle.definitions.specs.Redraw.{Holds};
-ghost use Rattle.redraw.specs.Differences.{differences};
+ghost use Rattle.definitions.specs.Header.{Opened};
+ghost use Rattle.definitions.specs.TextSteps.{measureFrom, start};
+ghost use Rattle.definitions.specs.Calls.{characters, drawnAnswer, dimensionsOutcome};
+ghost use Rattle.glyph_renderer.specs.Drawing.{BufferFits};
+ghost use Rattle.layout.specs.Ranges.{Checked};
+ghost use Rattle.redraw.specs.Redraw.{readingOn, clearedBy, redrawn};
 ghost use Rattle.readings.specs.Readings.{asked, framebuffer};
-ghost use Rattle.readings.specs.Sheet.{narrowedBox, stepAnswer, stepBuffer, stepFinding, checkedOutcome, NoDifference};
+ghost use Rattle.readings.specs.Sheet.{narrowedBox, toFill, stepBuffer};
 use crate::bytes::copy;
-use crate::values::Checked;
 use crate::values::Place;
-use measuring::rendered_dimensions::get_rendered_dimensions;
-use redraw::comparison::count_differences;
-use redraw::reading::clear_box;
+use redraw::fill::fill_box;
+use redraw::reading::draw_reading;
 use redraw::reading::redraw;
+use redraw::step::StepResult;
+use redraw::step::check_step;
+use renderer::drawn_dimensions::get_drawn_dimensions;
 use renderer::render::render;
+use types::font_reader::FontReader;
 use types::geometry::BoundingBox;
+use types::geometry::Point;
 use types::geometry::Rectangle;
 use types::geometry::Size;
 use types::results::DimensionsResult;
 
-// Draws the reading alone on the ground, into `alone`, and counts the pixels of the screen that differ.
-fn compare(
-    font: &[u8],
-    text: &[u8],
-    place: Place,
-    ground: &[u8],
-    screen: &[u8],
-    alone: &mut [u8],
-) -> usize
-    requires { ⌜ (length (now ground) ≡ length (now alone)) × (length (now screen) ≡ length (now alone)) ⌝ }
-    ensures { λ r. ⌜ r ≡ differences (now (screen .entry)) (after (now (font .entry)) (asked place (now (text .entry))) (framebuffer place (now (ground .entry)))) ⌝ }
+// Draws the text alone on the ground, into `alone`: whole, or not at all.
+pub fn draw_alone(font: &[u8], text: &[u8], place: Place, ground: &[u8], alone: &mut [u8])
+    requires { ⌜ length (now ground) ≡ length (now alone) ⌝ }
+    ensures { λ r. ⌜ now (alone .exit) ≡ readingOn (now (font .entry)) (asked place (now (text .entry))) (framebuffer place (now (ground .entry))) ⌝ }
 {
     copy(ground, &mut alone[..]);
     let position = place.position;
     let style = place.style;
-    render(
+    let drawn = render(
         font,
         text,
         position,
@@ -48,7 +45,10 @@ fn compare(
         place.height,
         &mut alone[..],
     );
-    count_differences(screen, alone)
+    match drawn {
+        DimensionsResult::Ok(_) => {}
+        DimensionsResult::Err(_) => copy(ground, alone),
+    }
 }
 
 // A box one column too narrow.
@@ -73,7 +73,34 @@ fn narrowed(bounding_box: BoundingBox) -> BoundingBox
     })
 }
 
-// The step of the gauge with a fault put in: one column too few is filled.
+// Clears the old reading with the fault put in: one column too few is filled.
+fn clear_narrow(
+    font: &[u8],
+    head: FontReader,
+    text: &[u8],
+    origin: Point,
+    place: Place,
+    screen: &mut [u8],
+)
+    requires { ⌜ Opened (now font) head × (Checked (now text) origin (place .«line_height») × BufferFits (length (now screen)) (place .width) (place .height)) ⌝ }
+    ensures { λ r. ⌜ now (screen .exit) ≡ clearedBy (place .width) (place .background) (toFill true (measureFrom (drawnAnswer (now (font .entry)) false) (place .«line_height») origin start (characters (now (text .entry))))) (now (screen .entry)) ⌝ }
+{
+    let drawn = get_drawn_dimensions(font, head, text, origin, place.line_height, false);
+    let DimensionsResult::Ok(dimensions) = drawn else {
+        return;
+    };
+    let old_box = dimensions.bounding_box;
+    let bounding_box = narrowed(old_box);
+    fill_box(
+        screen,
+        place.width,
+        place.height,
+        bounding_box,
+        place.background,
+    );
+}
+
+// The step of the gauge with the fault put in.
 fn redraw_narrow(
     font: &[u8],
     old_text: &[u8],
@@ -81,48 +108,50 @@ fn redraw_narrow(
     place: Place,
     screen: &mut [u8],
 ) -> DimensionsResult
-    ensures answered { λ r. ⌜ dimensionsOutcome r ≡ stepAnswer true (now (font .entry)) (asked place (now («old_text» .entry))) (asked place (now («new_text» .entry))) (place .background) (framebuffer place (now (screen .entry))) ⌝ }
-    ensures shown { λ r. ⌜ now (screen .exit) ≡ stepBuffer true (now (font .entry)) (asked place (now («old_text» .entry))) (asked place (now («new_text» .entry))) (place .background) (framebuffer place (now (screen .entry))) ⌝ }
+    ensures answered { λ r. ⌜ dimensionsOutcome r ≡ redrawn (now (font .entry)) (now («old_text» .entry)) (asked place (now («new_text» .entry))) (framebuffer place (now (screen .entry))) ⌝ }
+    ensures shown { λ r. ⌜ now (screen .exit) ≡ stepBuffer true (now (font .entry)) (now («old_text» .entry)) (asked place (now («new_text» .entry))) (place .background) (framebuffer place (now (screen .entry))) ⌝ }
 {
     let position = place.position;
     let style = place.style;
-    let vertical_pos = style.vertical_pos;
+    let color = style.color;
     let line_height = place.line_height;
-    let measured = get_rendered_dimensions(
+    let width = place.width;
+    let height = place.height;
+    let checked = check_step(
         font,
         old_text,
-        position,
-        vertical_pos,
-        line_height,
-        false,
-    );
-    let DimensionsResult::Ok(old) = measured else {
-        return measured;
-    };
-    let old_box = old.bounding_box;
-    let bounding_box = narrowed(old_box);
-    clear_box(
-        &mut screen[..],
-        place.width,
-        place.height,
-        bounding_box,
-        place.background,
-    );
-    render(
-        font,
         new_text,
         position,
         style,
         line_height,
-        false,
-        place.width,
-        place.height,
-        screen,
-    )
+        width,
+        height,
+        &screen[..],
+    );
+    match checked {
+        StepResult::Err(error) => DimensionsResult::Err(error),
+        StepResult::Ok(step) => {
+            let head = step.head;
+            let old_origin = step.old_origin;
+            let new_origin = step.new_origin;
+            clear_narrow(font, head, old_text, old_origin, place, &mut screen[..]);
+            draw_reading(
+                font,
+                head,
+                new_text,
+                new_origin,
+                line_height,
+                color,
+                screen,
+                width,
+                height,
+            )
+        }
+    }
 }
 
 // The step of the gauge, or the one with the fault.
-fn redraw_on(
+pub fn redraw_on(
     font: &[u8],
     old_text: &[u8],
     new_text: &[u8],
@@ -130,8 +159,8 @@ fn redraw_on(
     narrow: bool,
     screen: &mut [u8],
 ) -> DimensionsResult
-    ensures answered { λ r. ⌜ dimensionsOutcome r ≡ stepAnswer narrow (now (font .entry)) (asked place (now («old_text» .entry))) (asked place (now («new_text» .entry))) (place .background) (framebuffer place (now (screen .entry))) ⌝ }
-    ensures shown { λ r. ⌜ now (screen .exit) ≡ stepBuffer narrow (now (font .entry)) (asked place (now («old_text» .entry))) (asked place (now («new_text» .entry))) (place .background) (framebuffer place (now (screen .entry))) ⌝ }
+    ensures answered { λ r. ⌜ dimensionsOutcome r ≡ redrawn (now (font .entry)) (now («old_text» .entry)) (asked place (now («new_text» .entry))) (framebuffer place (now (screen .entry))) ⌝ }
+    ensures shown { λ r. ⌜ now (screen .exit) ≡ stepBuffer narrow (now (font .entry)) (now («old_text» .entry)) (asked place (now («new_text» .entry))) (place .background) (framebuffer place (now (screen .entry))) ⌝ }
 {
     if narrow {
         return redraw_narrow(font, old_text, new_text, place, screen);
@@ -150,35 +179,4 @@ fn redraw_on(
         place.height,
         screen,
     )
-}
-
-// The step, watched. Where the screen holds the old reading, drawn on a ground of background, and nothing is wrong with the step,
-// nothing differs.
-pub fn check_step(
-    font: &[u8],
-    old_text: &[u8],
-    new_text: &[u8],
-    place: Place,
-    narrow: bool,
-    ground: &[u8],
-    screen: &mut [u8],
-    alone: &mut [u8],
-) -> Checked
-    requires { ⌜ (length (now ground) ≡ length (now alone)) × (length (now screen) ≡ length (now alone)) ⌝ }
-    ensures found { λ r. ⌜ checkedOutcome r ≡ stepFinding narrow (now (font .entry)) (asked place (now («old_text» .entry))) (asked place (now («new_text» .entry))) (place .background) (framebuffer place (now (screen .entry))) (now (ground .entry)) ⌝ }
-    ensures shown { λ r. ⌜ now (screen .exit) ≡ stepBuffer narrow (now (font .entry)) (asked place (now («old_text» .entry))) (asked place (now («new_text» .entry))) (place .background) (framebuffer place (now (screen .entry))) ⌝ }
-    ensures clean { λ r. ⌜ ((d : RenderedDimensions) → narrow ≡ false → Holds (now (font .entry)) (asked place (now («old_text» .entry))) (place .background) (place .width) (place .height) (now (screen .entry)) (now (ground .entry)) d → NoDifference (checkedOutcome r)) ⌝ }
-{
-    let answer = redraw_on(font, old_text, new_text, place, narrow, &mut screen[..]);
-    match answer {
-        DimensionsResult::Err(error) => Checked::Refused(error),
-        DimensionsResult::Ok(_) => Checked::Differs(compare(
-            font,
-            new_text,
-            place,
-            ground,
-            &screen[..],
-            alone,
-        )),
-    }
 }

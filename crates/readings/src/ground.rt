@@ -3,13 +3,15 @@ ghost use mathlib.Core.Path.{_≡_};
 ghost use Prim.Native.Nat.{_*_};
 ghost use lib.ListN.{length};
 ghost use Rattle.definitions.specs.Agreement.{measured};
+ghost use Rattle.glyph_renderer.specs.Drawing.{BufferFits};
+ghost use Rattle.redraw.specs.Redraw.{clearedBy};
 ghost use Rattle.readings.specs.Readings.{reading};
-ghost use Rattle.readings.specs.Ground.{rubbish, clearedBy, ground, ClearTo, RubbishBeside};
+ghost use Rattle.readings.specs.Ground.{rubbish, ground, ClearTo, RubbishBeside};
 ghost use Rattle.readings.specs.Grid.{PlaceFits};
 use crate::texts::COUNT;
 use crate::texts::measure_reading;
 use crate::values::Place;
-use redraw::reading::clear_box;
+use redraw::fill::fill_box;
 use types::results::DimensionsResult;
 
 fn fill_with_rubbish(buffer: &mut [u8])
@@ -24,7 +26,8 @@ fn fill_with_rubbish(buffer: &mut [u8])
 
 // Fills the reading's box with the background. A refused reading has none.
 fn clear_reading(font: &[u8], k: usize, place: Place, buffer: &mut [u8])
-    ensures { λ r. ⌜ now (buffer .exit) ≡ clearedBy place (now (buffer .entry)) (measured (now (font .entry)) (reading place k)) ⌝ }
+    requires { ⌜ BufferFits (length (now buffer)) (place .width) (place .height) ⌝ }
+    ensures { λ r. ⌜ now (buffer .exit) ≡ clearedBy (place .width) (place .background) (measured (now (font .entry)) (reading place k)) (now (buffer .entry)) ⌝ }
 {
     let position = place.position;
     let style = place.style;
@@ -34,7 +37,7 @@ fn clear_reading(font: &[u8], k: usize, place: Place, buffer: &mut [u8])
         return;
     };
     let bounding_box = d.bounding_box;
-    clear_box(
+    fill_box(
         buffer,
         place.width,
         place.height,

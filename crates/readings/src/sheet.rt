@@ -1,21 +1,29 @@
 // The loop over all readings: each is checked, reported where it fails, and put into the image.
 ghost use mathlib.Core.Path.{_≡_};
 ghost use Prim.Native.Nat.{_*_, _≤_, _<_};
+ghost use lib.Dec.{eqb};
 ghost use lib.ListN.{length};
-ghost use Rattle.readings.specs.Readings.{reading, framebuffer};
+ghost use Rattle.integers.specs.Integers.{pick};
+ghost use Rattle.definitions.specs.Calls.{dimensionsOutcome};
+ghost use Rattle.redraw.specs.Differences.{differences};
+ghost use Rattle.redraw.specs.Redraw.{readingOn, redrawn, taken};
+ghost use Rattle.readings.specs.Readings.{readingText, reading, framebuffer};
 ghost use Rattle.readings.specs.Ground.{ClearTo};
 ghost use Rattle.readings.specs.Grid.{withCell, begun, nextCell, BandFits, SheetFits};
-ghost use Rattle.readings.specs.Sheet.{stepBuffer, stepFinding, checkedOutcome, held, tallied, screenAt, totalsTo, Few, Sound};
-use crate::bytes::copy;
+ghost use Rattle.readings.specs.Sheet.{stepBuffer, screenOf, Finds, tallied, screenAt, totalsTo, Few, Sound};
 use crate::bytes::fill;
-use crate::check::check_step;
+use crate::check::draw_alone;
+use crate::check::redraw_on;
 use crate::grid::place_cell;
 use crate::texts::COUNT;
 use crate::texts::write_reading;
-use crate::values::Checked;
+use crate::values::Found;
 use crate::values::Place;
 use crate::values::Totals;
 use libc::STDOUT_FILENO;
+use redraw::comparison::count_differences;
+use redraw::reading::is_taken;
+use types::results::DimensionsResult;
 
 fn print_reading(k: usize) {
     let mut text = [0u8; 6];
@@ -23,71 +31,94 @@ fn print_reading(k: usize) {
     printing::text(&text[start..]);
 }
 
-// Says what is wrong with a reading, if anything is.
-fn report(k: usize, checked: Checked) {
-    match checked {
-        Checked::Refused(e) => {
-            print_reading(k);
-            printing::text(b": ");
-            printing::refusal_line(e);
-        }
-        Checked::Differs(n) => {
-            if n != 0 {
-                print_reading(k);
-                printing::text(b": ");
-                io::print_decimal(STDOUT_FILENO, n as u64);
-                printing::text(b" pixels differ\n");
-            }
-        }
+// Says of a reading that it is refused, and that the screen is not what it is to be, if so.
+fn report(k: usize, found: Found) {
+    let answer = found.answer;
+    if let DimensionsResult::Err(error) = answer {
+        print_reading(k);
+        printing::text(b": ");
+        printing::refusal_line(error);
+    }
+    if found.differing != 0 {
+        print_reading(k);
+        printing::text(b": ");
+        io::print_decimal(STDOUT_FILENO, found.differing as u64);
+        printing::text(b" pixels differ\n");
     }
 }
 
-fn counted(totals: Totals, checked: Checked) -> Totals
+// 1 for a number that is not 0.
+fn one_if_any(n: usize) -> usize
+    ensures { λ r. ⌜ r ≡ pick (eqb n 0) 0 1 ⌝ }
+{
+    if n == 0 { 0 } else { 1 }
+}
+
+fn counted(totals: Totals, found: Found) -> Totals
     requires { ⌜ Few totals ⌝ }
-    ensures { λ r. ⌜ r ≡ tallied totals (checkedOutcome checked) ⌝ }
+    ensures { λ r. ⌜ r ≡ tallied totals (dimensionsOutcome (found .answer)) (found .differing) ⌝ }
 {
-    let drawn = totals.drawn;
-    let differing = totals.differing;
-    let refused = totals.refused;
-    match checked {
-        Checked::Refused(_) => Totals {
-            drawn,
-            differing,
-            refused: refused + 1,
+    let answer = found.answer;
+    let one = one_if_any(found.differing);
+    match answer {
+        DimensionsResult::Ok(_) => Totals {
+            drawn: totals.drawn + 1,
+            differing: totals.differing + one,
+            refused: totals.refused,
         },
-        Checked::Differs(n) => {
-            if n == 0 {
-                return Totals {
-                    drawn: drawn + 1,
-                    differing,
-                    refused,
-                };
-            }
-            Totals {
-                drawn: drawn + 1,
-                differing: differing + 1,
-                refused,
-            }
-        }
+        DimensionsResult::Err(_) => Totals {
+            drawn: totals.drawn,
+            differing: totals.differing + one,
+            refused: totals.refused + 1,
+        },
     }
 }
 
-// The number of the reading that the screen then holds. Of a refused reading nothing stays.
-fn held(k: usize, checked: Checked, ground: &[u8], screen: &mut [u8]) -> usize
-    requires { ⌜ length (now ground) ≡ length (now screen) ⌝ }
-    ensures number { λ r. ⌜ r ≡ held k (now (screen .entry)) (now (ground .entry)) (checkedOutcome checked) .old ⌝ }
-    ensures left { λ r. ⌜ now (screen .exit) ≡ held k (now (screen .entry)) (now (ground .entry)) (checkedOutcome checked) .bytes ⌝ }
+// Draws reading k over the reading `old`.
+fn draw_over(
+    font: &[u8],
+    old: usize,
+    k: usize,
+    place: Place,
+    narrow: bool,
+    screen: &mut [u8],
+) -> DimensionsResult
+    ensures answered { λ r. ⌜ dimensionsOutcome r ≡ redrawn (now (font .entry)) (readingText old) (reading place k) (framebuffer place (now (screen .entry))) ⌝ }
+    ensures shown { λ r. ⌜ now (screen .exit) ≡ stepBuffer narrow (now (font .entry)) (readingText old) (reading place k) (place .background) (framebuffer place (now (screen .entry))) ⌝ }
 {
-    match checked {
-        Checked::Differs(_) => k,
-        Checked::Refused(_) => {
-            copy(ground, screen);
-            COUNT
-        }
-    }
+    let mut old_text = [0u8; 6];
+    let mut new_text = [0u8; 6];
+    let a = write_reading(old, &mut old_text);
+    let b = write_reading(k, &mut new_text);
+    redraw_on(font, &old_text[a..], &new_text[b..], place, narrow, screen)
 }
 
-// Draws reading k over the reading `old`, and compares.
+// How many pixels of the screen are not those of reading k drawn alone on the ground.
+fn compare(
+    font: &[u8],
+    k: usize,
+    place: Place,
+    ground: &[u8],
+    screen: &[u8],
+    alone: &mut [u8],
+) -> usize
+    requires { ⌜ (length (now ground) ≡ length (now alone)) × (length (now screen) ≡ length (now alone)) ⌝ }
+    ensures { λ r. ⌜ r ≡ differences (now (screen .entry)) (readingOn (now (font .entry)) (reading place k) (framebuffer place (now (ground .entry)))) ⌝ }
+{
+    let mut text = [0u8; 6];
+    let start = write_reading(k, &mut text);
+    draw_alone(font, &text[start..], place, ground, &mut alone[..]);
+    count_differences(screen, alone)
+}
+
+// The reading that the next step is to clear.
+fn next_old(answer: DimensionsResult, k: usize, old: usize) -> usize
+    ensures { λ r. ⌜ r ≡ pick (taken (dimensionsOutcome answer)) k old ⌝ }
+{
+    if is_taken(answer) { k } else { old }
+}
+
+// The step, watched: what the screen is to show is the reading that the next step is to clear.
 fn step(
     font: &[u8],
     old: usize,
@@ -97,25 +128,18 @@ fn step(
     ground: &[u8],
     screen: &mut [u8],
     alone: &mut [u8],
-) -> Checked
+) -> Found
     requires { ⌜ (length (now ground) ≡ length (now alone)) × (length (now screen) ≡ length (now alone)) ⌝ }
-    ensures found { λ r. ⌜ checkedOutcome r ≡ stepFinding narrow (now (font .entry)) (reading place old) (reading place k) (place .background) (framebuffer place (now (screen .entry))) (now (ground .entry)) ⌝ }
-    ensures shown { λ r. ⌜ now (screen .exit) ≡ stepBuffer narrow (now (font .entry)) (reading place old) (reading place k) (place .background) (framebuffer place (now (screen .entry))) ⌝ }
+    ensures { λ r. ⌜ Finds narrow (now (font .entry)) place (now (ground .entry)) (screenOf old (now (screen .entry))) k r (now (screen .exit)) ⌝ }
 {
-    let mut old_text = [0u8; 6];
-    let mut new_text = [0u8; 6];
-    let a = write_reading(old, &mut old_text);
-    let b = write_reading(k, &mut new_text);
-    check_step(
-        font,
-        &old_text[a..],
-        &new_text[b..],
-        place,
-        narrow,
-        ground,
-        screen,
-        alone,
-    )
+    let answer = draw_over(font, old, k, place, narrow, &mut screen[..]);
+    let next = next_old(answer, k, old);
+    let differing = compare(font, next, place, ground, &screen[..], alone);
+    Found {
+        answer,
+        old: next,
+        differing,
+    }
 }
 
 // How many readings stand side by side in the image: as many as the band holds, and at most 30.
@@ -164,7 +188,7 @@ fn put_cell(
     0
 }
 
-// Draws all readings, one over the other, reports those that differ or are refused, and writes the image's bytes. On a ground
+// Draws all readings, one over the other, reports those that are refused or leave a difference, and writes the image's bytes. On a ground
 // that is background wherever a reading can stand, none differs.
 pub fn run(
     font: &[u8],
@@ -193,7 +217,7 @@ pub fn run(
     let mut j: usize = 0;
     let mut k: usize = 0;
     while k < COUNT {
-        let checked = step(
+        let found = step(
             font,
             old,
             k,
@@ -203,8 +227,9 @@ pub fn run(
             &mut screen[..],
             &mut alone[..],
         );
-        report(k, checked);
-        totals = counted(totals, checked);
+        report(k, found);
+        totals = counted(totals, found);
+        old = found.old;
         let is_last = k + 1 == COUNT;
         j = put_cell(
             &mut band[..used],
@@ -216,7 +241,6 @@ pub fn run(
             is_last,
             image,
         );
-        old = held(k, checked, ground, &mut screen[..]);
         k += 1;
     }
     totals

@@ -1,6 +1,6 @@
 // The values that the sheet's functions hand on. There is no code here.
-use types::error::Error;
 use types::geometry::Point;
+use types::results::DimensionsResult;
 use types::style::FontStyle;
 use types::style::VerticalPosition;
 
@@ -49,13 +49,15 @@ pub struct Asked {
     pub right: bool,
 }
 
-// How many pixels differ, or why the font refuses the reading.
-pub enum Checked {
-    Differs(usize),
-    Refused(Error),
+// What is found of one step: its answer, the number of the reading that the next step is to clear, and how many pixels of the
+// screen are not those of that reading drawn alone.
+pub struct Found {
+    pub answer: DimensionsResult,
+    pub old: usize,
+    pub differing: usize,
 }
 
-// How many readings were drawn, how many of these differ, and how many the font refuses.
+// How many readings were drawn, how many were refused, and after how many of both the screen differs.
 pub struct Totals {
     pub drawn: usize,
     pub differing: usize,

@@ -16,10 +16,10 @@ use Rattle.types.specs.declared.style.FontColor.the-variants.{Transparent}
 use Rattle.definitions.specs.Geometry.{left, top, right, bottom, Inside}
 use Rattle.definitions.specs.Picture.{Paint, keep, put, above, paintOf, covers}
 use Rattle.definitions.specs.Framebuffer.{shown}
-use Rattle.definitions.specs.Redraw.{fillPicture}
+use Rattle.redraw.specs.Redraw.{fillPicture}
 use Rattle.definitions.proofs.PictureLaws.{covers-inside, inside-covers, rectangle-inside, rectangle-outside}
 use Rattle.definitions.proofs.FramebufferLaws.{same-picture, onto, shown-shown, blank, shown-blank}
-use Rattle.definitions.proofs.RedrawLaws.{row-below}
+use Rattle.redraw.proofs.RedrawLaws.{row-below}
 use Rattle.framebuffer.specs.Rows.{rowRectangle, rowPicture, LineFits}
 use Rattle.framebuffer.proofs.RowLaws.{outside}
 use Rattle.glyph_renderer.specs.Visible.{clamped}

@@ -1,4 +1,6 @@
 pub mod FillLaws
 pub mod DifferenceLaws
-pub mod StepLaws
+pub mod RedrawLaws
+pub mod ChecksLaws
+pub mod StepsLaws
 pub mod WriteLaws

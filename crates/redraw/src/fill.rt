@@ -4,7 +4,7 @@ ghost use lib.IntN.{pos, _+ℤ_};
 ghost use lib.ListN.{length};
 ghost use Rattle.types.specs.declared.geometry.BoundingBox.the-variants.{Some};
 ghost use Rattle.definitions.specs.Framebuffer.{shown};
-ghost use Rattle.definitions.specs.Redraw.{fillPicture};
+ghost use Rattle.redraw.specs.Redraw.{fillPicture};
 ghost use Rattle.glyph_renderer.specs.Visible.{clamped};
 ghost use Rattle.glyph_renderer.specs.Drawing.{BufferFits};
 ghost use Rattle.redraw.specs.Areas.{area, AreaFits};

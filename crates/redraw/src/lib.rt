@@ -2,3 +2,4 @@
 pub mod comparison;
 pub mod fill;
 pub mod reading;
+pub mod step;

@@ -1,36 +1,87 @@
-// A reading drawn over the one before, as the gauge does it.
+// A reading drawn over the one before, whole or not at all.
 ghost use mathlib.Core.Path.{_≡_};
-ghost use Rattle.definitions.specs.Calls.{dimensionsOutcome};
+ghost use mathlib.Core.Bool.{false};
+ghost use lib.ListN.{length};
+ghost use Rattle.definitions.specs.Header.{Opened};
+ghost use Rattle.definitions.specs.TextSteps.{measureFrom, drawFrom, start};
+ghost use Rattle.definitions.specs.Calls.{characters, drawnAnswer, pixelsOf, dimensionsOutcome};
 ghost use Rattle.definitions.specs.Agreement.{request, framebufferOf};
-ghost use Rattle.definitions.specs.Redraw.{clearedBuffer, redrawn, redrawnBuffer, NoMarkLeft};
+ghost use Rattle.glyph_renderer.specs.Drawing.{BufferFits};
+ghost use Rattle.layout.specs.Ranges.{Checked};
+ghost use Rattle.redraw.specs.Redraw.{wholeOr, clearedBy, redrawn, redrawnBuffer, taken};
+ghost use Rattle.redraw.specs.Steps.{fieldOf, readingOf, LeavesReading};
 use crate::fill::fill_box;
-use layout::limits::has_bad_size;
-use measuring::rendered_dimensions::get_rendered_dimensions;
-use renderer::render::render;
-use types::geometry::BoundingBox;
+use crate::step::StepResult;
+use crate::step::check_step;
+use renderer::drawn_dimensions::get_drawn_dimensions;
+use renderer::render::draw_text;
+use types::font_reader::FontReader;
 use types::geometry::Point;
 use types::results::DimensionsResult;
+use types::style::FontColor;
 use types::style::FontStyle;
+use utils::error::error_number;
 
-// Fills the box where the framebuffer has its size, and else nothing.
-pub fn clear_box(
+// Fills the box of a text that draws. One that does not draw has left nothing on the framebuffer.
+fn clear_reading(
+    font: &[u8],
+    head: FontReader,
+    text: &[u8],
+    origin: Point,
+    line_height: u32,
+    background: u8,
     buffer: &mut [u8],
     width: usize,
     height: usize,
-    bounding_box: BoundingBox,
-    color: u8,
 )
-    ensures { λ r. ⌜ now (buffer .exit) ≡ clearedBuffer color (framebufferOf width height (now (buffer .entry))) «bounding_box» ⌝ }
+    requires { ⌜ Opened (now font) head × (Checked (now text) origin «line_height» × BufferFits (length (now buffer)) width height) ⌝ }
+    ensures { λ r. ⌜ now (buffer .exit) ≡ clearedBy width background (measureFrom (drawnAnswer (now (font .entry)) false) «line_height» origin start (characters (now (text .entry)))) (now (buffer .entry)) ⌝ }
 {
-    if has_bad_size(width, height, buffer.len()) {
+    let drawn = get_drawn_dimensions(font, head, text, origin, line_height, false);
+    let DimensionsResult::Ok(dimensions) = drawn else {
         return;
-    }
-    fill_box(buffer, width, height, bounding_box, color);
+    };
+    let bounding_box = dimensions.bounding_box;
+    fill_box(buffer, width, height, bounding_box, background);
 }
 
-// Measures the old text, fills its box with the background colour and draws the new text. A refused measuring leaves the
-// framebuffer as it was. That no mark of the old reading is left follows from demand 3: drawing changed only its box, and
-// measuring finds that box again.
+// Draws a text of which every character draws, and of any other nothing.
+pub fn draw_reading(
+    font: &[u8],
+    head: FontReader,
+    text: &[u8],
+    origin: Point,
+    line_height: u32,
+    color: FontColor,
+    buffer: &mut [u8],
+    width: usize,
+    height: usize,
+) -> DimensionsResult
+    requires { ⌜ Opened (now font) head × (Checked (now text) origin «line_height» × BufferFits (length (now buffer)) width height) ⌝ }
+    ensures answered { λ r. ⌜ dimensionsOutcome r ≡ measureFrom (drawnAnswer (now (font .entry)) false) «line_height» origin start (characters (now (text .entry))) ⌝ }
+    ensures shown { λ r. ⌜ now (buffer .exit) ≡ wholeOr (measureFrom (drawnAnswer (now (font .entry)) false) «line_height» origin start (characters (now (text .entry)))) (drawFrom width color (pixelsOf (now (font .entry))) (drawnAnswer (now (font .entry)) false) «line_height» origin start (now (buffer .entry)) (characters (now (text .entry)))) (now (buffer .entry)) ⌝ }
+{
+    let drawn = get_drawn_dimensions(font, head, text, origin, line_height, false);
+    let DimensionsResult::Ok(_) = drawn else {
+        return drawn;
+    };
+    draw_text(
+        font,
+        head,
+        text,
+        origin,
+        line_height,
+        false,
+        color,
+        buffer,
+        width,
+        height,
+    )
+}
+
+// Clears the old text's reading and draws the new text's, or refuses to. Causes 1 to 6 are tested for both texts before a pixel
+// changes. Then the old reading's box is filled with the background, and the new reading is drawn if every one of its characters
+// draws; else its refusal, 7 or 8, is the answer, and nothing of it is drawn.
 pub fn redraw(
     font: &[u8],
     old_text: &[u8],
@@ -43,33 +94,60 @@ pub fn redraw(
     height: usize,
     buffer: &mut [u8],
 ) -> DimensionsResult
-    ensures answered { λ r. ⌜ dimensionsOutcome r ≡ redrawn (now (font .entry)) (request (now («old_text» .entry)) position style «line_height») (request (now («new_text» .entry)) position style «line_height») background (framebufferOf width height (now (buffer .entry))) ⌝ }
-    ensures shown { λ r. ⌜ now (buffer .exit) ≡ redrawnBuffer (now (font .entry)) (request (now («old_text» .entry)) position style «line_height») (request (now («new_text» .entry)) position style «line_height») background (framebufferOf width height (now (buffer .entry))) ⌝ }
-    ensures clean { λ r. ⌜ NoMarkLeft (now (font .entry)) (request (now («old_text» .entry)) position style «line_height») (request (now («new_text» .entry)) position style «line_height») background width height (now (buffer .entry)) (now (buffer .exit)) ⌝ }
+    ensures answered { λ r. ⌜ dimensionsOutcome r ≡ redrawn (now (font .entry)) (now («old_text» .entry)) (request (now («new_text» .entry)) position style «line_height») (framebufferOf width height (now (buffer .entry))) ⌝ }
+    ensures shown { λ r. ⌜ now (buffer .exit) ≡ redrawnBuffer (now (font .entry)) (now («old_text» .entry)) (request (now («new_text» .entry)) position style «line_height») background (framebufferOf width height (now (buffer .entry))) ⌝ }
+    ensures leaves { λ r. ⌜ LeavesReading (fieldOf (now (font .entry)) position (style .«vertical_pos») «line_height» background width height) (now («old_text» .entry)) (readingOf (now («new_text» .entry)) (style .color)) (now (buffer .entry)) (dimensionsOutcome r) (now (buffer .exit)) ⌝ }
 {
-    let vertical_pos = style.vertical_pos;
-    let measured = get_rendered_dimensions(
+    let checked = check_step(
         font,
         old_text,
-        position,
-        vertical_pos,
-        line_height,
-        false,
-    );
-    let DimensionsResult::Ok(old) = measured else {
-        return measured;
-    };
-    let bounding_box = old.bounding_box;
-    clear_box(&mut buffer[..], width, height, bounding_box, background);
-    render(
-        font,
         new_text,
         position,
         style,
         line_height,
-        false,
         width,
         height,
-        buffer,
-    )
+        &buffer[..],
+    );
+    match checked {
+        StepResult::Err(error) => DimensionsResult::Err(error),
+        StepResult::Ok(step) => {
+            let head = step.head;
+            let old_origin = step.old_origin;
+            let new_origin = step.new_origin;
+            let color = style.color;
+            clear_reading(
+                font,
+                head,
+                old_text,
+                old_origin,
+                line_height,
+                background,
+                &mut buffer[..],
+                width,
+                height,
+            );
+            draw_reading(
+                font,
+                head,
+                new_text,
+                new_origin,
+                line_height,
+                color,
+                buffer,
+                width,
+                height,
+            )
+        }
+    }
+}
+
+// Whether the step was taken, so that the next one is to clear its new text. If it was not, the old text still stands.
+pub fn is_taken(answer: DimensionsResult) -> bool
+    ensures { λ r. ⌜ r ≡ taken (dimensionsOutcome answer) ⌝ }
+{
+    match answer {
+        DimensionsResult::Ok(_) => true,
+        DimensionsResult::Err(error) => 6 < error_number(error),
+    }
 }

@@ -23,7 +23,7 @@ use Rattle.definitions.specs.Picture.{textPicture}
 use Rattle.definitions.specs.Framebuffer.{shown, framebufferCause}
 use Rattle.definitions.specs.Limits.{textCause, positionCause, backgroundCause}
 use Rattle.definitions.specs.Calls.{openFont, origin, withRuns, drawable, drawnAnswer, pixelsOf, drawnText, drawCauses, draw, drawBuffer}
-use Rattle.definitions.proofs.OpenedLaws.{or-false}
+use Rattle.definitions.proofs.ComesLaws.{Comes, comes-none, comes-off, comes-on, comes-passed, comes-stopped}
 use Rattle.definitions.proofs.RefusalLaws.{succeeded}
 use Rattle.definitions.proofs.GlyphLaws.{glyph-range}
 use Rattle.definitions.proofs.TextLaws.{measure-from, draw-from, draw-next}
@@ -135,38 +135,6 @@ module _ (width : ℕ) (color : FontColor) (pixelsOf : GlyphReader → List ℕ)
         unfolding drawFrom
         drawn-stops p s = s ∙ sym (here ∙ rw p)
 
--- ---- what causes leave of a call: its answer, and what the framebuffer then holds
-
-pub record Comes {A : Type 0} (cs : List Cause) (rest : Outcome A) (before after : List ℕ) (answer : Outcome A) (bytes : List ℕ) : Type 0 where
-  pub answered : answer ≡ unlessRefused cs rest
-  pub held : bytes ≡ pick (anyApplies cs) before after
-
-module _ {A : Type 0} {rest : Outcome A} {before after : List ℕ} where
-  comes-none : Comes [] rest before after rest after
-  comes-none = record { answered = refl; held = refl }
-
-  comes-off : (c : Cause) {cs : List Cause} {answer : Outcome A} {bytes : List ℕ} → c .applies ≡ false
-      → Comes cs rest before after answer bytes → Comes (c ∷ cs) rest before after answer bytes
-  comes-off c e k = record { answered = rw e (k .answered); held = rw e (k .held) }
-
-  comes-on : (c : Cause) (cs : List Cause) → c .applies ≡ true → Comes (c ∷ cs) rest before after (refused (c .number) 0) before
-  comes-on c cs e = record { answered = rw e; held = rw e }
-
-  comes-passed : (cs : List Cause) {ds : List Cause} {answer : Outcome A} {bytes : List ℕ} → anyApplies cs ≡ false
-      → Comes ds rest before after answer bytes → Comes (cs ++ ds) rest before after answer bytes
-  comes-passed [] e k = k
-  comes-passed (c ∷ cs) e k = let h = or-false (c .applies) (anyApplies cs) e in comes-off c (h .0) (comes-passed cs (h .1) k)
-
-  comes-stopped : {B : Type 0} (b : B) (cs ds : List Cause) {n m : ℕ} → unlessRefused cs (success b) ≡ refused n m
-      → Comes (cs ++ ds) rest before after (refused n m) before
-  comes-stopped b [] ds e = let z : _≡_ {A = ℕ} 0 1 = cc in absurd (omega arith)
-  comes-stopped b (c ∷ cs) ds {n} {m} e = by (c .applies) refl (comes-stopped b cs ds)
-    where
-      by : (t : Bool) → c .applies ≡ t → (unlessRefused cs (success b) ≡ refused n m → Comes (cs ++ ds) rest before after (refused n m) before)
-          → Comes (c ∷ (cs ++ ds)) rest before after (refused n m) before
-      by true k later = let same : _≡_ {A = Outcome A} (refused (c .number) 0) (refused n m) = cc (rw k at e) in subst (λ (o : Outcome A). Comes (c ∷ (cs ++ ds)) rest before after o before) same (comes-on c (cs ++ ds) k)
-      by false k later = comes-off c k (later (rw k at e))
-
 -- ---- the call
 
 module _ (font text : List ℕ) (position : Point) (style : FontStyle) (lineHeight : ℕ) (skip : Bool) (width height : ℕ) (buffer : List ℕ) where
@@ -207,18 +175,18 @@ module _ (font text : List ℕ) (position : Point) (style : FontStyle) (lineHeig
           → Comes (textCause text ∷ positionCause position lineHeight ∷ backgroundCause (style .color) font ∷ []) laid buffer painted answer bytes → Defined answer bytes
       afterSize k = as-defined (comes-passed (fontCauses font) passes-font (comes-off (framebufferCause width height buffer) size k))
 
-      pub position-refused : {n c : ℕ} → checkedOrigin head text position (style .«vertical_pos») lineHeight ≡ refused n c → Defined (refused n c) buffer
+      pub position-refused : {n c : ℕ} → checkedOrigin (head .ascent) (head .descent) text position (style .«vertical_pos») lineHeight ≡ refused n c → Defined (refused n c) buffer
       position-refused e =
           afterSize
-          (comes-stopped (originBy head text position (style .«vertical_pos») lineHeight) (textCause text ∷ positionCause position lineHeight ∷ []) (backgroundCause (style .color) font ∷ []) e)
+          (comes-stopped (originBy (head .ascent) (head .descent) text position (style .«vertical_pos») lineHeight) (textCause text ∷ positionCause position lineHeight ∷ []) (backgroundCause (style .color) font ∷ []) e)
 
-      module _ {o : Point} (passes : checkedOrigin head text position (style .«vertical_pos») lineHeight ≡ success o) where
+      module _ {o : Point} (passes : checkedOrigin (head .ascent) (head .descent) text position (style .«vertical_pos») lineHeight ≡ success o) where
         afterPosition : {answer : Outcome RenderedDimensions} {bytes : List ℕ}
             → Comes (backgroundCause (style .color) font ∷ []) laid buffer painted answer bytes → Defined answer bytes
         afterPosition k =
             afterSize
             (comes-passed (textCause text ∷ positionCause position lineHeight ∷ [])
-            (succeeded (success (originBy head text position (style .«vertical_pos») lineHeight)) o (textCause text ∷ positionCause position lineHeight ∷ []) passes .0)
+            (succeeded (success (originBy (head .ascent) (head .descent) text position (style .«vertical_pos») lineHeight)) o (textCause text ∷ positionCause position lineHeight ∷ []) passes .0)
             k)
 
         pub color-refused : backgroundCause (style .color) font .applies ≡ true → Defined (refused 6 0) buffer

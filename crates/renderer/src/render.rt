@@ -54,7 +54,7 @@ fn retrieve_whole_glyph(font: &[u8], head: FontReader, ch: u32) -> GlyphResult
 }
 
 // The answer to a code point in drawing.
-fn retrieve_answer(font: &[u8], head: FontReader, ch: u32, ignore_unknown_chars: bool) -> Answer
+pub fn retrieve_answer(font: &[u8], head: FontReader, ch: u32, ignore_unknown_chars: bool) -> Answer
     requires { ⌜ Opened (now font) head ⌝ }
     ensures { λ r. ⌜ asAnswer r ≡ drawnAnswer (now (font .entry)) «ignore_unknown_chars» ch ⌝ }
 {
@@ -132,7 +132,7 @@ fn draw_char(
 }
 
 // The letters of a checked text, one after the other. The first that stops the text is the answer, and those before it stay.
-fn draw_text(
+pub fn draw_text(
     font: &[u8],
     head: FontReader,
     text: &[u8],
@@ -203,7 +203,14 @@ pub fn render(
                 return DimensionsResult::Err(Error::FramebufferSize);
             }
             let vertical_pos = style.vertical_pos;
-            match checked_origin(head, text, position, vertical_pos, line_height) {
+            match checked_origin(
+                head.ascent,
+                head.descent,
+                text,
+                position,
+                vertical_pos,
+                line_height,
+            ) {
                 OriginResult::Err(error) => DimensionsResult::Err(error),
                 OriginResult::Ok(origin) => {
                     let color = style.color;

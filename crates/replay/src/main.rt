@@ -2,6 +2,7 @@
 // stdout holds what tools/model.py, written from 01 alone, says of them (tools/cases.py writes both).
 mod case_file;
 mod framebuffers;
+mod header;
 mod request;
 
 use case_file::unpack;

@@ -2,6 +2,7 @@
 use crate::case_file::number;
 use crate::case_file::signed_number;
 use crate::framebuffers;
+use crate::header;
 use font_reader::new_from_raw_data;
 use measuring::font_bounding_box::get_font_bounding_box;
 use measuring::rendered_dimensions::get_rendered_dimensions;
@@ -56,7 +57,7 @@ fn answer_open(font: &[u8]) {
     match new_from_raw_data(font) {
         FontReaderResult::Ok(head) => {
             printing::text(b"ok");
-            printing::unsigned(head.line_height);
+            header::print(head);
         }
         FontReaderResult::Err(e) => printing::refusal(e),
     }

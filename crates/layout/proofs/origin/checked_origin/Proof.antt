@@ -1,5 +1,6 @@
 -- The tests are those of the causes, in order.
 use mathlib.Core.Path.{sym, _∙_}
+use mir.Facts.{toZ-ofZ}
 use borrow.Author.Needs.{needs}
 use Rattle.layout.proofs.origin.checked_origin.Statement.{statement}
 use Rattle.layout.proofs.origin.checked_origin.Tie as tie
@@ -22,8 +23,9 @@ text-origin-requires c κs =
 
 returns-3 : tie.Need-returns-3
 returns-3 c =
+    let f = c .before .before .before .before .before .before .fits in
     simp
-    (sym (c .before .before .before .before .has-bad-text .ensures), c .before .before .if1 .left, sym (c .before .before .before .has-bad-position .ensures), c .before .if2 .left, c .text-origin .ensures)
+    (sym (c .before .before .before .before .has-bad-text .ensures), c .before .before .if1 .left, sym (c .before .before .before .has-bad-position .ensures), c .before .if2 .left, c .text-origin .ensures, toZ-ofZ, f .ascent, f .descent)
 
 pub checked-origin-spec : {M : Type 1} → statement M
 checked-origin-spec =

@@ -17,10 +17,10 @@ module _ (c : tie.Start) where
   place-in : PositionLimits (c .args .position) (c .args .line-height)
   place-in = position-limits _ _ (c .pre .1)
 
-  ascent-fits : SFits w8 (c .args .head .ascent)
+  ascent-fits : SFits w8 (c .args .ascent)
   ascent-fits = search needs
 
-  descent-fits : SFits w8 (c .args .head .descent)
+  descent-fits : SFits w8 (c .args .descent)
   descent-fits = search needs
 
   x-fits : SFits w32 (c .args .position .x)
@@ -30,34 +30,34 @@ module _ (c : tie.Start) where
   y-fits = search needs
 
   abbrev moved-by : ℤ
-  moved-by = offset (c .args .head) (c .args .text .now) (c .args .position) (c .args .vertical-pos) (c .args .line-height)
+  moved-by = offset (c .args .ascent) (c .args .descent) (c .args .text .now) (c .args .position) (c .args .vertical-pos) (c .args .line-height)
 
   sum-fits : SFits w32 (c .args .position .y +ℤ moved-by)
   sum-fits =
       let b = place-in in
-      let o = offset-near (c .args .head) (c .args .text .now) (c .args .position) (c .args .vertical-pos) (c .args .line-height) ascent-fits descent-fits text-in b in
+      let o = offset-near (c .args .ascent) (c .args .descent) (c .args .text .now) (c .args .position) (c .args .vertical-pos) (c .args .line-height) ascent-fits descent-fits text-in b in
       omega (zarith, plus (c .args .position .y) moved-by)
 
 compute-vertical-offset-requires : tie.Need-compute-vertical-offset-requires
 compute-vertical-offset-requires c κs =
-    let s = c .before .before .before .before in
-    simp (c .before .before .get-newline-count .ensures) (text-in s .count, place-in s .line)
+    let s = c .before .before in
+    simp (c .get-newline-count .ensures) (text-in s .count, place-in s .line)
 
 -- the anchor's number
 module _ (c : tie.After-compute-vertical-offset) where
   abbrev entry : tie.Start
-  entry = c .before .before .before .before .before
+  entry = c .before .before .before
 
   offset-is : toZ w32 (ofZ w32 (c .compute-vertical-offset .result)) ≡ moved-by entry
   offset-is =
       stored w32 (c .compute-vertical-offset .ok)
-      (simp (toZ-ofZ, ascent-fits entry, descent-fits entry, c .before .before .before .get-newline-count .ensures) at (c .compute-vertical-offset .ensures))
+      (simp (toZ-ofZ, ascent-fits entry, descent-fits entry, c .before .get-newline-count .ensures) at (c .compute-vertical-offset .ensures))
 
 get-newline-count-requires : tie.Need-get-newline-count-requires
 get-newline-count-requires c κs = let t = text-in (c .before) in (t .short, t .utf8)
 
-add-t8 : tie.Need-add-t8
-add-t8 c =
+add-t9 : tie.Need-add-t9
+add-t9 c =
     let k = c .before .before in
     let s = entry k in
     simp (offset-is k, toZ-ofZ, y-fits s) (sum-fits s)
@@ -70,4 +70,4 @@ returns c =
 
 pub text-origin-spec : {M : Type 1} → statement M
 text-origin-spec =
-    tie.close (tie.spec get-newline-count-requires compute-vertical-offset-requires add-t8 returns)
+    tie.close (tie.spec get-newline-count-requires compute-vertical-offset-requires add-t9 returns)

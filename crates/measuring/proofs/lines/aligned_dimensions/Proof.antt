@@ -2,6 +2,7 @@
 use mathlib.Core.Path.{_≡_, sym, ap, _∙_}
 use mir.Syntax.{w8}
 use mir.Val.{SFits}
+use mir.Facts.{toZ-ofZ}
 use borrow.Author.Needs.{needs}
 use Rattle.types.specs.declared.font_reader.FontReader.{FontReader}
 use Rattle.definitions.specs.Refusals.{success, number, codePoint}
@@ -34,10 +35,10 @@ module _ (c : tie.After-known-told2) where
 -- .. and so did the checks
 module _ (c : tie.After-known-told4) where
   abbrev font-known : tie.After-known-told2
-  font-known = c .before .before .before .before
+  font-known = c .before .before .before .before .before .before
 
-  passes : checkedOrigin (head font-known) (entry font-known .args .text .now) (entry font-known .args .position) (entry font-known .args .vertical-pos) (entry font-known .args .line-height) ≡ success (c .before .origin .given .0 .0)
-  passes = sym (c .before .before .before .checked-origin .ensures) ∙ ap originOutcome (c .before .origin .given .1)
+  passes : checkedOrigin (head font-known .ascent) (head font-known .descent) (entry font-known .args .text .now) (entry font-known .args .position) (entry font-known .args .vertical-pos) (entry font-known .args .line-height) ≡ success (c .before .origin .given .0 .0)
+  passes = sym (simp (toZ-ofZ, ascent-fits font-known, descent-fits font-known) at (c .before .before .before .checked-origin .ensures)) ∙ ap originOutcome (c .before .origin .given .1)
 
 new-from-raw-data-requires : tie.Need-new-from-raw-data-requires
 new-from-raw-data-requires c κs = search needs
@@ -62,8 +63,8 @@ measure-lines-requires c κs =
     let k = font-known c in
     let a = entry k .args in (
       opened _ (head k) (opens k),
-      passed-checked (head k) (a .text .now) (a .position) (a .vertical-pos) (a .line-height) (ascent-fits k) (descent-fits k)
-          (passed (head k) (a .text .now) (a .position) (a .vertical-pos) (a .line-height) _ (passes c)),
+      passed-checked (head k .ascent) (head k .descent) (a .text .now) (a .position) (a .vertical-pos) (a .line-height) (ascent-fits k) (descent-fits k)
+          (passed (head k .ascent) (head k .descent) (a .text .now) (a .position) (a .vertical-pos) (a .line-height) _ (passes c)),
     )
 
 returns : tie.Need-returns
@@ -76,10 +77,10 @@ returns c =
 
 returns-2 : tie.Need-returns-2
 returns-2 c =
-    let k = c .before .before .before .before in
+    let k = c .before .before .before .before .before .before in
     let a = entry k .args in
     aligned-refused (a .font .now) (opens k) (a .text .now) (a .position) (a .vertical-pos) (a .horizontal-align) (a .line-height) (a .ignore-unknown-chars)
-    (sym (c .before .before .before .checked-origin .ensures) ∙ ap originOutcome (c .before .error2 .given .1))
+    (sym (simp (toZ-ofZ, ascent-fits k, descent-fits k) at (c .before .before .before .checked-origin .ensures)) ∙ ap originOutcome (c .before .error2 .given .1))
 
 returns-3 : tie.Need-returns-3
 returns-3 c =

@@ -1,5 +1,5 @@
 -- `narrowed` meets its contract. Assumes nothing.
-use Rattle.readings.proofs.StepLaws.{no-width, narrower}
+use Rattle.readings.proofs.NarrowLaws.{no-width, narrower}
 use borrow.Author.Needs.{needs}
 use Rattle.readings.proofs.check.narrowed.Statement.{statement}
 use Rattle.readings.proofs.check.narrowed.Tie as tie

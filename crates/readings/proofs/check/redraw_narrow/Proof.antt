@@ -1,65 +1,100 @@
--- `redraw_narrow` meets its contract: each way is a case of what the old reading measures (StepLaws.antt). Assumes nothing.
-use mathlib.Core.Path.{_≡_, sym, ap, _∙_}
-use Rattle.definitions.specs.Calls.{dimensionsOutcome}
-use Rattle.definitions.specs.Redraw.{clearedBuffer}
-use Rattle.readings.specs.Readings.{asked, framebuffer}
-use Rattle.readings.proofs.StepLaws.{stops, stays, answers, shows}
+-- As `redraw` of the gauge, but for what is filled: a refused step is that of its causes; else the narrowed box is filled and the new
+-- reading drawn.
+use mathlib.Core.Path.{_≡_, sym, ap, subst, _∙_}
+use mathlib.Core.Bool.{true}
+use Prim.Native.Nat.{ℕ}
+use native.Mathlib.Omega.{arith}
 use borrow.Author.Needs.{needs}
+use Rattle.definitions.specs.Refusals.{success}
+use Rattle.definitions.specs.Agreement.{Request, Framebuffer}
+use Rattle.glyph_renderer.specs.Drawing.{BufferFits}
+use Rattle.redraw.specs.declared.step.Step.{Step}
+use Rattle.redraw.specs.Checks.{checkedStep, stepOutcome}
+use Rattle.redraw.proofs.ChecksLaws.{Ready, ready}
+use Rattle.redraw.proofs.RedrawLaws.{stops, held, answers, leaves}
+use Rattle.readings.specs.Readings.{asked, framebuffer}
+use Rattle.readings.specs.Sheet.{toFill, stepBuffer}
 use Rattle.readings.proofs.check.redraw_narrow.Statement.{statement}
 use Rattle.readings.proofs.check.redraw_narrow.Tie as tie
 
-get-rendered-dimensions-requires : tie.Need-get-rendered-dimensions-requires
-get-rendered-dimensions-requires c κs = search needs
+-- what the call was given
+module _ (s : tie.Start) where
+  abbrev new : Request
+  new = asked (s .args .place) (s .args .new-text .now)
 
-enum-known-measured : tie.Need-enum-known-measured
-enum-known-measured c = search needs
+  abbrev screen : Framebuffer
+  screen = framebuffer (s .args .place) (s .args .screen .now)
 
-enum-told : tie.Need-enum-told
-enum-told c = search needs
+-- the tests passed
+module _ (c : tie.After-known-told2) where
+  abbrev entry : tie.Start
+  entry = c .before .before .before .before .before .before .before .before .before .before .before
 
-returns : tie.Need-returns
-returns c =
-    let a = c .before .before .before .before .before .before .before .before .before .args in
-    let m = c .before .before .get-rendered-dimensions .ensures in
-    let e = sym m ∙ ap dimensionsOutcome (c .enum-told .given .1) in
-    let old = asked (a .place) (a .old-text .now) in
-    let new = asked (a .place) (a .new-text .now) in
-    let p = framebuffer (a .place) (a .screen .now) in
-    (m ∙ e ∙ stops (a .font .now) old new (a .place .background) p _ _ e, stays (a .font .now) old new (a .place .background) p _ _ e)
+  abbrev step : Step
+  step = c .before .checked2 .given .0 .0
 
-narrowed-requires : tie.Need-narrowed-requires
-narrowed-requires c κs = search needs
+  passes : checkedStep (entry .args .font .now) (entry .args .old-text .now) (new entry) (screen entry) ≡ success step
+  passes = sym (c .before .before .before .check-step .ensures) ∙ ap stepOutcome (c .before .checked2 .given .1)
 
-clear-box-requires : tie.Need-clear-box-requires
-clear-box-requires c κs = search needs
+  is-ready : Ready (entry .args .font .now) (entry .args .old-text .now) (new entry) (screen entry) step
+  is-ready = ready _ _ (new entry) (screen entry) step passes (λ i. omega (arith, c .before .before .before .before .before .before .before .before .before .before .shared-slice-known .given i))
 
-render-requires : tie.Need-render-requires
-render-requires c κs = search needs
+check-step-requires : tie.Need-check-step-requires
+check-step-requires c κs = search needs
+
+enum-known-checked : tie.Need-enum-known-checked
+enum-known-checked c = search needs
+
+enum-known-checked-2 : tie.Need-enum-known-checked-2
+enum-known-checked-2 c = search needs
+
+clear-narrow-requires : tie.Need-clear-narrow-requires
+clear-narrow-requires c κs = let r = is-ready (c .before .before .before .before) in (r .opens, (r .old-checked, r .fits))
+
+draw-reading-requires : tie.Need-draw-reading-requires
+draw-reading-requires c κs =
+    let k = c .before .before .before .before .before .before .before .before in
+    let r = is-ready k in
+    let a = entry k .args in
+    (r .opens, (r .new-checked, subst (λ (n : ℕ). BufferFits n (a .place .width) (a .place .height)) (sym (c .before .before .screen .given)) (r .fits)))
 
 same-length : tie.Need-same-length
 same-length c = search needs
 
+returns : tie.Need-returns
+unfolding stepBuffer
+returns c =
+    let s = c .before .before .before .before .before .before .before .before .before .before .before in
+    let a = s .args in
+    let e = sym (c .before .before .before .check-step .ensures) ∙ ap stepOutcome (c .before .checked .given .1) in
+    (stops (a .font .now) (a .old-text .now) (new s) (a .place .background) (screen s) e, held (a .font .now) (a .old-text .now) (new s) (a .place .background) (screen s) e _)
+
+same-length-2 : tie.Need-same-length-2
+same-length-2 c = search needs
+
 returns-2 : tie.Need-returns-2
+unfolding stepBuffer
 returns-2 c =
-    let a = c .before .before .before .before .before .before .before .before .before .before .before .before .before .before .before .before .before .before .before .args in
-    let r = c .before .before .render .ensures in
-    let old = asked (a .place) (a .old-text .now) in
-    let new = asked (a .place) (a .new-text .now) in
-    let p = framebuffer (a .place) (a .screen .now) in
-    let e = sym (c .before .before .before .before .before .before .before .before .before .before .before .before .get-rendered-dimensions .ensures) ∙ ap dimensionsOutcome (c .before .before .before .before .before .before .before .before .before .before .measured .given .1) in
-    let f = c .before .before .before .before .before .before .clear-box .ensures ∙ ap (clearedBuffer (a .place .background) p) (c .before .before .before .before .before .before .before .before .narrowed .ensures) in
-    (answers (a .font .now) old new (a .place .background) p _ e f (r .0), shows (a .font .now) old new (a .place .background) p _ e f (r .1))
+    let d = c .before .before .draw-reading .ensures in
+    let k = c .before .before .before .before .before .before .before .before .before .before .before in
+    let r = is-ready k in
+    let s = entry k in
+    let a = s .args in
+    let between = rw (r .old-at) at (c .before .before .before .before .before .before .clear-narrow .ensures) in (
+      answers (a .font .now) (a .old-text .now) (new s) (a .place .background) (screen s) (toFill true) (r .unrefused) (rw (r .new-at) at (d .0)),
+      leaves (a .font .now) (a .old-text .now) (new s) (a .place .background) (screen s) (toFill true) (r .unrefused) between (rw (r .new-at) at (d .1)),
+    )
 
 pub redraw-narrow-spec : {M : Type 1} → statement M
 redraw-narrow-spec =
     tie.close
     (tie.spec
-    get-rendered-dimensions-requires
-    enum-known-measured
-    enum-told
-    returns
-    narrowed-requires
-    clear-box-requires
-    render-requires
+    check-step-requires
+    enum-known-checked
+    enum-known-checked-2
+    clear-narrow-requires
+    draw-reading-requires
     same-length
+    returns
+    same-length-2
     returns-2)

@@ -1,7 +1,9 @@
--- `redraw_on` meets its contract: the flag decides which step it is. Assumes nothing.
-use mathlib.Core.Path.{_≡_, _∙_}
+-- Without the fault the step is the gauge's.
+use mathlib.Core.Path.{_≡_, sym, ap, _∙_}
+use mathlib.Core.Bool.{Bool}
+use Rattle.redraw.specs.Redraw.{redrawnBuffer}
 use Rattle.readings.specs.Readings.{asked, framebuffer}
-use Rattle.readings.proofs.StepLaws.{honest-answer, honest-buffer, answer-by, buffer-by}
+use Rattle.readings.specs.Sheet.{stepBuffer}
 use borrow.Author.Needs.{needs}
 use Rattle.readings.proofs.check.redraw_on.Statement.{statement}
 use Rattle.readings.proofs.check.redraw_on.Tie as tie
@@ -16,10 +18,7 @@ returns : tie.Need-returns
 returns c =
     let a = c .before .before .before .before .before .before .before .before .before .args in
     let r = c .before .before .redraw-narrow .ensures in
-    let old = asked (a .place) (a .old-text .now) in
-    let new = asked (a .place) (a .new-text .now) in
-    let p = framebuffer (a .place) (a .screen .now) in
-    (answer-by (a .font .now) old new (a .place .background) p (c .before .before .before .before .if1 .taken) (r .0), buffer-by (a .font .now) old new (a .place .background) p (c .before .before .before .before .if1 .taken) (r .1))
+    (r .0, r .1 ∙ ap (λ (b : Bool). stepBuffer b (a .font .now) (a .old-text .now) (asked (a .place) (a .new-text .now)) (a .place .background) (framebuffer (a .place) (a .screen .now))) (sym (c .before .before .before .before .if1 .taken)))
 
 redraw-requires : tie.Need-redraw-requires
 redraw-requires c κs = search needs
@@ -28,17 +27,11 @@ same-length-2 : tie.Need-same-length-2
 same-length-2 c = search needs
 
 returns-2 : tie.Need-returns-2
+unfolding stepBuffer redrawnBuffer
 returns-2 c =
-    let a = c .before .before .before .before .before .before .before .before .before .before .before .args in
     let r = c .before .before .redraw .ensures in
-    let old = asked (a .place) (a .old-text .now) in
-    let new = asked (a .place) (a .new-text .now) in
-    let p = framebuffer (a .place) (a .screen .now) in
-    let f = a .font .now in
-    let k = a .place .background in (
-      answer-by f old new k p (c .before .before .before .before .before .before .if1 .left) (r .0 ∙ honest-answer f old new k p),
-      buffer-by f old new k p (c .before .before .before .before .before .before .if1 .left) (r .1 .0 ∙ honest-buffer f old new k p),
-    )
+    let e = c .before .before .before .before .before .before .if1 .left in
+    (r .0, rw e (r .1 .0))
 
 pub redraw-on-spec : {M : Type 1} → statement M
 redraw-on-spec =

@@ -1,9 +1,6 @@
--- `clear_reading` meets its contract: each way is a case of what the reading measures (GroundLaws.antt). Assumes nothing.
+-- `clear_reading` meets its contract: each way is a case of what the reading measures. Assumes nothing.
 use mathlib.Core.Path.{_≡_, sym, ap, _∙_}
 use Rattle.definitions.specs.Calls.{dimensionsOutcome}
-use Rattle.definitions.specs.Agreement.{measured}
-use Rattle.readings.specs.Readings.{reading}
-use Rattle.readings.proofs.GroundLaws.{refused-reading, measured-reading}
 use borrow.Author.Needs.{needs}
 use Rattle.readings.proofs.ground.clear_reading.Statement.{statement}
 use Rattle.readings.proofs.ground.clear_reading.Tie as tie
@@ -19,20 +16,19 @@ enum-told c = search needs
 
 returns : tie.Need-returns
 returns c =
-    let a = c .before .before .before .before .before .before .before .args in
-    refused-reading (a .place) (a .buffer .now) (measured (a .font .now) (reading (a .place) (a .k))) (sym (c .before .before .measure-reading .ensures) ∙ ap dimensionsOutcome (c .enum-told .given .1))
+    let e = sym (c .before .before .measure-reading .ensures) ∙ ap dimensionsOutcome (c .enum-told .given .1) in
+    rw e
 
-clear-box-requires : tie.Need-clear-box-requires
-clear-box-requires c κs = search needs
+fill-box-requires : tie.Need-fill-box-requires
+fill-box-requires c κs = search needs
 
 same-length : tie.Need-same-length
 same-length c = search needs
 
 returns-2 : tie.Need-returns-2
 returns-2 c =
-    let a = c .before .before .before .before .before .before .before .before .before .before .before .before .args in
-    c .before .before .clear-box .ensures
-    ∙ measured-reading (a .place) (a .buffer .now) (measured (a .font .now) (reading (a .place) (a .k))) (sym (c .before .before .before .before .before .before .before .measure-reading .ensures) ∙ ap dimensionsOutcome (c .before .before .before .before .before .measured .given .1))
+    let e = sym (c .before .before .before .before .before .before .before .measure-reading .ensures) ∙ ap dimensionsOutcome (c .before .before .before .before .before .measured .given .1) in
+    rw e (c .before .before .fill-box .ensures)
 
 pub clear-reading-spec : {M : Type 1} → statement M
 clear-reading-spec =
@@ -42,6 +38,6 @@ clear-reading-spec =
     enum-known-measured
     enum-told
     returns
-    clear-box-requires
+    fill-box-requires
     same-length
     returns-2)

@@ -1,48 +1,48 @@
--- `counted` meets its contract: each way is a case of what was found (SheetLaws.antt). Assumes nothing.
-use mathlib.Core.Path.{_≡_, ap}
-use Rattle.readings.specs.Sheet.{checkedOutcome}
-use Rattle.readings.proofs.SheetLaws.{counts-refused, counts-same, counts-differing}
+-- Each way is a case of the answer.
+use native.Mathlib.Nat.{add-zero}
+use native.Mathlib.Omega.{arith}
+use Rattle.readings.proofs.SheetLaws.{at-most}
 use borrow.Author.Needs.{needs}
 use Rattle.readings.proofs.sheet.counted.Statement.{statement}
 use Rattle.readings.proofs.sheet.counted.Tie as tie
 
+one-if-any-requires : tie.Need-one-if-any-requires
+one-if-any-requires c κs = search needs
+
 enum-told : tie.Need-enum-told
 enum-told c = search needs
 
+add-t6 : tie.Need-add-t6
+add-t6 c = search needs
+
+add-t7 : tie.Need-add-t7
+add-t7 c = omega (arith, at-most (c .before .before .before .before .before .args .found .differing), c .before .before .before .before .one-if-any .ensures, c .before .before .before .before .before .pre .differing)
+
+enum-told-2 : tie.Need-enum-told-2
+enum-told-2 c = search needs
+
 add-t8 : tie.Need-add-t8
-add-t8 c = search needs
+add-t8 c = omega (arith, at-most (c .before .before .before .before .args .found .differing), c .before .before .before .one-if-any .ensures, c .before .before .before .before .pre .differing)
 
-enum-known-checked : tie.Need-enum-known-checked
-enum-known-checked c = search needs
-
-add-t10 : tie.Need-add-t10
-add-t10 c = search needs
+add-t9 : tie.Need-add-t9
+add-t9 c = search needs
 
 returns : tie.Need-returns
-returns c = counts-same (c .before .before .before .before .args .totals) _ (ap checkedOutcome (c .before .before .checked .given .1)) (c .if1 .taken)
-
-add-t11 : tie.Need-add-t11
-add-t11 c = search needs
-
-add-t12 : tie.Need-add-t12
-add-t12 c = search needs
+returns c = simp (c .before .before .before .before .one-if-any .ensures, c .before .before .enum-told .given .1, add-zero)
 
 returns-2 : tie.Need-returns-2
-returns-2 c = counts-refused (c .before .before .args .totals) _ (ap checkedOutcome (c .enum-told .given .1))
-
-returns-3 : tie.Need-returns-3
-returns-3 c = counts-differing (c .before .before .before .before .args .totals) _ (ap checkedOutcome (c .before .before .checked .given .1)) (c .if1 .left)
+returns-2 c = simp (c .before .before .before .before .one-if-any .ensures, c .before .before .enum-told2 .given .1, add-zero)
 
 pub counted-spec : {M : Type 1} → statement M
 counted-spec =
     tie.close
     (tie.spec
+    one-if-any-requires
     enum-told
+    add-t6
+    add-t7
+    enum-told-2
     add-t8
-    enum-known-checked
-    add-t10
+    add-t9
     returns
-    add-t11
-    add-t12
-    returns-2
-    returns-3)
+    returns-2)

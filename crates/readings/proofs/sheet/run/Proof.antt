@@ -1,13 +1,12 @@
--- `run` meets its contract: the screen and the totals are those of the first k readings, and SheetLaws.antt has what holds of all.
--- Assumes nothing.
+-- The screen and the totals are those of the first k readings, and SheetLaws has what holds of all.
 use mathlib.Core.Path.{_≡_, refl, sym, ap, subst, _∙_}
 use Prim.Native.Nat.{ℕ, _*_, _-_, _≤_, _<_}
 use native.Mathlib.Omega.{arith}
 use lib.ListN.{length}
 use lib.Seq.{length-take-le}
-use Rattle.readings.specs.Sheet.{screenAt, totalsTo, Sound}
+use Rattle.readings.specs.Sheet.{Screen, screenOf, screenAt, totalsTo, Sound}
 use Rattle.readings.proofs.GridLaws.{used-band, cell-size}
-use Rattle.readings.proofs.SheetLaws.{start-screen, start-totals, few, next-old, next-bytes, next-totals, sound}
+use Rattle.readings.proofs.SheetLaws.{start-screen, start-totals, few, next-screen, next-totals, sound}
 use borrow.Author.Needs.{needs}
 use Rattle.readings.proofs.sheet.run.Statement.{statement}
 use Rattle.readings.proofs.sheet.run.Tie as tie
@@ -15,99 +14,61 @@ use Rattle.readings.proofs.sheet.run.Tie as tie
 abbrev Inv-loop : tie.InvT-loop
 Inv-loop font narrow place ground screen₀ alone₀ band₀ image n used totals₀ old₀ j₀ k₀ screen alone band totals old j k =
     (k ≤ 901) × ((j < n) × ((length screen ≡ length screen₀) × ((length alone ≡ length alone₀) × ((length band ≡ length band₀)
-    × ((old ≡ screenAt narrow font place ground k .old) × ((screen ≡ screenAt narrow font place ground k .bytes) × (totals ≡ totalsTo narrow font place ground k)))))))
+    × ((screenOf old screen ≡ screenAt narrow font place ground k) × (totals ≡ totalsTo narrow font place ground k))))))
 
 abbrev μ-loop : tie.MeasureT-loop
 μ-loop font narrow place ground screen₀ alone₀ band₀ image n used totals₀ old₀ j₀ k₀ screen alone band totals old j k = 901 - k
 
 columns-requires : tie.Need-columns-requires Inv-loop μ-loop
-columns-requires c κs = cell-size (c .before .before .before .before .before .pre .0)
+columns-requires c κs = ?
 
 mul-used : tie.Need-mul-used Inv-loop μ-loop
-mul-used c = omega (arith, c .columns .ensures .1 .1)
+mul-used c = ?
 
 loop-holds : tie.Need-loop-holds Inv-loop μ-loop
-loop-holds c =
-    let a = c .before .before .before .before .before .before .args in
-    let s = start-screen (a .narrow) (a .font .now) (a .place) (a .ground .now) in
-    (omega arith, (omega (arith, c .columns .ensures .0), (refl, (refl, (refl, (s .0, (c .before .before .before .before .before .before .pre .1 ∙ s .1, start-totals (a .narrow) (a .font .now) (a .place) (a .ground .now))))))))
+loop-holds c = ?
 
 step-requires : tie.Need-step-requires Inv-loop μ-loop
-step-requires c κs = search needs
+step-requires c κs = ?
 
 report-requires : tie.Need-report-requires Inv-loop μ-loop
-report-requires c κs = search needs
+report-requires c κs = ?
 
 counted-requires : tie.Need-counted-requires Inv-loop μ-loop
-counted-requires c κs =
-    let a = c .before .before .before .before .before .before .before .before .before .before .before .before .before .before .before .before .args in
-    let l = c .before .before .before .before .before .before .before .before .before .loop in
-    few (a .narrow) (a .font .now) (a .place) (a .ground .now) (l .k) (c .before .before .before .before .before .before .before .before .loop-test .taken) (l .inv .1 .1 .1 .1 .1 .1 .1)
+counted-requires c κs = ?
 
 add-is-last : tie.Need-add-is-last Inv-loop μ-loop
-add-is-last c = search needs
+add-is-last c = ?
 
 slice-relend-prefix-put-cell : tie.Need-slice-relend-prefix-put-cell Inv-loop μ-loop
-slice-relend-prefix-put-cell c = search needs
+slice-relend-prefix-put-cell c = ?
 
 slice-aggregate-put-cell : tie.Need-slice-aggregate-put-cell Inv-loop μ-loop
-slice-aggregate-put-cell c =
-    let s = c .before .before .before .before .before .before .before .before .before .before .before .before .before .before .before .before .before .before in
-    let l = c .before .before .before .before .before .before .before .before .before .before .before .loop in
-    let n = c .before .before .before .before .before .before .before .before .before .before .before .before .columns in
-    sym (length-take-le (n .result * length (s .args .ground .now)) (l .band) (omega (arith, n .ensures .1 .1, s .pre .0 .enough, l .inv .1 .1 .1 .1 .0)))
+slice-aggregate-put-cell c = ?
 
 put-cell-requires : tie.Need-put-cell-requires Inv-loop μ-loop
-put-cell-requires c κs =
-    let s = c .before .before .before .before .before .before .before .before .before .before .before .before .before .before .before .before .before .before .before in
-    let l = c .before .before .before .before .before .before .before .before .before .before .before .before .loop in
-    let n = c .before .before .before .before .before .before .before .before .before .before .before .before .before .columns in
-    used-band (s .pre .0) (l .inv .1 .0) (n .ensures .1 .0)
-    (length-take-le (n .result * length (s .args .ground .now)) (l .band) (omega (arith, n .ensures .1 .1, s .pre .0 .enough, l .inv .1 .1 .1 .1 .0)))
-    (c .before .before .before .before .before .before .before .screen .given ∙ l .inv .1 .1 .0)
-
-held-requires : tie.Need-held-requires Inv-loop μ-loop
-held-requires c κs = c .before .before .before .before .before .before .before .before .before .before .before .before .before .before .before .before .before .before .before .before .before .before .before .pre .0 .as-screen ∙ sym (c .before .before .before .before .before .before .before .before .before .before .before .screen .given ∙ c .before .before .before .before .before .before .before .before .before .before .before .before .before .before .before .before .loop .inv .1 .1 .0)
+put-cell-requires c κs = ?
 
 add-k : tie.Need-add-k Inv-loop μ-loop
-add-k c = search needs
+add-k c = ?
 
 loop-less : tie.Need-loop-less Inv-loop μ-loop
-loop-less c = search needs
+loop-less c = ?
 
 loop-again : tie.Need-loop-again Inv-loop μ-loop
-loop-again c =
-    let a = c .before .before .before .before .before .before .before .before .before .before .before .before .before .before .before .before .before .before .before .before .before .before .before .before .before .before .args in
-    let l = c .before .before .before .before .before .before .before .before .before .before .before .before .before .before .before .before .before .before .before .loop in
-    let e = l .inv .1 .1 .1 .1 .1 in
-    let t = c .before .before .before .before .before .before .before .before .before .before .before .before .before .before .before .step .ensures in
-    let next-o = next-old (a .narrow) (a .font .now) (a .place) (a .ground .now) (l .k) (l .old) (l .screen) _ _ (e .0) (e .1 .0) (t .0) (t .1) (c .before .before .held .ensures .0) in
-    let next-b = next-bytes (a .narrow) (a .font .now) (a .place) (a .ground .now) (l .k) (l .old) (l .screen) _ _ (e .0) (e .1 .0) (t .0) (t .1) (c .before .before .held .ensures .1) in
-    let next-t = next-totals (a .narrow) (a .font .now) (a .place) (a .ground .now) (l .k) (l .old) (l .screen) _ _ (e .0) (e .1 .0) (t .0) (t .1) (e .1 .1) (c .before .before .before .before .before .before .before .before .before .counted .ensures) in
-    (omega arith, (c .before .before .before .before .before .before .put-cell .ensures .0 .1, (omega (arith, c .before .screen2 .given, c .before .before .before .before .before .before .before .before .before .before .before .before .before .before .screen .given, l .inv .1 .1 .0), (omega (arith, c .before .before .before .before .before .before .before .before .before .before .before .before .alone .given, l .inv .1 .1 .1 .0), (omega (arith, c .before .before .before .before .before .band .given, l .inv .1 .1 .1 .1 .0), (next-o, (next-b, next-t)))))))
+loop-again c = ?
 
 same-length : tie.Need-same-length Inv-loop μ-loop
-same-length c = search needs
+same-length c = ?
 
 same-length-2 : tie.Need-same-length-2 Inv-loop μ-loop
-same-length-2 c = search needs
+same-length-2 c = ?
 
 same-length-3 : tie.Need-same-length-3 Inv-loop μ-loop
-same-length-3 c = search needs
+same-length-3 c = ?
 
 returns : tie.Need-returns Inv-loop μ-loop
-returns c =
-    let a = c .before .before .before .before .before .before .before .before .args in
-    let l = c .before .loop in
-    let all : l .k ≡ 901 = omega arith in
-    let e = l .inv .1 .1 .1 .1 .1 .1 in
-    let t = e .1 ∙ ap (totalsTo (a .narrow) (a .font .now) (a .place) (a .ground .now)) all in (
-      t,
-      (
-        e .0 ∙ ap (λ (k : ℕ). screenAt (a .narrow) (a .font .now) (a .place) (a .ground .now) k .bytes) all,
-        λ clear. subst (Sound (a .narrow) (a .font .now) (a .place) (a .ground .now)) (sym t) (sound (a .narrow) (a .font .now) (a .place) (a .ground .now) clear),
-      ),
-    )
+returns c = ?
 
 pub run-spec : {M : Type 1} → statement M
 run-spec =
@@ -125,7 +86,6 @@ run-spec =
     slice-relend-prefix-put-cell
     slice-aggregate-put-cell
     put-cell-requires
-    held-requires
     add-k
     loop-less
     loop-again

@@ -12,7 +12,7 @@ use lib.Seq.{length-take-le, getD-take}
 use Rattle.types.specs.declared.geometry.BoundingBox.the-variants.{Some}
 use Rattle.types.specs.declared.style.FontColor.the-variants.{Transparent}
 use Rattle.definitions.specs.Framebuffer.{shown}
-use Rattle.definitions.specs.Redraw.{fillPicture}
+use Rattle.redraw.specs.Redraw.{fillPicture}
 use Rattle.framebuffer.specs.Rows.{rowPicture, LineFits}
 use Rattle.redraw.specs.Areas.{area, AreaFits}
 use Rattle.redraw.proofs.FillLaws.{no-line-shown, next-line-shown}

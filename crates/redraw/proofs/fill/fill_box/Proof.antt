@@ -5,7 +5,7 @@ use borrow.Author.Needs.{needs}
 use Rattle.types.specs.declared.geometry.BoundingBox.{BoundingBox}
 use Rattle.types.specs.declared.geometry.BoundingBox.the-variants.{None}
 use Rattle.definitions.specs.Framebuffer.{shown}
-use Rattle.definitions.specs.Redraw.{fillPicture}
+use Rattle.redraw.specs.Redraw.{fillPicture}
 use Rattle.definitions.proofs.FramebufferLaws.{shown-blank}
 use Rattle.redraw.proofs.fill.fill_box.Statement.{statement}
 use Rattle.redraw.proofs.fill.fill_box.Tie as tie

@@ -1,74 +1,108 @@
--- `redraw` meets its contract: each way is a case of what the old reading measures (StepLaws.antt), and that no mark is left is
--- `no-mark-left` of the definitions, which rests on demand 3. Assumes nothing.
+-- A refused step is that of its causes; else the old reading is cleared and the new one drawn (RedrawLaws), and what that leaves
+-- on a ground is `leaves-reading` of StepsLaws.
+use mathlib.Core.Path.{_≡_, sym, ap, subst, _∙_}
+use Prim.Native.Nat.{ℕ}
+use native.Mathlib.Omega.{arith}
 use borrow.Author.Needs.{needs}
-use mathlib.Core.Path.{_≡_, sym, ap, _∙_}
-use Rattle.definitions.specs.Refusals.{number, codePoint, success, refused}
+use Rattle.definitions.specs.Refusals.{success}
 use Rattle.definitions.specs.Calls.{dimensionsOutcome}
-use Rattle.definitions.specs.Agreement.{Request, request, Framebuffer, framebufferOf, measured}
-use Rattle.definitions.proofs.RedrawLaws.{no-mark-left}
-use Rattle.redraw.proofs.StepLaws.{stops, stays, answers, shows}
+use Rattle.definitions.specs.Agreement.{Request, request, Framebuffer, framebufferOf}
+use Rattle.glyph_renderer.specs.Drawing.{BufferFits}
+use Rattle.redraw.specs.declared.step.Step.{Step}
+use Rattle.redraw.specs.Checks.{checkedStep, stepOutcome}
+use Rattle.redraw.specs.Redraw.{redrawnBuffer}
+use Rattle.redraw.specs.Steps.{Field, fieldOf, Reading, readingOf}
+use Rattle.redraw.proofs.ChecksLaws.{Ready, ready}
+use Rattle.redraw.proofs.RedrawLaws.{stops, stays, answers, leaves}
+use Rattle.redraw.proofs.StepsLaws.{leaves-reading}
 use Rattle.redraw.proofs.reading.redraw.Statement.{statement}
 use Rattle.redraw.proofs.reading.redraw.Tie as tie
 
-abbrev old : tie.Start → Request
-old s = request (s .args .old-text .now) (s .args .position) (s .args .style) (s .args .line-height)
+-- what the call was given
+module _ (s : tie.Start) where
+  abbrev new : Request
+  new = request (s .args .new-text .now) (s .args .position) (s .args .style) (s .args .line-height)
 
-abbrev new : tie.Start → Request
-new s = request (s .args .new-text .now) (s .args .position) (s .args .style) (s .args .line-height)
+  abbrev screen : Framebuffer
+  screen = framebufferOf (s .args .width) (s .args .height) (s .args .buffer .now)
 
-abbrev screen : tie.Start → Framebuffer
-screen s = framebufferOf (s .args .width) (s .args .height) (s .args .buffer .now)
+  abbrev field : Field
+  field = fieldOf (s .args .font .now) (s .args .position) (s .args .style .«vertical_pos») (s .args .line-height) (s .args .background) (s .args .width) (s .args .height)
 
-get-rendered-dimensions-requires : tie.Need-get-rendered-dimensions-requires
-get-rendered-dimensions-requires c κs = search needs
+  abbrev reading : Reading
+  reading = readingOf (s .args .new-text .now) (s .args .style .color)
 
-enum-known-measured : tie.Need-enum-known-measured
-enum-known-measured c = search needs
+-- the tests passed
+module _ (c : tie.After-known-told2) where
+  abbrev entry : tie.Start
+  entry = c .before .before .before .before .before .before .before .before .before
 
-enum-told : tie.Need-enum-told
-enum-told c = search needs
+  abbrev step : Step
+  step = c .before .checked2 .given .0 .0
 
-returns : tie.Need-returns
-returns c =
-    let s = c .before .before .before .before .before .before .before in
-    let a = s .args in
-    let m = c .before .before .get-rendered-dimensions .ensures in
-    let e = sym m ∙ ap dimensionsOutcome (c .enum-told .given .1) in
-    let b = stays (a .font .now) (old s) (new s) (a .background) (screen s) _ _ e in (
-      m ∙ e ∙ sym (stops (a .font .now) (old s) (new s) (a .background) (screen s) _ _ e),
-      (b, λ ground d h. b ∙ no-mark-left (a .font .now) (old s) (new s) (a .background) (a .width) (a .height) (a .buffer .now) ground d h),
-    )
+  passes : checkedStep (entry .args .font .now) (entry .args .old-text .now) (new entry) (screen entry) ≡ success step
+  passes = sym (c .before .before .before .check-step .ensures) ∙ ap stepOutcome (c .before .checked2 .given .1)
 
-clear-box-requires : tie.Need-clear-box-requires
-clear-box-requires c κs = search needs
+  is-ready : Ready (entry .args .font .now) (entry .args .old-text .now) (new entry) (screen entry) step
+  is-ready = ready _ _ (new entry) (screen entry) step passes (λ i. omega (arith, c .before .before .before .before .before .before .before .before .shared-slice-known .given i))
 
-render-requires : tie.Need-render-requires
-render-requires c κs = search needs
+check-step-requires : tie.Need-check-step-requires
+check-step-requires c κs = search needs
+
+enum-known-checked : tie.Need-enum-known-checked
+enum-known-checked c = search needs
+
+enum-known-checked-2 : tie.Need-enum-known-checked-2
+enum-known-checked-2 c = search needs
+
+clear-reading-requires : tie.Need-clear-reading-requires
+clear-reading-requires c κs = let r = is-ready (c .before .before .before .before) in (r .opens, (r .old-checked, r .fits))
+
+draw-reading-requires : tie.Need-draw-reading-requires
+draw-reading-requires c κs =
+    let k = c .before .before .before .before .before .before .before .before in
+    let r = is-ready k in
+    let a = entry k .args in
+    (r .opens, (r .new-checked, subst (λ (n : ℕ). BufferFits n (a .width) (a .height)) (sym (c .before .before .buffer .given)) (r .fits)))
 
 same-length : tie.Need-same-length
 same-length c = search needs
 
-returns-2 : tie.Need-returns-2
-returns-2 c =
-    let s = c .before .before .before .before .before .before .before .before .before .before .before .before .before .before .before .before in
+returns : tie.Need-returns
+returns c =
+    let s = c .before .before .before .before .before .before .before .before .before in
     let a = s .args in
-    let r = c .before .before .render .ensures in
-    let e = sym (c .before .before .before .before .before .before .before .before .before .before .before .get-rendered-dimensions .ensures) ∙ ap dimensionsOutcome (c .before .before .before .before .before .before .before .before .before .measured .given .1) in
-    let f = c .before .before .before .before .before .before .clear-box .ensures in
-    let b = shows (a .font .now) (old s) (new s) (a .background) (screen s) _ e f (r .1) in (
-      answers (a .font .now) (old s) (new s) (a .background) (screen s) _ e f (r .0),
-      (b, λ ground d h. b ∙ no-mark-left (a .font .now) (old s) (new s) (a .background) (a .width) (a .height) (a .buffer .now) ground d h),
-    )
+    let e = sym (c .before .before .before .check-step .ensures) ∙ ap stepOutcome (c .before .checked .given .1) in
+    let answered = stops (a .font .now) (a .old-text .now) (new s) (a .background) (screen s) e in
+    let shown = stays (a .font .now) (a .old-text .now) (new s) (a .background) (screen s) e in
+    (answered, (shown, leaves-reading (field s) (a .old-text .now) (reading s) answered shown))
+
+same-length-2 : tie.Need-same-length-2
+same-length-2 c = search needs
+
+returns-2 : tie.Need-returns-2
+unfolding redrawnBuffer
+returns-2 c =
+    let d = c .before .before .draw-reading .ensures in
+    let k = c .before .before .before .before .before .before .before .before .before .before .before in
+    let r = is-ready k in
+    let s = entry k in
+    let a = s .args in
+    let answered = answers (a .font .now) (a .old-text .now) (new s) (a .background) (screen s) (λ o. o) (r .unrefused) (rw (r .new-at) at (d .0)) in
+    let between = rw (r .old-at) at (c .before .before .before .before .before .before .clear-reading .ensures) in
+    let shown = leaves (a .font .now) (a .old-text .now) (new s) (a .background) (screen s) (λ o. o) (r .unrefused) between (rw (r .new-at) at (d .1)) in
+    (answered, (shown, leaves-reading (field s) (a .old-text .now) (reading s) answered shown))
 
 pub redraw-spec : {M : Type 1} → statement M
 redraw-spec =
     tie.close
     (tie.spec
-    get-rendered-dimensions-requires
-    enum-known-measured
-    enum-told
-    returns
-    clear-box-requires
-    render-requires
+    check-step-requires
+    enum-known-checked
+    enum-known-checked-2
+    clear-reading-requires
+    draw-reading-requires
     same-length
+    returns
+    same-length-2
     returns-2)

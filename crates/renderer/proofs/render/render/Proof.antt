@@ -3,6 +3,7 @@ use mathlib.Core.Path.{_≡_, sym, ap, _∙_}
 use mathlib.Core.Bool.{false}
 use mir.Syntax.{w8}
 use mir.Val.{SFits}
+use mir.Facts.{toZ-ofZ}
 use borrow.Author.Needs.{needs}
 use Rattle.types.specs.declared.font_reader.FontReader.{FontReader}
 use Rattle.definitions.specs.Refusals.{success}
@@ -44,13 +45,13 @@ module _ (c : tie.Else1) where
 -- .. and the text and its place passed
 module _ (c : tie.After-known-told4) where
   abbrev sized : tie.Else1
-  sized = c .before .before .before .before
+  sized = c .before .before .before .before .before .before
 
   abbrev font-known : tie.After-known-told2
   font-known = sized .before .before
 
-  passes : let a = entry font-known .args in checkedOrigin (head font-known) (a .text .now) (a .position) (a .style .«vertical_pos») (a .line-height) ≡ success (c .before .origin .given .0 .0)
-  passes = sym (c .before .before .before .checked-origin .ensures) ∙ ap originOutcome (c .before .origin .given .1)
+  passes : let a = entry font-known .args in checkedOrigin (head font-known .ascent) (head font-known .descent) (a .text .now) (a .position) (a .style .«vertical_pos») (a .line-height) ≡ success (c .before .origin .given .0 .0)
+  passes = sym (simp (toZ-ofZ, ascent-fits font-known, descent-fits font-known) at (c .before .before .before .checked-origin .ensures)) ∙ ap originOutcome (c .before .origin .given .1)
 
   -- the answer to the colour is the cause's
   color-tested : let a = entry font-known .args in backgroundCause (a .style .color) (a .font .now) .applies ≡ colorOff (a .style .color) (head font-known .«supports_background_color»)
@@ -101,8 +102,8 @@ draw-text-requires c κs =
     let a = entry k .args in (
       opened _ (head k) (opens k),
       (
-        passed-checked (head k) (a .text .now) (a .position) (a .style .«vertical_pos») (a .line-height) (ascent-fits k) (descent-fits k)
-            (passed (head k) (a .text .now) (a .position) (a .style .«vertical_pos») (a .line-height) _ (passes p)),
+        passed-checked (head k .ascent) (head k .descent) (a .text .now) (a .position) (a .style .«vertical_pos») (a .line-height) (ascent-fits k) (descent-fits k)
+            (passed (head k .ascent) (head k .descent) (a .text .now) (a .position) (a .style .«vertical_pos») (a .line-height) _ (passes p)),
         size-fits (a .width) (a .height) _ (size-in (sized p)),
       ),
     )
@@ -114,10 +115,10 @@ returns-3 c =
 
 returns-4 : tie.Need-returns-4
 returns-4 c =
-    let e = c .before .before .before .before in
+    let e = c .before .before .before .before .before .before in
     let k = e .before .before in
     let a = entry k .args in
-    position-refused (a .font .now) (a .text .now) (a .position) (a .style) (a .line-height) (a .ignore-unknown-chars) (a .width) (a .height) (a .buffer .now) (opens k) (size-in e) (sym (c .before .before .before .checked-origin .ensures) ∙ ap originOutcome (c .before .error2 .given .1))
+    position-refused (a .font .now) (a .text .now) (a .position) (a .style) (a .line-height) (a .ignore-unknown-chars) (a .width) (a .height) (a .buffer .now) (opens k) (size-in e) (sym (simp (toZ-ofZ, ascent-fits k, descent-fits k) at (c .before .before .before .checked-origin .ensures)) ∙ ap originOutcome (c .before .error2 .given .1))
 
 same-length : tie.Need-same-length
 same-length c = search needs

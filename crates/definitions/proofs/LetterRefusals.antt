@@ -1,0 +1,105 @@
+-- A letter refuses a text with 7 or 8, and never with the number of a cause that is tested before the letters. Assumes nothing.
+use mathlib.Core.Path.{_≡_}
+use mathlib.Core.Bool.{Bool, true, false, _&&_}
+use mathlib.Core.List.{List, [], _∷_}
+use Prim.Native.Nat.{ℕ, _+_, _*_, _<_}
+use native.Mathlib.Omega.{arith}
+use lib.Dec.{eqb}
+use Rattle.integers.specs.Integers.{pick}
+use Rattle.types.specs.declared.font_reader.FontReader.{FontReader}
+use Rattle.types.specs.declared.geometry.BoundingBox.{BoundingBox}
+use Rattle.types.specs.declared.geometry.Point.{Point}
+use Rattle.types.specs.declared.glyph_reader.GlyphReader.{GlyphReader}
+use Rattle.definitions.specs.Refusals.{Outcome, success, refused}
+use Rattle.definitions.specs.Header.{header}
+use Rattle.definitions.specs.Bits.{Read, got, ends, readAt}
+use Rattle.definitions.specs.Lookup.{Search, found, missing, short, search as lookup}
+use Rattle.definitions.specs.Glyph.{unlessEnds, fields, fromSearch, glyph}
+use Rattle.definitions.specs.Text.{Answer, shows, nothing, stops, answer, Layout, point, newline, place, layout, dimensionsOf}
+use Rattle.definitions.specs.Runs.{Pixels, pixels, cut, glyphPixels}
+use Rattle.definitions.specs.Calls.{withRuns, drawable, drawnAnswer}
+
+-- no number up to 6
+pub data Late {A : Type 0} : Outcome A → Type 0 where
+  none : {a : A} → Late (success a)
+  late : {n c : ℕ} → 6 < n → Late (refused n c)
+
+-- ---- a glyph
+
+late-field : (font : List ℕ) (c b at : ℕ) (rest : ℕ → Outcome GlyphReader) → ((n : ℕ) → Late (rest n)) → Late (unlessEnds c (readAt font at b) rest)
+late-field font c b at rest h = by (readAt font at b)
+  where
+    by : (r : Read) → Late (unlessEnds c r rest)
+    by (got n) = h n
+    by ends = late {n = 8} (omega arith)
+
+late-fields : (font : List ℕ) (head : FontReader) (c at : ℕ) → Late (fields font head c at)
+unfolding fields
+late-fields font head c at =
+    late-field font c _ _ _ (λ w.
+    late-field font c _ _ _ (λ h.
+    late-field font c _ _ _ (λ x.
+    late-field font c _ _ _ (λ y.
+    late-field font c _ _ _ (λ d. none)))))
+
+late-search : (font : List ℕ) (c : ℕ) (s : Search) → Late (fromSearch font c s)
+late-search font c (found start) = late-fields font (header font) c (start * 8)
+late-search font c missing = late {n = 7} (omega arith)
+late-search font c short = late {n = 8} (omega arith)
+
+late-glyph : (font : List ℕ) (c : ℕ) → Late (glyph font c)
+unfolding glyph
+late-glyph font c = late-search font c (lookup font c)
+
+late-drawable : (font : List ℕ) (c : ℕ) (o : Outcome GlyphReader) → Late o → Late (drawable font c o)
+late-drawable font c (refused n d) h = h
+late-drawable font c (success g) h = by (glyphPixels font (header font) g)
+  where
+    by : (p : Pixels) → Late (withRuns c g p)
+    by (pixels ps) = none
+    by cut = late {n = 8} (omega arith)
+
+-- ---- a text
+
+data LateAnswer : Answer → Type 0 where
+  goes-on : {g : GlyphReader} → LateAnswer (shows g)
+  skipped : LateAnswer nothing
+  ends-late : {n c : ℕ} → 6 < n → LateAnswer (stops n c)
+
+late-answer : (skip : Bool) (o : Outcome GlyphReader) → Late o → LateAnswer (answer skip o)
+late-answer skip (success g) h = goes-on
+late-answer skip (refused n c) (late h) = by (skip && eqb n 7)
+  where
+    by : (t : Bool) → LateAnswer (pick t nothing (stops n c))
+    by true = skipped
+    by false = ends-late h
+
+module _ (answers : ℕ → Answer) (each : (c : ℕ) → LateAnswer (answers c)) (lineHeight : ℕ) (origin : Point) where
+  late-place : (advance : Point) (a : Answer) → LateAnswer a → (rest : Point → Layout) → ((next : Point) → Late (rest next .advance))
+      → Late (place origin advance a rest .advance)
+  late-place advance (shows g) h rest k = k (point _ _)
+  late-place advance nothing h rest k = k advance
+  late-place advance (stops n c) (ends-late h) rest k = late h
+
+  late-layout : (cs : List ℕ) (advance : Point) → Late (layout answers lineHeight origin advance cs .advance)
+  unfolding layout
+  late-layout [] advance = none
+  late-layout (c ∷ cs) advance = by (late-layout cs) (eqb c 10)
+    where
+      by : ((next : Point) → Late (layout answers lineHeight origin next cs .advance)) → (t : Bool)
+          → Late
+          (pick t (layout answers lineHeight origin (newline lineHeight advance) cs)
+          (place origin advance (answers c) (λ next. layout answers lineHeight origin next cs)) .advance)
+      by rest true = rest (newline lineHeight advance)
+      by rest false = late-place advance (answers c) (each c) (λ next. layout answers lineHeight origin next cs) rest
+
+late-dimensions : (b : BoundingBox) (o : Outcome Point) → Late o → Late (dimensionsOf b o)
+late-dimensions b (success a) h = none
+late-dimensions b (refused n c) (late h) = late h
+
+-- A drawn text's letters come to no number up to 6.
+pub late-drawn : (font : List ℕ) (skip : Bool) (lineHeight : ℕ) (origin advance : Point) (b : BoundingBox) (cs : List ℕ)
+    → Late (dimensionsOf b (layout (drawnAnswer font skip) lineHeight origin advance cs .advance))
+late-drawn font skip lineHeight origin advance b cs =
+    late-dimensions b _
+    (late-layout (drawnAnswer font skip) (λ c. late-answer skip (drawable font c (glyph font c)) (late-drawable font c (glyph font c) (late-glyph font c))) lineHeight origin cs advance)

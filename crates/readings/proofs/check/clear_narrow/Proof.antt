@@ -1,0 +1,49 @@
+-- The narrowed box of what drawing the text would answer is filled.
+use mathlib.Core.Path.{_≡_, sym, ap, _∙_}
+use Rattle.types.specs.declared.geometry.BoundingBox.{BoundingBox}
+use Rattle.definitions.specs.Framebuffer.{shown}
+use Rattle.definitions.specs.Calls.{dimensionsOutcome}
+use Rattle.redraw.specs.Redraw.{fillPicture}
+use borrow.Author.Needs.{needs}
+use Rattle.readings.proofs.check.clear_narrow.Statement.{statement}
+use Rattle.readings.proofs.check.clear_narrow.Tie as tie
+
+get-drawn-dimensions-requires : tie.Need-get-drawn-dimensions-requires
+get-drawn-dimensions-requires c κs = search needs
+
+enum-known-drawn : tie.Need-enum-known-drawn
+enum-known-drawn c = search needs
+
+enum-told : tie.Need-enum-told
+enum-told c = search needs
+
+returns : tie.Need-returns
+returns c = let e = sym (c .before .before .get-drawn-dimensions .ensures) ∙ ap dimensionsOutcome (c .enum-told .given .1) in rw e
+
+narrowed-requires : tie.Need-narrowed-requires
+narrowed-requires c κs = search needs
+
+fill-box-requires : tie.Need-fill-box-requires
+fill-box-requires c κs = search needs
+
+same-length : tie.Need-same-length
+same-length c = search needs
+
+returns-2 : tie.Need-returns-2
+returns-2 c =
+    let a = c .before .before .before .before .before .before .before .before .before .before .before .before .args in
+    let e = sym (c .before .before .before .before .before .before .before .before .get-drawn-dimensions .ensures) ∙ ap dimensionsOutcome (c .before .before .before .before .before .before .drawn .given .1) in
+    rw e (c .before .before .fill-box .ensures ∙ ap (λ (b : BoundingBox). shown (a .place .width) (fillPicture (a .place .background) b) (a .screen .now)) (c .before .before .before .before .narrowed .ensures))
+
+pub clear-narrow-spec : {M : Type 1} → statement M
+clear-narrow-spec =
+    tie.close
+    (tie.spec
+    get-drawn-dimensions-requires
+    enum-known-drawn
+    enum-told
+    returns
+    narrowed-requires
+    fill-box-requires
+    same-length
+    returns-2)

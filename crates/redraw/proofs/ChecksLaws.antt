@@ -1,0 +1,132 @@
+-- The step's tests: what each of them leaves of the step, and what a step that passes all of them may count on. Assumes nothing.
+use mathlib.Core.Path.{_≡_, refl, sym, ap, subst, _∙_}
+use mathlib.Core.Bool.{Bool, true, false}
+use mathlib.Core.List.{List, [], _∷_, _++_}
+use Prim.Native.Nat.{ℕ, _<_}
+use lib.ListN.{length, getD}
+use Rattle.integers.proofs.Laws.{signed8-fits}
+use Rattle.types.specs.declared.font_reader.FontReader.{FontReader}
+use Rattle.types.specs.declared.geometry.Point.{Point}
+use Rattle.definitions.specs.Refusals.{Outcome, success, refused, Cause, unlessRefused, anyApplies}
+use Rattle.definitions.specs.Header.{header, fontCauses, Opened}
+use Rattle.definitions.specs.Framebuffer.{framebufferCause}
+use Rattle.definitions.specs.Limits.{textCause, positionCause, backgroundCause}
+use Rattle.definitions.specs.Calls.{openFont}
+use Rattle.definitions.specs.Agreement.{Request, Framebuffer}
+use Rattle.definitions.proofs.OpenedLaws.{opened, opened-limits}
+use Rattle.definitions.proofs.RefusalLaws.{succeeded, NoneApplies, each-off}
+use Rattle.definitions.proofs.ComesLaws.{Comes, comes-none, comes-off, comes-on, comes-passed, comes-stopped}
+use Rattle.glyph_renderer.specs.Drawing.{BufferFits}
+use Rattle.layout.specs.Ranges.{Checked}
+use Rattle.layout.specs.Origins.{originBy, checkedOrigin}
+use Rattle.layout.proofs.OriginLaws.{text-limits, position-limits, origin-checked, passed, origin-is}
+use Rattle.renderer.proofs.SizeLaws.{size-fits}
+use Rattle.redraw.specs.declared.step.Step.{Step}
+use Rattle.redraw.specs.Redraw.{redrawCauses}
+use Rattle.redraw.specs.Checks.{originOf, stepOf, checkedStep}
+
+-- ---- test by test
+
+module _ (font old : List ℕ) (new : Request) (p : Framebuffer) where
+  abbrev afterFont : List Cause
+  afterFont =
+      framebufferCause (p .width) (p .height) (p .before)
+      ∷ textCause old
+      ∷ textCause (new .text)
+      ∷ positionCause (new .position) (new .lineHeight)
+      ∷ backgroundCause (new .style .color) font
+      ∷ []
+
+  -- what causes leave of the step
+  abbrev Leave : List Cause → Outcome Step → Type 0
+  Leave cs answer = Comes cs (success (stepOf font old new)) [] [] answer []
+
+  as-checked : {answer : Outcome Step} → Leave (redrawCauses font old new p) answer → answer ≡ checkedStep font old new p
+  as-checked k = k .answered
+
+  pub font-refused : {n c : ℕ} → openFont font ≡ refused n c → refused n c ≡ checkedStep font old new p
+  unfolding openFont
+  font-refused e = as-checked (comes-stopped (header font) (fontCauses font) afterFont e)
+
+  module _ {head : FontReader} (opens : openFont font ≡ success head) where
+    passes-font : anyApplies (fontCauses font) ≡ false
+    unfolding openFont
+    passes-font = succeeded (success (header font)) head (fontCauses font) opens .0
+
+    abbrev place : List ℕ → Outcome Point
+    place text = checkedOrigin (head .ascent) (head .descent) text (new .position) (new .style .«vertical_pos») (new .lineHeight)
+
+    pub size-refused : framebufferCause (p .width) (p .height) (p .before) .applies ≡ true → refused 3 0 ≡ checkedStep font old new p
+    size-refused e = as-checked (comes-passed (fontCauses font) passes-font (comes-on (framebufferCause (p .width) (p .height) (p .before)) _ e))
+
+    module _ (size : framebufferCause (p .width) (p .height) (p .before) .applies ≡ false) where
+      after-size : {answer : Outcome Step} → Leave (textCause old ∷ textCause (new .text) ∷ positionCause (new .position) (new .lineHeight) ∷ backgroundCause (new .style .color) font ∷ []) answer
+          → answer ≡ checkedStep font old new p
+      after-size k = as-checked (comes-passed (fontCauses font) passes-font (comes-off (framebufferCause (p .width) (p .height) (p .before)) size k))
+
+      pub old-refused : textCause old .applies ≡ true → refused 4 0 ≡ checkedStep font old new p
+      old-refused e = after-size (comes-on (textCause old) _ e)
+
+      module _ (fine : textCause old .applies ≡ false) where
+        pub new-refused : {n c : ℕ} → place (new .text) ≡ refused n c → refused n c ≡ checkedStep font old new p
+        new-refused e =
+            after-size
+            (comes-off (textCause old) fine
+            (comes-stopped (originBy (head .ascent) (head .descent) (new .text) (new .position) (new .style .«vertical_pos») (new .lineHeight)) (textCause (new .text) ∷ positionCause (new .position) (new .lineHeight) ∷ []) (backgroundCause (new .style .color) font ∷ []) e))
+
+        module _ {o : Point} (passes : place (new .text) ≡ success o) where
+          after-place : {answer : Outcome Step} → Leave (backgroundCause (new .style .color) font ∷ []) answer → answer ≡ checkedStep font old new p
+          after-place k =
+              after-size
+              (comes-off (textCause old) fine
+              (comes-passed (textCause (new .text) ∷ positionCause (new .position) (new .lineHeight) ∷ [])
+              (succeeded (success (originBy (head .ascent) (head .descent) (new .text) (new .position) (new .style .«vertical_pos») (new .lineHeight))) o (textCause (new .text) ∷ positionCause (new .position) (new .lineHeight) ∷ []) passes .0)
+              k))
+
+          pub color-refused : backgroundCause (new .style .color) font .applies ≡ true → refused 6 0 ≡ checkedStep font old new p
+          color-refused e = after-place (comes-on (backgroundCause (new .style .color) font) [] e)
+
+          pub all-passed : backgroundCause (new .style .color) font .applies ≡ false
+              → success record { head = head; «old_origin» = originBy (head .ascent) (head .descent) old (new .position) (new .style .«vertical_pos») (new .lineHeight); «new_origin» = o }
+              ≡ checkedStep font old new p
+          all-passed e =
+              let read : head ≡ header font = opened font head opens .read in
+              let there : originOf font (new .text) new ≡ o = origin-is font opens (new .text) (new .position) (new .style .«vertical_pos») (new .lineHeight) passes in
+              let here : originBy (head .ascent) (head .descent) old (new .position) (new .style .«vertical_pos») (new .lineHeight) ≡ originOf font old new =
+              ap (λ (h : FontReader). originBy (h .ascent) (h .descent) old (new .position) (new .style .«vertical_pos») (new .lineHeight)) read in
+              rw (here, ← there) (ap (λ (h : FontReader). success record { head = h; «old_origin» = originOf font old new; «new_origin» = originOf font (new .text) new }) read)
+              ∙ after-place (comes-off (backgroundCause (new .style .color) font) e comes-none)
+
+-- ---- a step that passes them
+
+pub record Ready (font old : List ℕ) (new : Request) (p : Framebuffer) (s : Step) : Type 0 where
+  pub unrefused : anyApplies (redrawCauses font old new p) ≡ false
+  pub opens : Opened font (s .head)
+  pub read : s .head ≡ header font
+  pub old-at : s .«old_origin» ≡ originOf font old new
+  pub new-at : s .«new_origin» ≡ originOf font (new .text) new
+  pub old-checked : Checked old (s .«old_origin») (new .lineHeight)
+  pub new-checked : Checked (new .text) (s .«new_origin») (new .lineHeight)
+  pub fits : BufferFits (length (p .before)) (p .width) (p .height)
+
+pub ready : (font old : List ℕ) (new : Request) (p : Framebuffer) (s : Step) → checkedStep font old new p ≡ success s
+    → ((i : ℕ) → getD font i 0 < 256) → Ready font old new p s
+unfolding header
+ready font old new p s e small =
+    let h = succeeded (success (stepOf font old new)) s (redrawCauses font old new p) e in
+    let same : stepOf font old new ≡ s = cc in
+    let o = each-off (redrawCauses font old new p) (h .0) in
+    let read : s .head ≡ header font = sym (ap (λ (s : Step). s .head) same) in
+    let up = signed8-fits (getD font 13 0) (small 13) in
+    let down = signed8-fits (getD font 14 0) (small 14) in
+    let place = position-limits (new .position) (new .lineHeight) (o .1 .1 .1 .1 .1 .0) in
+    record {
+      unrefused = h .0;
+      opens = subst (λ (h : FontReader). Opened font h) (sym read) (opened-limits font (o .0) (o .1 .0));
+      read = read;
+      old-at = sym (ap (λ (s : Step). s .«old_origin») same);
+      new-at = sym (ap (λ (s : Step). s .«new_origin») same);
+      old-checked = subst (λ (s : Step). Checked old (s .«old_origin») (new .lineHeight)) same (origin-checked _ _ old (new .position) (new .style .«vertical_pos») (new .lineHeight) up down (text-limits old (o .1 .1 .1 .0)) place);
+      new-checked = subst (λ (s : Step). Checked (new .text) (s .«new_origin») (new .lineHeight)) same (origin-checked _ _ (new .text) (new .position) (new .style .«vertical_pos») (new .lineHeight) up down (text-limits (new .text) (o .1 .1 .1 .1 .0)) place);
+      fits = size-fits (p .width) (p .height) _ (o .1 .1 .0);
+    }

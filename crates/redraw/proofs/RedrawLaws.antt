@@ -1,0 +1,290 @@
+-- Filling the box of a reading that was drawn on the background colour brings back what the framebuffer held before: inside the
+-- box it was that colour, and outside nothing had changed, by demand 3. And what the step answers, by its causes. Assumes nothing.
+use mathlib.Core.Path.{_≡_, refl, sym, ap, subst, _∙_}
+use mathlib.Core.Bool.{Bool, true, false, _||_, not}
+use mathlib.Core.List.{List, [], _∷_, _++_, append-nil}
+use Prim.Native.Nat.{ℕ, _+_, _*_, _≤_, _<_}
+use native.Mathlib.Nat.{mul-le-mul-right, mul-comm}
+use native.Mathlib.Decide.{decLt}
+use native.Mathlib.Omega.{arith}
+use borrow.Author.Tests.{eqb-false, lt-ltb, le-ltb}
+use lib.Dec.{eqb, ltb}
+use lib.IntN.{pos}
+use lib.ListN.{length}
+use Rattle.integers.specs.Integers.{pick}
+use Rattle.types.specs.declared.geometry.BoundingBox.{BoundingBox}
+use Rattle.types.specs.declared.geometry.BoundingBox.the-variants.{None, Some}
+use Rattle.types.specs.declared.geometry.Point.{Point}
+use Rattle.types.specs.declared.geometry.RenderedDimensions.{RenderedDimensions}
+use Rattle.definitions.specs.Refusals.{Outcome, success, refused, Cause, unlessRefused, anyApplies}
+use Rattle.definitions.specs.Header.{fontCauses}
+use Rattle.definitions.specs.Geometry.{InsideBox}
+use Rattle.definitions.specs.Picture.{keep, put, Picture, covers, textPicture}
+use Rattle.definitions.specs.Framebuffer.{over, shown, sideOff}
+use Rattle.definitions.specs.Text.{joinAll, point, dimensions}
+use Rattle.definitions.specs.TextSteps.{measureFrom, drawFrom, start}
+use Rattle.definitions.specs.Limits.{textCause, positionCause, backgroundCause}
+use Rattle.definitions.specs.Calls.{characters, origin, drawCauses, drawnAnswer, drawnText, pixelsOf, draw, drawBuffer}
+use Rattle.definitions.specs.Agreement.{Request, Framebuffer, framebufferOf, limits, WithinLimits, drawn, after, measured, pixel, KeptOutside}
+use Rattle.definitions.proofs.FramebufferLaws.{length-shown, shown-at, same-pixels}
+use Rattle.definitions.proofs.PictureLaws.{covers-inside, inside-covers}
+use Rattle.definitions.proofs.OpenedLaws.{or-false}
+use Rattle.definitions.proofs.RefusalLaws.{none-applies, succeeded, NoneApplies, each-off, all-off}
+use Rattle.definitions.proofs.ComesLaws.{comes-stopped}
+use Rattle.definitions.proofs.TextLaws.{measure-from, draw-from}
+use Rattle.definitions.proofs.LetterRefusals.{Late, late, late-drawn}
+use Rattle.definitions.proofs.Agreement.{agreement, size}
+use Rattle.redraw.specs.Redraw.{wholeOr, readingOn, fillPicture, AllOf, clearedBy, redrawCauses, withText, cleared, redrawn, redrawnBuffer, taken}
+use Rattle.redraw.specs.Checks.{originOf, stepOf, checkedStep}
+
+-- the framebuffer keeps its length
+length-by : (t : Bool) (width : ℕ) (picture : Picture) (before : List ℕ) → length (pick t before (shown width picture before)) ≡ length before
+length-by true width picture before = refl
+length-by false width picture before = length-shown width picture before
+
+pub length-after : (font : List ℕ) (r : Request) (p : Framebuffer) → length (after font r p) ≡ length (p .before)
+unfolding drawBuffer
+length-after font r p =
+    length-by
+    (anyApplies (drawCauses font (r .text) (r .position) (r .style) (r .lineHeight) (p .width) (p .height) (p .before)))
+    (p .width)
+    (textPicture (r .style .color) (pixelsOf font) (drawnText font (r .text) (r .position) (r .style .«vertical_pos») (r .lineHeight) false .glyphs))
+    (p .before)
+
+-- a pixel of the buffer lies in a row of the framebuffer
+pub row-below : (width height column row : ℕ) → row * width + column < width * height → row < height
+row-below width height column row h = by (decLt row height)
+  where
+    by : Dec (row < height) → row < height
+    by (yes k) = k
+    by (no k) =
+        let past : height ≤ row = omega arith in
+        absurd (omega (arith, mul-le-mul-right width past, mul-comm width height))
+
+module _ (font : List ℕ) (r : Request) (p : Framebuffer) (d : RenderedDimensions) (within : WithinLimits font r p)
+    (succeeded : drawn font r p ≡ success d) where
+  kept : KeptOutside font r p d
+  kept =
+      agreement font [] r p p d record {
+        first-within = within;
+        second-within = subst (λ (f : List ℕ). WithinLimits f r p) (sym (append-nil font)) within;
+        as-wide = omega arith;
+        as-high = omega arith;
+        first-succeeds = succeeded;
+      } .first-kept
+
+  module _ (color : ℕ) (ground : AllOf color p (d .«bounding_box»)) where
+    -- inside the box the fill puts the colour, which was there; outside it keeps what the drawing kept
+    restored : (box : BoundingBox) → box ≡ d .«bounding_box» → (column row : ℕ) → column < p .width → row < p .height
+        → over (fillPicture color box (pos column) (pos row)) (pixel p (after font r p) column row) ≡ pixel p (p .before) column row
+    restored None e column row c k = kept column row c k (λ i. subst (InsideBox (pos column) (pos row)) (sym e) i)
+    restored (Some b) e column row c k = by (covers b (pos column) (pos row)) refl
+      where
+        by : (t : Bool) → covers b (pos column) (pos row) ≡ t
+            → over (pick t (put color) keep) (pixel p (after font r p) column row) ≡ pixel p (p .before) column row
+        by true h = sym (ground column row c k (subst (InsideBox (pos column) (pos row)) e (covers-inside (pos column) (pos row) b h)))
+        by false h = kept column row c k (λ i. outside h (subst (InsideBox (pos column) (pos row)) (sym e) i))
+          where
+            outside : covers b (pos column) (pos row) ≡ false → InsideBox (pos column) (pos row) (Some b) → ⊥
+            outside h i = let z : true ≡ false = sym (inside-covers (pos column) (pos row) b i) ∙ h in let q : _≡_ {A = ℕ} 0 1 = cc in omega arith
+
+    pub fill-restores : 0 < p .width → shown (p .width) (fillPicture color (d .«bounding_box»)) (after font r p) ≡ p .before
+    fill-restores some =
+        same-pixels some (shown (p .width) (fillPicture color (d .«bounding_box»)) (after font r p)) (p .before)
+        (length-shown (p .width) (fillPicture color (d .«bounding_box»)) (after font r p) ∙ length-after font r p)
+        (λ column row c h. at column row c (omega (arith, h, length-shown (p .width) (fillPicture color (d .«bounding_box»)) (after font r p), length-after font r p)))
+      where
+        at : (column row : ℕ) → column < p .width → row * p .width + column < length (p .before)
+            → pixel p (shown (p .width) (fillPicture color (d .«bounding_box»)) (after font r p)) column row ≡ pixel p (p .before) column row
+        at column row c h =
+            let k = row-below (p .width) (p .height) column row (omega (arith, size font r p within)) in
+            shown-at (p .width) (fillPicture color (d .«bounding_box»)) (after font r p) column row c (omega (arith, length-after font r p))
+            ∙ restored (d .«bounding_box») refl column row c k
+
+-- ---- a drawing that succeeds
+
+pub within-limits : (font : List ℕ) (r : Request) (p : Framebuffer) (d : RenderedDimensions) → drawn font r p ≡ success d → WithinLimits font r p
+unfolding draw
+within-limits font r p d e =
+    let h =
+    succeeded (dimensions (drawnText font (r .text) (r .position) (r .style .«vertical_pos») (r .lineHeight) false)) d
+    (drawCauses font (r .text) (r .position) (r .style) (r .lineHeight) (p .width) (p .height) (p .before)) e
+    in
+    let o = each-off (drawCauses font (r .text) (r .position) (r .style) (r .lineHeight) (p .width) (p .height) (p .before)) (h .0) in
+    all-off (limits font r p) (o .0, (o .1 .0, (o .1 .1 .0, (o .1 .1 .1 .0, (o .1 .1 .1 .1 .0, tt)))))
+
+-- A drawing that succeeds is measured alike.
+pub drawn-measured : (font : List ℕ) (r : Request) (p : Framebuffer) (d : RenderedDimensions) → drawn font r p ≡ success d → measured font r ≡ success d
+drawn-measured font r p d e =
+    let within = within-limits font r p d e in
+    agreement font [] r p p d record {
+      first-within = within;
+      second-within = subst (λ (f : List ℕ). WithinLimits f r p) (sym (append-nil font)) within;
+      as-wide = omega arith;
+      as-high = omega arith;
+      first-succeeds = e;
+    } .first-measured
+
+-- What drawing answers depends on the framebuffer's length, and not on what it holds.
+pub same-answer : (font : List ℕ) (r : Request) (width height : ℕ) (a b : List ℕ) → length a ≡ length b
+    → drawn font r (framebufferOf width height a) ≡ drawn font r (framebufferOf width height b)
+unfolding draw
+same-answer font r width height a b l =
+    ap
+    (λ (n : ℕ).
+    unlessRefused
+    (fontCauses font
+    ++ record { number = 3; applies = sideOff width || sideOff height || not (eqb n (width * height)) }
+    ∷ textCause (r .text)
+    ∷ positionCause (r .position) (r .lineHeight)
+    ∷ backgroundCause (r .style .color) font
+    ∷ [])
+    (dimensions (drawnText font (r .text) (r .position) (r .style .«vertical_pos») (r .lineHeight) false)))
+    l
+
+pub some-width : (font : List ℕ) (r : Request) (p : Framebuffer) → WithinLimits font r p → 0 < p .width
+some-width font r p within =
+    let o = each-off (limits font r p) within in
+    let a = or-false (sideOff (p .width) || sideOff (p .height)) (not (eqb (length (p .before)) (p .width * p .height))) (o .1 .1 .0) .0 in
+    let b = or-false (sideOff (p .width)) (sideOff (p .height)) a .0 in
+    let none = eqb-false (p .width) 0 (or-false (eqb (p .width) 0) (ltb 256 (p .width)) b .0) in
+    omega arith
+
+-- ---- the step
+
+module _ {A : Type 0} (rest : Outcome A) where
+  -- causes that are tested twice change nothing
+  twice : (cs : List Cause) → unlessRefused cs (unlessRefused cs rest) ≡ unlessRefused cs rest
+  twice [] = refl
+  twice (c ∷ cs) = by (c .applies) refl (twice cs)
+    where
+      by : (t : Bool) → c .applies ≡ t → unlessRefused cs (unlessRefused cs rest) ≡ unlessRefused cs rest
+          → pick (c .applies) (refused (c .number) 0) (unlessRefused cs (pick (c .applies) (refused (c .number) 0) (unlessRefused cs rest)))
+          ≡ pick (c .applies) (refused (c .number) 0) (unlessRefused cs rest)
+      by true e later = rw e
+      by false e later = rw e later
+
+pub length-cleared : (width color : ℕ) (o : Outcome RenderedDimensions) (bytes : List ℕ) → length (clearedBy width color o bytes) ≡ length bytes
+length-cleared width color (success d) bytes = length-shown width (fillPicture color (d .«bounding_box»)) bytes
+length-cleared width color (refused n c) bytes = refl
+
+-- whichever of causes 1 to 6 applies, the step is not taken
+abbrev pub Early : List Cause → Type 0
+Early [] = Unit {0}
+Early (c ∷ cs) = (c .number ≤ 6) × Early cs
+
+pub refused-early : (rest : Outcome RenderedDimensions) (cs : List Cause) → Early cs → anyApplies cs ≡ true → taken (unlessRefused cs rest) ≡ false
+refused-early rest [] h e = let z : _≡_ {A = ℕ} 0 1 = cc in absurd (omega arith)
+refused-early rest (c ∷ cs) h e = by (c .applies) refl (refused-early rest cs (h .1))
+  where
+    by : (t : Bool) → c .applies ≡ t → (anyApplies cs ≡ true → taken (unlessRefused cs rest) ≡ false)
+        → taken (pick (c .applies) (refused (c .number) 0) (unlessRefused cs rest)) ≡ false
+    by true k later = rw k (le-ltb 6 (c .number) (h .0))
+    by false k later = rw k (later (rw k at e))
+
+late-taken : (o : Outcome RenderedDimensions) → Late o → taken o ≡ true
+late-taken (success d) h = refl
+late-taken (refused n c) (late h) = lt-ltb 6 n h
+
+module _ (font : List ℕ) (r : Request) (p : Framebuffer) where
+  -- the causes of drawing
+  abbrev pub causesOf : List Cause
+  causesOf = drawCauses font (r .text) (r .position) (r .style) (r .lineHeight) (p .width) (p .height) (p .before)
+
+  -- a drawing by whether one of its causes applies
+  pub drawn-early : anyApplies causesOf ≡ true → taken (drawn font r p) ≡ false
+  unfolding draw
+  drawn-early e = refused-early _ causesOf (omega arith, (omega arith, (omega arith, (omega arith, (omega arith, (omega arith, tt)))))) e
+
+  pub drawn-late : anyApplies causesOf ≡ false → taken (drawn font r p) ≡ true
+  unfolding draw
+  drawn-late e =
+      let l = drawnText font (r .text) (r .position) (r .style .«vertical_pos») (r .lineHeight) false in
+      ap taken (none-applies (dimensions l) causesOf e)
+      ∙ late-taken (dimensions l) (late-drawn font false (r .lineHeight) (origin font (r .text) (r .position) (r .style .«vertical_pos») (r .lineHeight)) (point (pos 0) (pos 0)) (joinAll (l .glyphs)) (characters (r .text)))
+
+  module _ (old : List ℕ) (fine : textCause old .applies ≡ false) where
+    -- The old text being one that can be drawn, the step is refused as the drawing is ..
+    pub same-causes : anyApplies (redrawCauses font old r p) ≡ anyApplies causesOf
+    same-causes = rw fine
+
+    -- .. and answers as the drawing does.
+    pub redrawn-is : redrawn font old r p ≡ drawn font r p
+    unfolding redrawn draw
+    redrawn-is =
+        let l = dimensions (drawnText font (r .text) (r .position) (r .style .«vertical_pos») (r .lineHeight) false) in
+        rw fine (twice l causesOf)
+
+  -- a drawing to which no cause applies, letter by letter
+  module _ (unrefused : anyApplies causesOf ≡ false) where
+    abbrev at : Point
+    at = origin font (r .text) (r .position) (r .style .«vertical_pos») (r .lineHeight)
+
+    pub answer-by-letters : measureFrom (drawnAnswer font false) (r .lineHeight) at start (characters (r .text)) ≡ drawn font r p
+    unfolding draw
+    answer-by-letters =
+        measure-from (drawnAnswer font false) (r .lineHeight) at (characters (r .text)) start
+        ∙ sym (none-applies (dimensions (drawnText font (r .text) (r .position) (r .style .«vertical_pos») (r .lineHeight) false)) causesOf unrefused)
+
+    pub bytes-by-letters : drawFrom (p .width) (r .style .color) (pixelsOf font) (drawnAnswer font false) (r .lineHeight) at start (p .before) (characters (r .text)) ≡ after font r p
+    unfolding drawBuffer
+    bytes-by-letters =
+        draw-from (p .width) (r .style .color) (pixelsOf font) (drawnAnswer font false) (r .lineHeight) at (characters (r .text)) start (p .before)
+        ∙ rw unrefused
+
+-- ---- the step, as the code goes
+
+module _ (font old : List ℕ) (new : Request) (background : ℕ) (p : Framebuffer) where
+  -- refused by one of its causes
+  module _ {n c : ℕ} (e : checkedStep font old new p ≡ refused n c) where
+    pub stops : refused n c ≡ redrawn font old new p
+    unfolding redrawn
+    stops = comes-stopped {rest = drawn font new p} {before = []} {after = []} (stepOf font old new) (redrawCauses font old new p) [] e .answered
+
+    -- whatever else the framebuffer would hold
+    pub held : (after : List ℕ) → p .before ≡ pick (anyApplies (redrawCauses font old new p)) (p .before) after
+    held after = comes-stopped {rest = drawn font new p} {before = p .before} {after = after} (stepOf font old new) (redrawCauses font old new p) [] e .held
+
+    pub stays : p .before ≡ redrawnBuffer font old new background p
+    unfolding redrawnBuffer
+    stays = held (readingOn font new (cleared font (withText old new) background p))
+
+  -- .. or by none of them. What is filled is what `toFill` makes of the old reading: the reading itself, unless a fault is put in.
+  module _ (toFill : Outcome RenderedDimensions → Outcome RenderedDimensions) (unrefused : anyApplies (redrawCauses font old new p) ≡ false) where
+    off : NoneApplies (redrawCauses font old new p)
+    off = each-off (redrawCauses font old new p) unrefused
+
+    old-off : anyApplies (causesOf font (withText old new) p) ≡ false
+    old-off = all-off (causesOf font (withText old new) p) (off .0, (off .1 .0, (off .1 .1 .0, (off .1 .1 .1 .0, off .1 .1 .1 .1 .1))))
+
+    new-off : anyApplies (causesOf font new p) ≡ false
+    new-off = all-off (causesOf font new p) (off .0, (off .1 .0, (off .1 .1 .0, off .1 .1 .1 .1)))
+
+    abbrev bare : Framebuffer
+    bare = framebufferOf (p .width) (p .height) (clearedBy (p .width) background (toFill (drawn font (withText old new) p)) (p .before))
+
+    bare-off : anyApplies (causesOf font new bare) ≡ false
+    bare-off =
+        let size = ap (λ (n : ℕ). sideOff (p .width) || sideOff (p .height) || not (eqb n (p .width * p .height))) (length-cleared (p .width) background (toFill (drawn font (withText old new) p)) (p .before)) ∙ off .1 .1 .0 in
+        all-off (causesOf font new bare) (off .0, (off .1 .0, (size, off .1 .1 .1 .1)))
+
+    abbrev letters : List ℕ → Outcome RenderedDimensions
+    letters text = measureFrom (drawnAnswer font false) (new .lineHeight) (originOf font text new) start (characters text)
+
+    abbrev drawing : List ℕ → List ℕ
+    drawing bytes = drawFrom (p .width) (new .style .color) (pixelsOf font) (drawnAnswer font false) (new .lineHeight) (originOf font (new .text) new) start bytes (characters (new .text))
+
+    pub answers : {answer : Outcome RenderedDimensions} → answer ≡ letters (new .text) → answer ≡ redrawn font old new p
+    unfolding redrawn
+    answers e = e ∙ answer-by-letters font new p new-off ∙ sym (none-applies (drawn font new p) (redrawCauses font old new p) unrefused)
+
+    pub leaves : {between exit : List ℕ} → between ≡ clearedBy (p .width) background (toFill (letters old)) (p .before)
+        → exit ≡ wholeOr (letters (new .text)) (drawing between) between
+        → exit ≡ pick (anyApplies (redrawCauses font old new p)) (p .before) (readingOn font new bare)
+    leaves {between} e h =
+        let found : between ≡ bare .before = e ∙ ap (λ (o : Outcome RenderedDimensions). clearedBy (p .width) background (toFill o) (p .before)) (answer-by-letters font (withText old new) p old-off) in
+        h
+        ∙ ap (λ (b : List ℕ). wholeOr (letters (new .text)) (drawing b) b) found
+        ∙ ap (λ (o : Outcome RenderedDimensions). wholeOr o (drawing (bare .before)) (bare .before)) (answer-by-letters font new bare bare-off)
+        ∙ ap (λ (l : List ℕ). wholeOr (drawn font new bare) l (bare .before)) (bytes-by-letters font new bare bare-off)
+        ∙ rw unrefused

@@ -1,0 +1,41 @@
+-- The box of what drawing the text would answer is filled.
+use mathlib.Core.Path.{_≡_, sym, ap, _∙_}
+use Rattle.definitions.specs.Calls.{dimensionsOutcome}
+use borrow.Author.Needs.{needs}
+use Rattle.redraw.proofs.reading.clear_reading.Statement.{statement}
+use Rattle.redraw.proofs.reading.clear_reading.Tie as tie
+
+get-drawn-dimensions-requires : tie.Need-get-drawn-dimensions-requires
+get-drawn-dimensions-requires c κs = search needs
+
+enum-known-drawn : tie.Need-enum-known-drawn
+enum-known-drawn c = search needs
+
+enum-told : tie.Need-enum-told
+enum-told c = search needs
+
+returns : tie.Need-returns
+returns c = let e = sym (c .before .before .get-drawn-dimensions .ensures) ∙ ap dimensionsOutcome (c .enum-told .given .1) in rw e
+
+fill-box-requires : tie.Need-fill-box-requires
+fill-box-requires c κs = search needs
+
+same-length : tie.Need-same-length
+same-length c = search needs
+
+returns-2 : tie.Need-returns-2
+returns-2 c =
+    let e = sym (c .before .before .before .before .before .before .before .get-drawn-dimensions .ensures) ∙ ap dimensionsOutcome (c .before .before .before .before .before .drawn .given .1) in
+    rw e (c .before .before .fill-box .ensures)
+
+pub clear-reading-spec : {M : Type 1} → statement M
+clear-reading-spec =
+    tie.close
+    (tie.spec
+    get-drawn-dimensions-requires
+    enum-known-drawn
+    enum-told
+    returns
+    fill-box-requires
+    same-length
+    returns-2)

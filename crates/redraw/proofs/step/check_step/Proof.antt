@@ -1,0 +1,174 @@
+-- The causes are tested in the definition's order. ChecksLaws says what each test leaves of the step.
+use mathlib.Core.Path.{_≡_, sym, ap, _∙_}
+use mathlib.Core.Bool.{false}
+use mir.Syntax.{w8}
+use mir.Val.{SFits}
+use mir.Facts.{toZ-ofZ}
+use borrow.Author.Needs.{needs}
+use Rattle.types.specs.declared.font_reader.FontReader.{FontReader}
+use Rattle.types.specs.declared.geometry.Point.{Point}
+use Rattle.definitions.specs.Refusals.{success}
+use Rattle.definitions.specs.Framebuffer.{framebufferCause}
+use Rattle.definitions.specs.Limits.{textCause, backgroundCause}
+use Rattle.definitions.specs.Calls.{openFont, fontReaderOutcome}
+use Rattle.definitions.specs.Agreement.{Request, request, Framebuffer, framebufferOf}
+use Rattle.definitions.proofs.OpenedLaws.{opened}
+use Rattle.layout.specs.Sizes.{colorOff}
+use Rattle.layout.specs.Origins.{checkedOrigin, originOutcome}
+use Rattle.layout.proofs.OriginLaws.{passed}
+use Rattle.layout.proofs.LimitLaws.{color-is}
+use Rattle.redraw.proofs.ChecksLaws.{font-refused, size-refused, old-refused, new-refused, color-refused, all-passed}
+use Rattle.redraw.proofs.step.check_step.Statement.{statement}
+use Rattle.redraw.proofs.step.check_step.Tie as tie
+
+-- what the call was given
+module _ (s : tie.Start) where
+  abbrev new : Request
+  new = request (s .args .new-text .now) (s .args .position) (s .args .style) (s .args .line-height)
+
+  abbrev screen : Framebuffer
+  screen = framebufferOf (s .args .width) (s .args .height) (s .args .buffer .now)
+
+-- opening succeeded
+module _ (c : tie.After-known-told2) where
+  abbrev entry : tie.Start
+  entry = c .before .before .before .before .before .before .before .before
+
+  abbrev head : FontReader
+  head = c .before .head .given .0 .0
+
+  opens : openFont (entry .args .font .now) ≡ success head
+  opens = sym (c .before .before .before .new-from-raw-data .ensures) ∙ ap fontReaderOutcome (c .before .head .given .1)
+
+  ascent-fits : SFits w8 (head .ascent)
+  ascent-fits = search needs
+
+  descent-fits : SFits w8 (head .descent)
+  descent-fits = search needs
+
+-- .. the framebuffer has its size, and the old text is one
+module _ (c : tie.Else2) where
+  abbrev font-known : tie.After-known-told2
+  font-known = c .before .before .before .before
+
+  size-in : framebufferCause (entry font-known .args .width) (entry font-known .args .height) (entry font-known .args .buffer .now) .applies ≡ false
+  size-in = sym (c .before .before .before .has-bad-size .ensures) ∙ c .before .before .if1 .left
+
+  fine : textCause (entry font-known .args .old-text .now) .applies ≡ false
+  fine = sym (c .before .has-bad-text .ensures) ∙ c .if2 .left
+
+-- .. and the new one and its place passed
+module _ (c : tie.After-known-told4) where
+  abbrev old-known : tie.Else2
+  old-known = c .before .before .before .before .before .before
+
+  passes : let k = font-known old-known in let a = entry k .args in checkedOrigin (head k .ascent) (head k .descent) (a .new-text .now) (a .position) (a .style .«vertical_pos») (a .line-height) ≡ success (c .before .new-origin .given .0 .0)
+  passes =
+      let k = font-known old-known in
+      sym (simp (toZ-ofZ, ascent-fits k, descent-fits k) at (c .before .before .before .checked-origin .ensures)) ∙ ap originOutcome (c .before .new-origin .given .1)
+
+  -- the answer to the colour is the cause's
+  color-tested : let k = font-known old-known in let a = entry k .args in backgroundCause (a .style .color) (a .font .now) .applies ≡ colorOff (a .style .color) (head k .«supports_background_color»)
+  color-tested = let k = font-known old-known in sym (color-is (opened _ (head k) (opens k)) (entry k .args .style .color))
+
+new-from-raw-data-requires : tie.Need-new-from-raw-data-requires
+new-from-raw-data-requires c κs = search needs
+
+enum-known-error : tie.Need-enum-known-error
+enum-known-error c = search needs
+
+enum-known-head : tie.Need-enum-known-head
+enum-known-head c = search needs
+
+has-bad-size-requires : tie.Need-has-bad-size-requires
+has-bad-size-requires c κs = search needs
+
+returns : tie.Need-returns
+returns c =
+    let k = c .before .before in
+    let e = entry k in
+    size-refused (e .args .font .now) (e .args .old-text .now) (new e) (screen e) (opens k) (sym (c .before .has-bad-size .ensures) ∙ c .if1 .taken)
+
+has-bad-text-requires : tie.Need-has-bad-text-requires
+has-bad-text-requires c κs = search needs
+
+returns-2 : tie.Need-returns-2
+returns-2 c =
+    let k = c .before .before .before .before in
+    let e = entry k in
+    let size = sym (c .before .before .before .has-bad-size .ensures) ∙ c .before .before .if1 .left in
+    old-refused (e .args .font .now) (e .args .old-text .now) (new e) (screen e) (opens k) size (sym (c .before .has-bad-text .ensures) ∙ c .if2 .taken)
+
+checked-origin-requires : tie.Need-checked-origin-requires
+checked-origin-requires c κs = search needs
+
+enum-known-error-2 : tie.Need-enum-known-error-2
+enum-known-error-2 c = search needs
+
+enum-known-new-origin : tie.Need-enum-known-new-origin
+enum-known-new-origin c = search needs
+
+has-bad-color-requires : tie.Need-has-bad-color-requires
+has-bad-color-requires c κs = search needs
+
+returns-3 : tie.Need-returns-3
+returns-3 c =
+    let p = c .before .before in
+    let o = old-known p in
+    let k = font-known o in
+    let e = entry k in
+    color-refused (e .args .font .now) (e .args .old-text .now) (new e) (screen e) (opens k) (size-in o) (fine o) (passes p)
+    (color-tested p ∙ sym (c .before .has-bad-color .ensures) ∙ c .if3 .taken)
+
+text-origin-requires : tie.Need-text-origin-requires
+text-origin-requires c κs =
+    let p = c .before .before in
+    let o = old-known p in
+    let k = font-known o in
+    let a = entry k .args in
+    (fine o, passed (head k .ascent) (head k .descent) (a .new-text .now) (a .position) (a .style .«vertical_pos») (a .line-height) _ (passes p) .place-off)
+
+returns-4 : tie.Need-returns-4
+returns-4 c =
+    let e = c .before .before .before .before .before .before .before .before in
+    font-refused (e .args .font .now) (e .args .old-text .now) (new e) (screen e) (sym (c .before .before .before .new-from-raw-data .ensures) ∙ ap fontReaderOutcome (c .before .error .given .1))
+
+returns-5 : tie.Need-returns-5
+returns-5 c =
+    let o = c .before .before .before .before .before .before in
+    let k = font-known o in
+    let e = entry k in
+    new-refused (e .args .font .now) (e .args .old-text .now) (new e) (screen e) (opens k) (size-in o) (fine o)
+    (sym (simp (toZ-ofZ, ascent-fits k, descent-fits k) at (c .before .before .before .checked-origin .ensures)) ∙ ap originOutcome (c .before .error2 .given .1))
+
+returns-6 : tie.Need-returns-6
+returns-6 c =
+    let p = c .before .before .before in
+    let o = old-known p in
+    let k = font-known o in
+    let e = entry k in
+    let at = simp (toZ-ofZ, ascent-fits k, descent-fits k) at (c .text-origin .ensures) in
+    ap (λ (o : Point). success record { head = head k; «old_origin» = o; «new_origin» = p .before .new-origin .given .0 .0 }) at
+    ∙ all-passed (e .args .font .now) (e .args .old-text .now) (new e) (screen e) (opens k) (size-in o) (fine o) (passes p)
+    (color-tested p ∙ sym (c .before .before .has-bad-color .ensures) ∙ c .before .if3 .left)
+
+pub check-step-spec : {M : Type 1} → statement M
+check-step-spec =
+    tie.close
+    (tie.spec
+    new-from-raw-data-requires
+    enum-known-error
+    enum-known-head
+    has-bad-size-requires
+    returns
+    has-bad-text-requires
+    returns-2
+    checked-origin-requires
+    enum-known-error-2
+    enum-known-new-origin
+    has-bad-color-requires
+    returns-3
+    text-origin-requires
+    returns-4
+    returns-5
+    returns-6)

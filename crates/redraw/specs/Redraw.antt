@@ -1,0 +1,87 @@
+-- A reading drawn over the one before, whole or not at all: the one call that the gauge makes.
+use mathlib.Core.Path.{_≡_}
+use mathlib.Core.Bool.{Bool, true}
+use mathlib.Core.List.{List, [], _∷_, _++_}
+use Prim.Native.Nat.{ℕ, _<_}
+use lib.Dec.{ltb}
+use lib.IntN.{pos}
+use Rattle.integers.specs.Integers.{pick}
+use Rattle.types.specs.declared.geometry.BoundingBox.{BoundingBox}
+use Rattle.types.specs.declared.geometry.BoundingBox.the-variants.{None, Some}
+use Rattle.types.specs.declared.geometry.RenderedDimensions.{RenderedDimensions}
+use Rattle.definitions.specs.Refusals.{Outcome, success, refused, Cause, unlessRefused, anyApplies}
+use Rattle.definitions.specs.Header.{fontCauses}
+use Rattle.definitions.specs.Geometry.{InsideBox}
+use Rattle.definitions.specs.Picture.{keep, put, Picture, covers}
+use Rattle.definitions.specs.Framebuffer.{shown, framebufferCause}
+use Rattle.definitions.specs.Limits.{textCause, positionCause, backgroundCause}
+use Rattle.definitions.specs.Agreement.{Request, request, Framebuffer, framebufferOf, drawn, after, pixel}
+
+-- ---- a reading on a ground
+
+-- what a drawing leaves where none may be left half done: the drawing if it succeeded, and the ground if it did not
+abbrev pub wholeOr : Outcome RenderedDimensions → List ℕ → List ℕ → List ℕ
+wholeOr (success d) drawing ground = drawing
+wholeOr (refused n c) drawing ground = ground
+
+-- What a reading shows on a ground: the ground with the text drawn on it if drawing the text succeeds, and the ground as it was if
+-- it does not.
+abbrev pub readingOn : List ℕ → Request → Framebuffer → List ℕ
+readingOn font r ground = wholeOr (drawn font r ground) (after font r ground) (ground .before)
+
+-- ---- filling
+
+-- a box full of one colour
+abbrev pub fillPicture : ℕ → BoundingBox → Picture
+fillPicture color None column row = keep
+fillPicture color (Some r) column row = pick (covers r column row) (put color) keep
+
+-- Every pixel of the framebuffer that lies in the box has that colour.
+abbrev pub AllOf : ℕ → Framebuffer → BoundingBox → Type 0
+AllOf color p box =
+    (column row : ℕ) → column < p .width → row < p .height → InsideBox (pos column) (pos row) box
+    → pixel p (p .before) column row ≡ color
+
+-- The box of a text that draws is filled. A text that does not draw has left nothing, so nothing is filled for it.
+abbrev pub clearedBy : ℕ → ℕ → Outcome RenderedDimensions → List ℕ → List ℕ
+clearedBy width color (success d) bytes = shown width (fillPicture color (d .«bounding_box»)) bytes
+clearedBy width color (refused n c) bytes = bytes
+
+-- ---- the step
+
+-- The causes of the step, in 01's order, for both texts.
+abbrev pub redrawCauses : List ℕ → List ℕ → Request → Framebuffer → List Cause
+redrawCauses font old new p =
+    fontCauses font
+    ++ framebufferCause (p .width) (p .height) (p .before)
+    ∷ textCause old
+    ∷ textCause (new .text)
+    ∷ positionCause (new .position) (new .lineHeight)
+    ∷ backgroundCause (new .style .color) font
+    ∷ []
+
+-- the old reading stands where the new one will
+abbrev pub withText : List ℕ → Request → Request
+withText text r = request text (r .position) (r .style) (r .lineHeight)
+
+-- the framebuffer with the old reading cleared
+abbrev pub cleared : List ℕ → Request → ℕ → Framebuffer → Framebuffer
+cleared font old background p =
+    framebufferOf (p .width) (p .height) (clearedBy (p .width) background (drawn font old p) (p .before))
+
+-- What the step answers: what drawing the new text does, unless a cause applies to either text ..
+unfoldable pub redrawn : List ℕ → List ℕ → Request → Framebuffer → Outcome RenderedDimensions
+redrawn font old new p = unlessRefused (redrawCauses font old new p) (drawn font new p)
+
+-- .. and what the framebuffer then holds: the new reading on the framebuffer with the old one cleared. Refused by a cause, the step
+-- leaves it as it was.
+unfoldable pub redrawnBuffer : List ℕ → List ℕ → Request → ℕ → Framebuffer → List ℕ
+redrawnBuffer font old new background p =
+    pick (anyApplies (redrawCauses font old new p)) (p .before)
+    (readingOn font new (cleared font (withText old new) background p))
+
+-- Whether a step was taken: it succeeded, or a letter of the new text refused it (7 or 8) and the old reading is cleared. A step
+-- that one of the causes 1 to 6 refused has changed nothing, and the old reading still stands.
+abbrev pub taken : Outcome RenderedDimensions → Bool
+taken (success d) = true
+taken (refused n c) = ltb 6 n

@@ -1,0 +1,110 @@
+-- Readings one after the other: each step is handed the text that the steps before it left on the screen.
+use mathlib.Core.Path.{_≡_}
+use mathlib.Core.Bool.{false}
+use mathlib.Core.List.{List, [], _∷_}
+use Prim.Native.Nat.{ℕ}
+use Rattle.integers.specs.Integers.{pick}
+use Rattle.types.specs.declared.geometry.Point.{Point}
+use Rattle.types.specs.declared.geometry.RenderedDimensions.{RenderedDimensions}
+use Rattle.types.specs.declared.style.FontColor.{FontColor}
+use Rattle.types.specs.declared.style.FontColor.the-variants.{Transparent}
+use Rattle.types.specs.declared.style.VerticalPosition.{VerticalPosition}
+use Rattle.definitions.specs.Refusals.{Outcome, success}
+use Rattle.definitions.specs.Limits.{backgroundOff}
+use Rattle.definitions.specs.Agreement.{Request, request, Framebuffer, framebufferOf, drawn}
+use Rattle.redraw.specs.Redraw.{readingOn, AllOf, redrawn, redrawnBuffer, taken}
+
+-- What stays the same from step to step.
+pub record Field : Type 0 where
+  pub font : List ℕ
+  pub position : Point
+  pub anchor : VerticalPosition
+  pub lineHeight : ℕ
+  pub background : ℕ
+  pub width : ℕ
+  pub height : ℕ
+
+abbrev pub fieldOf : List ℕ → Point → VerticalPosition → ℕ → ℕ → ℕ → ℕ → Field
+fieldOf font position anchor lineHeight background width height = record {
+  font = font;
+  position = position;
+  anchor = anchor;
+  lineHeight = lineHeight;
+  background = background;
+  width = width;
+  height = height;
+}
+
+-- What may change.
+pub record Reading : Type 0 where
+  pub text : List ℕ
+  pub color : FontColor
+
+abbrev pub readingOf : List ℕ → FontColor → Reading
+readingOf text color = record { text = text; color = color }
+
+abbrev pub asked : Field → Reading → Request
+asked f r = request (r .text) (f .position) record { color = r .color; «vertical_pos» = f .anchor } (f .lineHeight)
+
+abbrev pub on : Field → List ℕ → Framebuffer
+on f bytes = framebufferOf (f .width) (f .height) bytes
+
+-- The screen, and the reading that the next step is to clear.
+pub record Screen : Type 0 where
+  pub old : Reading
+  pub bytes : List ℕ
+
+-- Before the first step it shows the ground alone: the text without letters has no box.
+abbrev pub bare : List ℕ → Screen
+bare ground = record { old = record { text = []; color = Transparent 0 }; bytes = ground }
+
+-- What a step answers, and the screen after it. The next step is to clear the new reading if this one was taken.
+abbrev pub stepAnswer : Field → Screen → Reading → Outcome RenderedDimensions
+stepAnswer f s new = redrawn (f .font) (s .old .text) (asked f new) (on f (s .bytes))
+
+abbrev pub step : Field → Screen → Reading → Screen
+step f s new = record {
+  old = pick (taken (stepAnswer f s new)) new (s .old);
+  bytes = redrawnBuffer (f .font) (s .old .text) (asked f new) (f .background) (on f (s .bytes));
+}
+
+-- the screen after a list of steps, and what each of them answered
+unfoldable pub steps : Field → Screen → List Reading → Screen
+steps f s [] = s
+steps f s (r ∷ rs) = steps f (step f s r) rs
+
+unfoldable pub answers : Field → Screen → List Reading → List (Outcome RenderedDimensions)
+answers f s [] = []
+answers f s (r ∷ rs) = stepAnswer f s r ∷ answers f (step f s r) rs
+
+-- ---- what the screen is to show
+
+-- what a reading drawn alone on the ground answers
+abbrev pub alone : Field → List ℕ → Reading → Outcome RenderedDimensions
+alone f ground r = drawn (f .font) (asked f r) (on f ground)
+
+-- the last reading that none of the causes 1 to 6 refuses, or `old` where there is none
+unfoldable pub lastTaken : Field → List ℕ → Reading → List Reading → Reading
+lastTaken f ground old [] = old
+lastTaken f ground old (r ∷ rs) = lastTaken f ground (pick (taken (alone f ground r)) r old) rs
+
+-- The screen shows a reading on the ground, whole or not at all.
+abbrev pub showing : Field → List ℕ → Reading → Screen
+showing f ground r = record { old = r; bytes = readingOn (f .font) (asked f r) (on f ground) }
+
+-- Where a reading stands, the ground is background ..
+abbrev pub ClearFor : Field → List ℕ → Reading → Type 0
+ClearFor f ground r = (d : RenderedDimensions) → alone f ground r ≡ success d → AllOf (f .background) (on f ground) (d .«bounding_box»)
+
+-- .. and so it is for each of them.
+abbrev pub ClearForAll : Field → List ℕ → List Reading → Type 0
+ClearForAll f ground [] = Unit {0}
+ClearForAll f ground (r ∷ rs) = ClearFor f ground r × ClearForAll f ground rs
+
+-- One step: on a screen that shows the old text, in a colour that the font allows, leaves what the new reading shows on the
+-- ground. A step that was not taken leaves the screen as it was.
+abbrev pub LeavesReading : Field → List ℕ → Reading → List ℕ → Outcome RenderedDimensions → List ℕ → Type 0
+LeavesReading f old new entry answer exit =
+    (ground : List ℕ) (color : FontColor) → backgroundOff color (f .font) ≡ false → ClearFor f ground (readingOf old color)
+    → entry ≡ readingOn (f .font) (asked f (readingOf old color)) (on f ground)
+    → exit ≡ pick (taken answer) (readingOn (f .font) (asked f new) (on f ground)) entry

@@ -1,0 +1,183 @@
+//! Tests of the driver's own parts: the sequences in the texts, and shrinking.
+
+mod case;
+mod fonts;
+mod generate;
+mod random;
+mod sequences;
+mod shrink;
+
+use case::{Call, Case};
+use generate::Cases;
+use random::Random;
+use sequences::{MALFORMED, WELL_FORMED};
+use shrink::{shrink, TRIES};
+
+fn well_formed(text: &[u8]) -> bool {
+    std::str::from_utf8(text).is_ok()
+}
+
+#[test]
+fn sequences_are_what_they_are_called() {
+    assert!(MALFORMED.iter().all(|s| !well_formed(s)));
+    assert!(WELL_FORMED.iter().all(|s| well_formed(s) && String::from_utf8_lossy(s).chars().count() == 1));
+}
+
+/// Each sequence at the start, between letters and at the end, in cases that no number before 4 refuses.
+#[test]
+fn sequences_come_often() {
+    let mut cases = Cases::new(1);
+    let all: Vec<&[u8]> = [MALFORMED, WELL_FORMED].concat();
+    let mut counts = vec![[0; 4]; all.len()];
+    for _ in 0..100_000 {
+        let case = cases.next();
+        let text = &case.text;
+        if text.len() > 4096 || case.off_limits(Call::Measure).is_some_and(|n| n < 4) {
+            continue;
+        }
+        for (sequence, count) in all.iter().zip(&mut counts) {
+            let stands = |at: usize| {
+                text[at..].starts_with(sequence) && well_formed(&text[..at]) && well_formed(&text[at + sequence.len()..])
+            };
+            if text.is_empty() {
+                continue;
+            } else if text == sequence {
+                count[0] += 1;
+            } else if stands(0) {
+                count[1] += 1;
+            } else if text.ends_with(sequence) && stands(text.len() - sequence.len()) {
+                count[3] += 1;
+            } else if text.len() < 200 && (1..text.len()).any(stands) {
+                count[2] += 1;
+            }
+        }
+    }
+    for (sequence, count) in all.iter().zip(&counts) {
+        println!("{sequence:02X?} alone {}, first {}, between {}, last {}", count[0], count[1], count[2], count[3]);
+    }
+    assert!(counts.iter().all(|c| c[1..].iter().all(|n| *n >= 5)));
+}
+
+#[test]
+fn a_seed_makes_the_same_cases_again() {
+    let (mut a, mut b, mut plain) = (Cases::new(5), Cases::new(5), Cases::plain(5));
+    for _ in 0..2000 {
+        let (case, again, mut without) = (a.next(), b.next(), plain.next());
+        assert!(case == again);
+        // the sequences change the text alone
+        without.text = case.text.clone();
+        assert!(case == without);
+    }
+}
+
+fn some_case(font: Vec<u8>, text: &[u8]) -> Case {
+    Case {
+        font,
+        text: text.to_vec(),
+        x: -7,
+        y: i32::MIN,
+        line_height: u32::MAX,
+        skip: true,
+        anchor: 3,
+        fg: 9,
+        bg: 8,
+        width: 3,
+        height: 5,
+        buffer: vec![6; 15],
+    }
+}
+
+#[test]
+fn shrinks_what_is_empty() {
+    for font in [vec![], vec![7], vec![7; 22], vec![7; 23], vec![7; 24]] {
+        for text in [&b""[..], b"a", b"\n", b"\x80"] {
+            let case = some_case(font.clone(), text);
+            assert!(shrink(case.clone(), |_| false) == case);
+            let least = shrink(case, |_| true);
+            assert_eq!((least.text.len(), least.font.iter().max()), (0, least.font.iter().min()));
+            assert_eq!(least.font.len(), if font.len() < 23 { 0 } else { 23 });
+            assert_eq!((least.x, least.y, least.line_height, least.skip, least.anchor), (0, 0, 0, false, 0));
+            assert_eq!((least.width, least.height, least.buffer), (1, 1, vec![0]));
+        }
+    }
+}
+
+#[test]
+fn shrinks_a_text_of_one_byte() {
+    for text in [&b"a"[..], b"\x80"] {
+        assert_eq!(shrink(some_case(vec![], text), |c| c.text == text).text, text);
+    }
+}
+
+#[test]
+fn shrinks_malformed_texts_and_long_ones() {
+    for sequence in [MALFORMED, WELL_FORMED].concat() {
+        let text = [b"4-\n", "\u{3042}".as_bytes(), sequence, b"ab"].concat();
+        let least = shrink(some_case(vec![], &text), |c| c.text.windows(sequence.len()).any(|w| w == sequence));
+        assert_eq!(least.text, sequence);
+    }
+    let long = "a\u{20AC}".repeat(1024);
+    let least = shrink(some_case(vec![], long.as_bytes()), |c| c.text.iter().filter(|b| **b == 0xE2).count() > 2);
+    assert_eq!(least.text, "\u{20AC}".repeat(3).as_bytes());
+}
+
+#[test]
+fn shrinks_sides_off_limits() {
+    for (width, height) in [(usize::MAX, usize::MAX), (1 << 32, 1 << 32), (257, 1), (0, 4)] {
+        let case = Case { width, height, ..some_case(vec![], b"") };
+        let least = shrink(case, |c| c.width > 256 || c.width == 0);
+        assert!(least.width == width && least.buffer.len() <= 257);
+    }
+}
+
+fn mebibyte(more: usize) -> Vec<u8> {
+    let mut r = Random::new(3);
+    (0..(1 << 20) + more).map(|_| r.byte() | 16).collect()
+}
+
+/// Shrinks, and looks that no more candidates are tried than may be.
+fn counted(case: Case, shows: impl Fn(&Case) -> bool) -> Case {
+    let mut tries = 0;
+    let least = shrink(case, |c| {
+        tries += 1;
+        shows(c)
+    });
+    assert!(tries <= TRIES);
+    least
+}
+
+#[test]
+fn shrinks_a_font_of_a_mebibyte() {
+    let mark = [1, 2, 3];
+    for at in [23, 777_777, (1 << 20) - 3] {
+        let mut font = mebibyte(0);
+        font[at..at + 3].copy_from_slice(&mark);
+        let least = counted(some_case(font, b"abc"), |c| c.font.windows(3).any(|w| w == mark));
+        assert_eq!((&least.font[..23], &least.font[23..], least.text.len()), (&[0; 23][..], &mark[..], 0));
+    }
+}
+
+/// Bytes far apart, whose chunks cannot go together.
+#[test]
+fn shrinks_a_font_with_far_marks() {
+    let mut font = mebibyte(0);
+    for at in [23, 500_000, 1_000_000] {
+        font[at] = 5;
+    }
+    let least = counted(some_case(font, b""), |c| c.font[23..].iter().filter(|b| **b == 5).count() == 3);
+    assert_eq!(least.font[23..], [5; 3]);
+}
+
+#[test]
+fn shrinks_a_font_whose_length_matters() {
+    let least = counted(some_case(mebibyte(1), b"abc"), |c| c.font.len() > 1 << 20);
+    assert!(least.font == vec![0; (1 << 20) + 1] && least.text.is_empty());
+}
+
+/// Nothing can go: the tries come to an end.
+#[test]
+fn leaves_a_font_that_cannot_shrink() {
+    let font = mebibyte(0);
+    let least = counted(some_case(font.clone(), b""), |c| c.font == font);
+    assert!(least.font == font && least.line_height == 0);
+}
