@@ -1,6 +1,7 @@
 // Document 01's third demand, over the public calls themselves: two drawings of one text, and its measuring, agree.
-ghost use Rattle.definitions.specs.Agreement.{request, framebufferOf};
-ghost use Rattle.agreement.specs.Demand.{ThirdDemand};
+ghost use mathlib.Core.Path.{_≡_};
+ghost use Rattle.definitions.specs.Agreement.{request, framebufferOf, results, ThirdDemand};
+ghost use Rattle.agreement.specs.Calls.{asResults};
 use measuring::rendered_dimensions::get_rendered_dimensions;
 use renderer::render::render;
 use types::geometry::Point;
@@ -16,6 +17,7 @@ pub struct Answers {
 }
 
 // Draws one text on two framebuffers, on each with a font of its own, and measures it with both fonts. Nothing is skipped.
+// Whatever the input, the four answers and the two framebuffers are those of the calls, and so the demand is about the calls.
 pub fn draw_twice_and_measure(
     first_font: &[u8],
     second_font: &[u8],
@@ -30,7 +32,8 @@ pub fn draw_twice_and_measure(
     second_height: usize,
     second_buffer: &mut [u8],
 ) -> Answers
-    ensures { λ r. ⌜ ThirdDemand (now («first_font» .entry)) (now («second_font» .entry)) (request (now (text .entry)) position style «line_height») (framebufferOf «first_width» «first_height» (now («first_buffer» .entry))) (framebufferOf «second_width» «second_height» (now («second_buffer» .entry))) r (now («first_buffer» .exit)) (now («second_buffer» .exit)) ⌝ }
+    ensures called { λ r. ⌜ asResults r (now («first_buffer» .exit)) (now («second_buffer» .exit)) ≡ results (now («first_font» .entry)) (now («second_font» .entry)) (request (now (text .entry)) position style «line_height») (framebufferOf «first_width» «first_height» (now («first_buffer» .entry))) (framebufferOf «second_width» «second_height» (now («second_buffer» .entry))) ⌝ }
+    ensures agree { λ r. ⌜ ThirdDemand (now («first_font» .entry)) (now («second_font» .entry)) (request (now (text .entry)) position style «line_height») (framebufferOf «first_width» «first_height» (now («first_buffer» .entry))) (framebufferOf «second_width» «second_height» (now («second_buffer» .entry))) (asResults r (now («first_buffer» .exit)) (now («second_buffer» .exit))) ⌝ }
 {
     let ignore_unknown_chars = false;
     let first = render(

@@ -3,7 +3,7 @@
 -- Assumes nothing.
 use mathlib.Core.Path.{_≡_, refl, sym, ap, subst, _∙_}
 use mathlib.Core.Bool.{false, _||_, not}
-use mathlib.Core.List.{List, [], _∷_, _++_}
+use mathlib.Core.List.{List, [], _∷_, _++_, append-nil}
 use Prim.Native.Nat.{ℕ, suc, _+_, _*_, _≤_, _<_}
 use native.Mathlib.Nat.{mul-le-mul-right, mul-comm}
 use native.Mathlib.Omega.{arith}
@@ -29,7 +29,7 @@ use Rattle.definitions.specs.Picture.{Paint, textPicture}
 use Rattle.definitions.specs.Framebuffer.{over, sideOff}
 use Rattle.definitions.specs.Limits.{backgroundOff, backgroundCause}
 use Rattle.definitions.specs.Calls.{characters, origin, measuredAnswer, measureCauses, measure, drawCauses, withRuns, drawable, drawnAnswer, pixelList, pixelsOf, drawnText, draw, drawBuffer}
-use Rattle.definitions.specs.Agreement.{Request, Framebuffer, limits, WithinLimits, drawn, after, measured, pixel, KeptOutside, TwoDrawings, Agree}
+use Rattle.definitions.specs.Agreement.{Request, Framebuffer, limits, WithinLimits, drawn, after, measured, pixel, results, TwoDrawings, KeptOutside, Agree, ThirdDemand}
 use Rattle.definitions.proofs.RefusalLaws.{none-applies, succeeded, last-applies, nor-last, NoneApplies, each-off, all-off}
 use Rattle.definitions.proofs.OpenedLaws.{or-false, opened-limits}
 use Rattle.definitions.proofs.LookupLaws.{byte-longer, header-longer, search-longer}
@@ -135,7 +135,7 @@ module _ (font : List ℕ) (r : Request) (p : Framebuffer) (within : WithinLimit
         rw unrefused
         (shown-at (p .width) (textPicture (r .style .color) (pixelsOf font) (text font r .glyphs)) (p .before) column row c (lies column row c k))
 
-    kept : (d : RenderedDimensions) → joinAll (text font r .glyphs) ≡ d .«bounding_box» → KeptOutside font r p d
+    kept : (d : RenderedDimensions) → joinAll (text font r .glyphs) ≡ d .«bounding_box» → KeptOutside p (after font r p) d
     kept d box column row c k out =
         pixel-after column row c k
         ∙ ap (λ (x : Paint). over x (pixel p (p .before) column row))
@@ -148,7 +148,6 @@ background-longer : (color : FontColor) (font more : List ℕ) → 23 ≤ length
 background-longer (Transparent c) font more h = refl
 background-longer (WithBackground fg bg) font more h = let k : 1 < length font = omega arith in rw (byte-longer font more 1 k)
 
--- RunsLaws.antt is to have this law, and the parameter is then to go.
 -- The longer font gives the same glyph with the same pixels.
 module _ (font more : List ℕ) (least : 23 ≤ length font) where
   drawable-longer : (c : ℕ) (g : GlyphReader) (d : Drawable font c g)
@@ -179,14 +178,15 @@ module _ (font more : List ℕ) (least : 23 ≤ length font) where
       let d = drawable-glyph font c g e in
       ap pixelList (d .runs) ∙ sym (ap pixelList (drawable-longer c g d .1))
 
-module _ (font more : List ℕ) (r : Request) (p q : Framebuffer) (d : RenderedDimensions) (h : TwoDrawings font more r p q d) where
+module _ (font more : List ℕ) (r : Request) (p q : Framebuffer) (d : RenderedDimensions) (h : TwoDrawings font (font ++ more) r p q)
+    (first-succeeds : drawn font r p ≡ success d) where
   enough : 23 ≤ length font
   enough = least font r p (h .first-within)
 
   -- what the first drawing's success tells
   first : (anyApplies (causes font r p) ≡ false) × (dimensions (text font r) ≡ success d)
   unfolding draw
-  first = succeeded (dimensions (text font r)) d (causes font r p) (h .first-succeeds)
+  first = succeeded (dimensions (text font r)) d (causes font r p) first-succeeds
 
   advance-and-box : (text font r .advance ≡ success (d .advance)) × (joinAll (text font r .glyphs) ≡ d .«bounding_box»)
   advance-and-box = dimensions-success (joinAll (text font r .glyphs)) (text font r .advance) d (first .1)
@@ -243,12 +243,11 @@ module _ (font more : List ℕ) (r : Request) (p q : Framebuffer) (d : RenderedD
       ∙ ap dimensions (laid-longer (measuredAnswer (font ++ more) false) (measured-longer font more enough))
       ∙ first .1
 
-  -- The third demand.
-  pub agreement : Agree font more r p q d
-  agreement = record {
+  agree : Agree p q (results font (font ++ more) r p q) d
+  agree = record {
     second-succeeds = second;
-    first-measured = measured-first;
-    second-measured = measured-second;
+    first-measures = measured-first;
+    second-measures = measured-second;
     alike = λ column row c k began.
         pixel-after font r p (h .first-within) (first .0) column row c k
         ∙ (cc (same-picture (pos column) (pos row)))
@@ -256,3 +255,26 @@ module _ (font more : List ℕ) (r : Request) (p q : Framebuffer) (d : RenderedD
     first-kept = kept font r p (h .first-within) (first .0) d (advance-and-box .1);
     second-kept = kept (font ++ more) r q (h .second-within) second-unrefused d (ap (λ (l : Layout). joinAll (l .glyphs)) same-text ∙ advance-and-box .1);
   }
+
+-- The third demand.
+pub agreement : (firstFont secondFont : List ℕ) (r : Request) (p q : Framebuffer)
+    → ThirdDemand firstFont secondFont r p q (results firstFont secondFont r p q)
+agreement firstFont secondFont r p q h d e =
+    let longer = h .longer in
+    subst (λ (font : List ℕ). Agree p q (results firstFont font r p q) d) (sym longer)
+    (agree firstFont (h .more) r p q d (subst (λ (font : List ℕ). TwoDrawings firstFont font r p q) longer h) e)
+
+-- One drawing that succeeds: it is measured alike, and keeps what is outside its box.
+pub alone : (font : List ℕ) (r : Request) (p : Framebuffer) (d : RenderedDimensions) → WithinLimits font r p → drawn font r p ≡ success d
+    → Agree p p (results font font r p p) d
+alone font r p d within e =
+    agreement font font r p p
+    record {
+      first-within = within;
+      second-within = within;
+      more = [];
+      longer = sym (append-nil font);
+      as-wide = omega arith;
+      as-high = omega arith;
+    }
+    d e

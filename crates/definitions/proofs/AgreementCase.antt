@@ -18,13 +18,14 @@ use Rattle.definitions.specs.Bits.{lowBits, bits, number, readAt}
 use Rattle.definitions.specs.Lookup.{chain, search}
 use Rattle.definitions.specs.Glyph.{fields, glyph}
 use Rattle.definitions.specs.Utf8.{table, rowOf, firstCharacter, decodeFrom, newlines}
+use Rattle.definitions.specs.Refusals.{success}
 use Rattle.definitions.specs.Text.{point, joinAll, layout}
 use Rattle.definitions.specs.Runs.{pixels, afterPair, runs, glyphPixels}
 use Rattle.definitions.specs.Picture.{textPicture}
 use Rattle.definitions.specs.Framebuffer.{mapAt}
 use Rattle.definitions.specs.Calls.{draw, drawBuffer}
 use Rattle.definitions.specs.FontT.{T}
-use Rattle.definitions.specs.Agreement.{Request, Framebuffer, after, pixel, TwoDrawings, Agree}
+use Rattle.definitions.specs.Agreement.{Request, Framebuffer, drawn, after, pixel, results, TwoDrawings, Agree}
 use Rattle.definitions.proofs.Agreement.{agreement}
 
 abbrev added : List ℕ
@@ -50,9 +51,13 @@ dimensions = record {
   «bounding_box» = Some record { «top_left» = record { x = pos 5; y = pos 0 }; size = record { width = 5; height = 3 } };
 }
 
-pub supposed : TwoDrawings T added request small large dimensions
+pub supposed : TwoDrawings T (T ++ added) request small large
+unfolding T header headerOff signed8 table rowOf firstCharacter decodeFrom
+supposed = record { first-within = refl; second-within = refl; more = added; longer = refl; as-wide = omega arith; as-high = omega arith }
+
+pub succeeds : drawn T request small ≡ success dimensions
 unfolding T header headerOff signed8 glyph fields search chain readAt bits lowBits number table rowOf firstCharacter decodeFrom newlines joinAll layout afterPair runs glyphPixels draw
-supposed = record { first-within = refl; second-within = refl; as-wide = omega arith; as-high = omega arith; first-succeeds = refl }
+succeeds = refl
 
 -- The drawing changes pixels: the left one of "-" in both, and that of "4" in the second.
 abbrev changed : List ℕ
@@ -66,5 +71,5 @@ pub changes : changed ≡ 1 ∷ 1 ∷ 1 ∷ []
 unfolding T header headerOff signed8 glyph fields search chain readAt bits lowBits number table rowOf firstCharacter decodeFrom newlines joinAll layout afterPair runs glyphPixels textPicture mapAt drawBuffer
 changes = refl
 
-pub claimed : Agree T added request small large dimensions
-claimed = agreement T added request small large dimensions supposed
+pub claimed : Agree small large (results T (T ++ added) request small large) dimensions
+claimed = agreement T (T ++ added) request small large supposed dimensions succeeds

@@ -1,5 +1,6 @@
--- Document 01's third demand, clause by clause: two plain drawings of one text agree. `TwoDrawings` is what the demand
--- supposes, `Agree` what it claims; proofs/Agreement.antt proves that the one gives the other.
+-- Document 01's third demand, clause by clause: two plain drawings of one text, and the measuring of that text with both fonts,
+-- agree. `TwoDrawings` is what the demand supposes, `Agree` what it claims. It speaks of what four calls come to: proofs/Agreement.antt
+-- proves it of the definitions, and crate agreement of the calls themselves.
 use mathlib.Core.Path.{_≡_}
 use mathlib.Core.Bool.{false}
 use mathlib.Core.List.{List, [], _∷_, _++_}
@@ -61,32 +62,58 @@ measured font r = measure font (r .text) (r .position) (r .style .«vertical_pos
 abbrev pub pixel : Framebuffer → List ℕ → ℕ → ℕ → ℕ
 pixel p bytes column row = getD bytes (row * p .width + column) 0
 
--- No pixel outside the box changes, nor any where there is none: `InsideBox` of none never holds.
-abbrev pub KeptOutside : List ℕ → Request → Framebuffer → RenderedDimensions → Type 0
-KeptOutside font r p d =
-    (column row : ℕ) → column < p .width → row < p .height
-    → (InsideBox (pos column) (pos row) (d .«bounding_box») → ⊥)
-    → pixel p (after font r p) column row ≡ pixel p (p .before) column row
+-- What the four calls come to: the answers, and what the two framebuffers then hold.
+pub record Results : Type 0 where
+  pub first : Outcome RenderedDimensions
+  pub second : Outcome RenderedDimensions
+  pub first-measured : Outcome RenderedDimensions
+  pub second-measured : Outcome RenderedDimensions
+  pub first-after : List ℕ
+  pub second-after : List ℕ
 
--- The second font is the first with any bytes, or none, added at its end; the second framebuffer is at least as wide and high;
--- and the first drawing succeeds.
-pub record TwoDrawings (font more : List ℕ) (r : Request) (p q : Framebuffer) (d : RenderedDimensions) : Type 0 where
-  pub first-within : WithinLimits font r p
-  pub second-within : WithinLimits (font ++ more) r q
+-- by the definitions, for any two fonts and framebuffers
+abbrev pub results : List ℕ → List ℕ → Request → Framebuffer → Framebuffer → Results
+results firstFont secondFont r p q = record {
+  first = drawn firstFont r p;
+  second = drawn secondFont r q;
+  first-measured = measured firstFont r;
+  second-measured = measured secondFont r;
+  first-after = after firstFont r p;
+  second-after = after secondFont r q;
+}
+
+-- Both drawings are within 01's limits; the second font is the first with any bytes, or none, added at its end; the second
+-- framebuffer is at least as wide and high. What the framebuffers held before is not restricted.
+pub record TwoDrawings (firstFont secondFont : List ℕ) (r : Request) (p q : Framebuffer) : Type 0 where
+  pub first-within : WithinLimits firstFont r p
+  pub second-within : WithinLimits secondFont r q
+  pub more : List ℕ
+  pub longer : secondFont ≡ firstFont ++ more
   pub as-wide : p .width ≤ q .width
   pub as-high : p .height ≤ q .height
-  pub first-succeeds : drawn font r p ≡ success d
 
-pub record Agree (font more : List ℕ) (r : Request) (p q : Framebuffer) (d : RenderedDimensions) : Type 0 where
+-- No pixel outside the box changes, nor any where there is none: `InsideBox` of none never holds.
+abbrev pub KeptOutside : Framebuffer → List ℕ → RenderedDimensions → Type 0
+KeptOutside p bytes d =
+    (column row : ℕ) → column < p .width → row < p .height
+    → (InsideBox (pos column) (pos row) (d .«bounding_box») → ⊥)
+    → pixel p bytes column row ≡ pixel p (p .before) column row
+
+pub record Agree (p q : Framebuffer) (c : Results) (d : RenderedDimensions) : Type 0 where
   -- the second succeeds, with the same advance and the same box or none
-  pub second-succeeds : drawn (font ++ more) r q ≡ success d
+  pub second-succeeds : c .second ≡ success d
   -- measuring succeeds with either font, with exactly that
-  pub first-measured : measured font r ≡ success d
-  pub second-measured : measured (font ++ more) r ≡ success d
+  pub first-measures : c .first-measured ≡ success d
+  pub second-measures : c .second-measured ≡ success d
   -- every pixel that lies in both, as each of the first does, and began alike ends alike
   pub alike : (column row : ℕ) → column < p .width → row < p .height
       → pixel p (p .before) column row ≡ pixel q (q .before) column row
-      → pixel p (after font r p) column row ≡ pixel q (after (font ++ more) r q) column row
+      → pixel p (c .first-after) column row ≡ pixel q (c .second-after) column row
   -- no pixel outside the box changes in either
-  pub first-kept : KeptOutside font r p d
-  pub second-kept : KeptOutside (font ++ more) r q d
+  pub first-kept : KeptOutside p (c .first-after) d
+  pub second-kept : KeptOutside q (c .second-after) d
+
+-- If the first drawing succeeds, with an advance and a box or none, all of them agree on that.
+abbrev pub ThirdDemand : List ℕ → List ℕ → Request → Framebuffer → Framebuffer → Results → Type 0
+ThirdDemand firstFont secondFont r p q c =
+    TwoDrawings firstFont secondFont r p q → (d : RenderedDimensions) → c .first ≡ success d → Agree p q c d

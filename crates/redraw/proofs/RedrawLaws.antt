@@ -2,7 +2,7 @@
 -- box it was that colour, and outside nothing had changed, by demand 3. And what the step answers, by its causes. Assumes nothing.
 use mathlib.Core.Path.{_≡_, refl, sym, ap, subst, _∙_}
 use mathlib.Core.Bool.{Bool, true, false, _||_, not}
-use mathlib.Core.List.{List, [], _∷_, _++_, append-nil}
+use mathlib.Core.List.{List, [], _∷_, _++_}
 use Prim.Native.Nat.{ℕ, _+_, _*_, _≤_, _<_}
 use native.Mathlib.Nat.{mul-le-mul-right, mul-comm}
 use native.Mathlib.Decide.{decLt}
@@ -33,7 +33,7 @@ use Rattle.definitions.proofs.RefusalLaws.{none-applies, succeeded, NoneApplies
 use Rattle.definitions.proofs.ComesLaws.{comes-stopped}
 use Rattle.definitions.proofs.TextLaws.{measure-from, draw-from}
 use Rattle.definitions.proofs.LetterRefusals.{Late, late, late-drawn}
-use Rattle.definitions.proofs.Agreement.{agreement, size}
+use Rattle.definitions.proofs.Agreement.{alone, size}
 use Rattle.redraw.specs.Redraw.{wholeOr, readingOn, fillPicture, AllOf, clearedBy, redrawCauses, withText, cleared, redrawn, redrawnBuffer, taken}
 use Rattle.redraw.specs.Checks.{originOf, stepOf, checkedStep}
 
@@ -63,15 +63,8 @@ row-below width height column row h = by (decLt row height)
 
 module _ (font : List ℕ) (r : Request) (p : Framebuffer) (d : RenderedDimensions) (within : WithinLimits font r p)
     (succeeded : drawn font r p ≡ success d) where
-  kept : KeptOutside font r p d
-  kept =
-      agreement font [] r p p d record {
-        first-within = within;
-        second-within = subst (λ (f : List ℕ). WithinLimits f r p) (sym (append-nil font)) within;
-        as-wide = omega arith;
-        as-high = omega arith;
-        first-succeeds = succeeded;
-      } .first-kept
+  kept : KeptOutside p (after font r p) d
+  kept = alone font r p d within succeeded .first-kept
 
   module _ (color : ℕ) (ground : AllOf color p (d .«bounding_box»)) where
     -- inside the box the fill puts the colour, which was there; outside it keeps what the drawing kept
@@ -115,15 +108,7 @@ within-limits font r p d e =
 
 -- A drawing that succeeds is measured alike.
 pub drawn-measured : (font : List ℕ) (r : Request) (p : Framebuffer) (d : RenderedDimensions) → drawn font r p ≡ success d → measured font r ≡ success d
-drawn-measured font r p d e =
-    let within = within-limits font r p d e in
-    agreement font [] r p p d record {
-      first-within = within;
-      second-within = subst (λ (f : List ℕ). WithinLimits f r p) (sym (append-nil font)) within;
-      as-wide = omega arith;
-      as-high = omega arith;
-      first-succeeds = e;
-    } .first-measured
+drawn-measured font r p d e = alone font r p d (within-limits font r p d e) e .first-measures
 
 -- What drawing answers depends on the framebuffer's length, and not on what it holds.
 pub same-answer : (font : List ℕ) (r : Request) (width height : ℕ) (a b : List ℕ) → length a ≡ length b

@@ -1,6 +1,6 @@
 -- The contracts of the four calls, and `third-demand` of them.
 use borrow.Author.Needs.{needs}
-use Rattle.agreement.proofs.DemandLaws.{third-demand}
+use Rattle.agreement.proofs.DemandLaws.{one-by-one, third-demand}
 use Rattle.agreement.proofs.draw_twice_and_measure.Statement.{statement}
 use Rattle.agreement.proofs.draw_twice_and_measure.Tie as tie
 
@@ -24,14 +24,13 @@ same-length-2 c = search needs
 
 returns : tie.Need-returns
 returns c =
-    third-demand record {
-      first = c .before .before .before .before .before .before .before .before .render .ensures .0;
-      first-after = c .before .before .before .before .before .before .before .before .render .ensures .1;
-      second = c .before .before .before .before .render2 .ensures .0;
-      second-after = c .before .before .before .before .render2 .ensures .1;
-      first-measured = c .before .get-rendered-dimensions .ensures;
-      second-measured = c .get-rendered-dimensions2 .ensures;
-    }
+    let drawn = c .before .before .before .before .before .before .before .before .render .ensures in
+    let drawn-second = c .before .before .before .before .render2 .ensures in
+    let calls =
+    one-by-one (drawn .0) (drawn-second .0) (c .before .get-rendered-dimensions .ensures) (c .get-rendered-dimensions2 .ensures)
+    (drawn .1) (drawn-second .1)
+    in
+    (calls, third-demand _ _ _ _ _ _ calls)
 
 pub draw-twice-and-measure-spec : {M : Type 1} → statement M
 draw-twice-and-measure-spec =

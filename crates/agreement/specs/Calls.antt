@@ -1,0 +1,16 @@
+-- What the four calls answered and left, as the demand speaks of it.
+use mathlib.Core.List.{List}
+use Prim.Native.Nat.{ℕ}
+use Rattle.definitions.specs.Calls.{dimensionsOutcome}
+use Rattle.definitions.specs.Agreement.{Results}
+use Rattle.agreement.specs.declared.Answers.{Answers}
+
+abbrev pub asResults : Answers → List ℕ → List ℕ → Results
+asResults answers first second = record {
+  first = dimensionsOutcome (answers .first);
+  second = dimensionsOutcome (answers .second);
+  first-measured = dimensionsOutcome (answers .«first_measured»);
+  second-measured = dimensionsOutcome (answers .«second_measured»);
+  first-after = first;
+  second-after = second;
+}
