@@ -2,21 +2,27 @@
 -- shows after each what it is to show. Both are the laws of the step (StepsLaws of redraw), reading by reading. Assumes nothing.
 use mathlib.Core.Path.{_≡_, refl, sym, ap, subst, _∙_}
 use mathlib.Core.Bool.{Bool, true, false}
-use mathlib.Core.List.{List}
+use mathlib.Core.List.{List, [], _∷_, _++_}
 use Prim.Native.Nat.{ℕ, zero, suc, _+_, _≤_, _<_}
+use native.Mathlib.Decide.{decLt}
 use native.Mathlib.Omega.{arith}
 use lib.Dec.{eqb}
 use lib.ListN.{length}
 use Rattle.integers.specs.Integers.{pick}
 use Rattle.types.specs.declared.geometry.RenderedDimensions.{RenderedDimensions}
 use Rattle.types.specs.declared.style.FontColor.the-variants.{Transparent}
-use Rattle.definitions.specs.Refusals.{Outcome, success, refused, anyApplies}
+use Rattle.definitions.specs.Refusals.{Outcome, success, refused, Cause, anyApplies}
+use Rattle.definitions.specs.Header.{fontCauses}
+use Rattle.definitions.specs.Utf8.{table, rowOf, firstCharacter, decodeFrom}
+use Rattle.definitions.specs.Framebuffer.{framebufferCause}
+use Rattle.definitions.specs.Limits.{textCause, positionCause, backgroundCause}
 use Rattle.definitions.specs.Calls.{dimensionsOutcome}
+use Rattle.angles.specs.AngleText.{degreesThen, angleText}
 use Rattle.definitions.specs.Agreement.{drawn}
 use Rattle.redraw.specs.Differences.{differences}
 use Rattle.redraw.specs.Redraw.{readingOn, redrawCauses, redrawn, redrawnBuffer, taken}
 use Rattle.redraw.specs.Steps.{Field, fieldOf, Reading, readingOf, asked, on, Screen as StepScreen, alone, showing, ClearFor}
-use Rattle.redraw.proofs.RedrawLaws.{drawn-measured}
+use Rattle.redraw.proofs.RedrawLaws.{drawn-measured, causesOf, drawn-early, drawn-late}
 use Rattle.redraw.proofs.DifferenceLaws.{none-if-same}
 use Rattle.redraw.proofs.StepsLaws.{Sized, bare-sized, answers-alone, sized-next, length-left, Shown, bare-shown, nothing-shown, step-shows}
 use Rattle.readings.specs.declared.values.Found.{Found}
@@ -32,6 +38,32 @@ at-most n = by (eqb n 0)
     by : (b : Bool) → pick b 0 1 ≤ 1
     by true = omega arith
     by false = omega arith
+
+-- ---- the texts
+
+fineTo : ℕ → Bool
+fineTo zero = true
+fineTo (suc k) = pick (textCause (readingText k) .applies) false (fineTo k)
+
+each-to : (n : ℕ) → fineTo n ≡ true → (k : ℕ) → k < n → textCause (readingText k) .applies ≡ false
+unfolding fineTo
+each-to zero e k h = absurd (omega arith)
+each-to (suc n) e k h = by (textCause (readingText n) .applies) refl (each-to n) (decLt k n)
+  where
+    by : (b : Bool) → textCause (readingText n) .applies ≡ b → (fineTo n ≡ true → (k : ℕ) → k < n → textCause (readingText k) .applies ≡ false) → Dec (k < n)
+        → textCause (readingText k) .applies ≡ false
+    by true a below d = let z : _≡_ {A = ℕ} 0 1 = cc in absurd (omega arith)
+    by false a below (yes p) = below (rw a at e) k p
+    by false a below (no p) = let last : n ≡ k = omega arith in subst (λ (j : ℕ). textCause (readingText j) .applies ≡ false) last a
+
+-- computed for all of them
+all-fine : fineTo 901 ≡ true
+unfolding fineTo angleText degreesThen decodeFrom firstCharacter rowOf table
+all-fine = refl
+
+-- No reading's text is refused for itself.
+fine : (k : ℕ) → k < 901 → textCause (readingText k) .applies ≡ false
+fine = each-to 901 all-fine
 
 module _ (narrow : Bool) (font : List ℕ) (place : Place) (ground : List ℕ) where
   abbrev field : Field
@@ -119,6 +151,50 @@ module _ (narrow : Bool) (font : List ℕ) (place : Place) (ground : List ℕ) w
   all-known zero = start-known
   all-known (suc k) = next-known (all-known k) k
 
+  -- ---- a refused reading, alone
+
+  abbrev onGround : ℕ → Outcome RenderedDimensions
+  onGround k = drawn font (reading place k) (framebuffer place ground)
+
+  abbrev causes : ℕ → List Cause
+  causes k = causesOf font (reading place k) (framebuffer place ground)
+
+  -- A cause that applies to one reading applies to all.
+  same-cause : (j k : ℕ) → j < 901 → k < 901 → anyApplies (causes j) ≡ anyApplies (causes k)
+  same-cause j k h i =
+      ap
+      (λ (b : Bool).
+      anyApplies
+      (fontCauses font
+      ++ framebufferCause (place .width) (place .height) ground
+      ∷ record { number = 4; applies = b }
+      ∷ positionCause (place .position) (place .«line_height»)
+      ∷ backgroundCause (place .style .color) font
+      ∷ []))
+      (fine j h ∙ sym (fine k i))
+
+  -- Then none is taken, and the screen is to show none.
+  never-taken : {i : ℕ} → i < 901 → anyApplies (causes i) ≡ true → (k : ℕ) → k ≤ 901 → before k .old ≡ 901
+  unfolding screenAt
+  never-taken h e zero l = refl
+  never-taken {i} h e (suc k) l =
+      let early = drawn-early font (reading place k) (framebuffer place ground) (same-cause k i (omega arith) h ∙ e) in
+      next-old (all-known k) k ∙ rw early (never-taken h e k (omega arith))
+
+  -- what the screen is to show after reading k is the ground, if that is refused alone
+  shows-ground : (k : ℕ) → k < 901 → {n c : ℕ} → onGround k ≡ refused n c → readingOn font (reading place (before (suc k) .old)) (framebuffer place ground) ≡ ground
+  unfolding screenAt
+  shows-ground k h e = by (anyApplies (causes k)) refl
+    where
+      by : (b : Bool) → anyApplies (causes k) ≡ b → readingOn font (reading place (before (suc k) .old)) (framebuffer place ground) ≡ ground
+      by true a =
+          ap (λ (n : ℕ). readingOn font (reading place n) (framebuffer place ground)) (never-taken h a (suc k) (omega arith))
+          ∙ nothing-shown field ground (place .style .color)
+      by false a =
+          let late = drawn-late font (reading place k) (framebuffer place ground) a in
+          let this : before (suc k) .old ≡ k = next-old (all-known k) k ∙ rw late in
+          ap (λ (n : ℕ). readingOn font (reading place n) (framebuffer place ground)) this ∙ rw e
+
   module _ (honest : narrow ≡ false) (clear : ClearTo 901 font place ground) where
     clear-for : (k : ℕ) → k < 901 → ClearFor field ground (inColor k)
     clear-for k h d e = clear k h d (drawn-measured font (reading place k) (framebuffer place ground) d e)
@@ -128,11 +204,20 @@ module _ (narrow : Bool) (font : List ℕ) (place : Place) (ground : List ℕ) w
     all-shown zero h = bare-shown field ground
     all-shown (suc k) h = next-shown (all-known k) k honest (clear-for k (omega arith)) (all-shown k (omega arith))
 
+    as-wanted : (k : ℕ) → k ≤ 901 → before k .bytes ≡ readingOn font (reading place (before k .old)) (framebuffer place ground)
+    as-wanted k h = all-shown k h .is ∙ all-known k .shows
+
     none-differing : (k : ℕ) → k ≤ 901 → differing font place ground (before k) ≡ 0
     none-differing k h =
-        let e = all-shown k h .is ∙ all-known k .shows in
-        ap (λ (l : List ℕ). differences l (readingOn font (reading place (before k .old)) (framebuffer place ground))) e
+        ap (λ (l : List ℕ). differences l (readingOn font (reading place (before k .old)) (framebuffer place ground))) (as-wanted k h)
         ∙ none-if-same (readingOn font (reading place (before k .old)) (framebuffer place ground))
+
+    left-empty : (k : ℕ) → k < 901 → refusedOne (onGround k) ≡ 1 → before (suc k) .bytes ≡ ground
+    left-empty k h = by (onGround k) refl
+      where
+        by : (o : Outcome RenderedDimensions) → onGround k ≡ o → refusedOne o ≡ 1 → before (suc k) .bytes ≡ ground
+        by (success d) e one = absurd (omega arith)
+        by (refused n c) e one = as-wanted (suc k) (omega arith) ∙ shows-ground k h e
 
   -- ---- the totals
 
@@ -170,6 +255,7 @@ module _ (narrow : Bool) (font : List ℕ) (place : Place) (ground : List ℕ) w
     all = each-counted 901;
     refusals = refused-as-alone 901;
     none-differs = λ honest. none-differs honest clear 901 (omega arith);
+    refused-empty = λ honest. left-empty honest clear;
   }
 
   -- ---- as the loop goes

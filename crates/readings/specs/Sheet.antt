@@ -121,11 +121,13 @@ refusedTo font place ground (suc k) = refusedTo font place ground k + refusedOne
 -- ---- what a sheet is to be
 
 -- Every reading is counted once, and those are refused that are refused when they are drawn alone. Without the fault the screen
--- differs after no reading, refused ones among them.
+-- differs after no reading, refused ones among them, and a refused one leaves the field empty: the screen is the ground.
 pub record Sound (narrow : Bool) (font : List ℕ) (place : Place) (ground : List ℕ) (t : Totals) : Type 0 where
   pub all : t .drawn + t .refused ≡ 901
   pub refusals : t .refused ≡ refusedTo font place ground 901
   pub none-differs : narrow ≡ false → t .differing ≡ 0
+  pub refused-empty : narrow ≡ false → (k : ℕ) → k < 901 → refusedOne (drawn font (reading place k) (framebuffer place ground)) ≡ 1
+      → screenAt narrow font place ground (suc k) .bytes ≡ ground
 
 -- A sheet that is made has the totals of its definition, and is sound.
 abbrev pub SheetOf : Bool → List ℕ → Place → Sheet → Type 0
