@@ -1,11 +1,20 @@
--- A box one column too narrow. Assumes nothing.
-use mathlib.Core.Path.{_≡_, ap}
+-- The step with the fault and without it, and a box one column too narrow. Assumes nothing.
+use mathlib.Core.Path.{_≡_, refl, ap}
+use mathlib.Core.Bool.{false}
+use mathlib.Core.List.{List}
 use Prim.Native.Nat.{ℕ, _-_}
 use native.Mathlib.Omega.{arith}
 use Rattle.types.specs.declared.geometry.BoundingBox.{BoundingBox}
 use Rattle.types.specs.declared.geometry.BoundingBox.the-variants.{None, Some}
 use Rattle.types.specs.declared.geometry.Rectangle.{Rectangle}
-use Rattle.readings.specs.Sheet.{narrowedBox}
+use Rattle.definitions.specs.Agreement.{Request, Framebuffer}
+use Rattle.redraw.specs.Redraw.{redrawnBuffer}
+use Rattle.readings.specs.Sheet.{narrowedBox, stepBuffer}
+
+-- Without the fault the step is the gauge's.
+pub faultless : (font old : List ℕ) (new : Request) (color : ℕ) (p : Framebuffer) → stepBuffer false font old new color p ≡ redrawnBuffer font old new color p
+unfolding stepBuffer redrawnBuffer
+faultless font old new color p = refl
 
 pub boxless : {b : BoundingBox} → b ≡ None → None ≡ narrowedBox b
 boxless e = rw e

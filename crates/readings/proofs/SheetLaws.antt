@@ -30,6 +30,7 @@ use Rattle.readings.specs.declared.values.Place.{Place}
 use Rattle.readings.specs.declared.values.Totals.{Totals}
 use Rattle.readings.specs.Readings.{readingText, reading, framebuffer}
 use Rattle.readings.specs.Ground.{ClearTo}
+use Rattle.readings.proofs.NarrowLaws.{faultless}
 use Rattle.readings.specs.Sheet.{toFill, stepBuffer, Screen, screenOf, answerOn, screenAfter, differing, screenAt, Finds, refusedOne, drawnOne, tallied, Few, totalsTo, refusedTo, Sound}
 
 pub at-most : (n : ℕ) → pick (eqb n 0) 0 1 ≤ 1
@@ -127,9 +128,9 @@ module _ (narrow : Bool) (font : List ℕ) (place : Place) (ground : List ℕ) w
     -- Without the fault it shows it.
     module _ (honest : narrow ≡ false) (clear : ClearFor field ground (inColor k)) (h : Shown field ground record { old = known .old; bytes = s .bytes }) where
       next-bytes-are : screenAfter narrow font place s k .bytes ≡ pick is-taken (showing field ground (inColor k)) record { old = known .old; bytes = s .bytes } .bytes
-      unfolding stepBuffer redrawnBuffer
       next-bytes-are =
           ap (λ (b : Bool). stepBuffer b font (readingText (s .old)) (reading place k) (place .background) (framebuffer place (s .bytes))) honest
+          ∙ faultless font (readingText (s .old)) (reading place k) (place .background) (framebuffer place (s .bytes))
           ∙ ap (λ (t : List ℕ). redrawnBuffer font t (reading place k) (place .background) (framebuffer place (s .bytes))) (sym (known .text-is))
           ∙ ap (λ (s : StepScreen). s .bytes) (step-shows field ground (known .sized) h (inColor k))
 

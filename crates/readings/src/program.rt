@@ -76,6 +76,11 @@ fn print_totals(totals: Totals) {
     print_number(totals.drawn, b" angles drawn, ");
     print_number(totals.differing, b" with a difference, ");
     print_number(totals.refused, b" refused\n");
+    if totals.refused != 0 {
+        printing::text(
+            b"a refused angle leaves the field empty; any pixel left there counts as a difference\n",
+        );
+    }
 }
 
 // The head of a PGM image of all readings, n in a row.
@@ -118,7 +123,7 @@ fn fill_sheet(
 }
 
 // The same on buffers for the largest framebuffers, of 256 × 256 pixels. Whatever the font, the anchor and the place, every reading
-// is counted once and, without the fault, none differs.
+// is counted once and, without the fault, none differs and a refused one leaves the field empty.
 pub fn make_sheet(
     font: &[u8],
     options: Options,

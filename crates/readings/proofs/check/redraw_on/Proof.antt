@@ -1,9 +1,9 @@
 -- Without the fault the step is the gauge's.
 use mathlib.Core.Path.{_≡_, sym, ap, _∙_}
 use mathlib.Core.Bool.{Bool}
-use Rattle.redraw.specs.Redraw.{redrawnBuffer}
 use Rattle.readings.specs.Readings.{asked, framebuffer}
 use Rattle.readings.specs.Sheet.{stepBuffer}
+use Rattle.readings.proofs.NarrowLaws.{faultless}
 use borrow.Author.Needs.{needs}
 use Rattle.readings.proofs.check.redraw_on.Statement.{statement}
 use Rattle.readings.proofs.check.redraw_on.Tie as tie
@@ -27,11 +27,10 @@ same-length-2 : tie.Need-same-length-2
 same-length-2 c = search needs
 
 returns-2 : tie.Need-returns-2
-unfolding stepBuffer redrawnBuffer
 returns-2 c =
     let r = c .before .before .redraw .ensures in
     let e = c .before .before .before .before .before .before .if1 .left in
-    (r .0, rw e (r .1 .0))
+    (r .0, rw e (r .1 .0 ∙ sym (faultless _ _ _ _ _)))
 
 pub redraw-on-spec : {M : Type 1} → statement M
 redraw-on-spec =
