@@ -18,9 +18,9 @@ use Rattle.definitions.specs.Framebuffer.{framebufferCause}
 use Rattle.definitions.specs.Limits.{textCause, positionCause, backgroundCause}
 use Rattle.definitions.specs.Calls.{dimensionsOutcome}
 use Rattle.angles.specs.AngleText.{degreesThen, angleText}
-use Rattle.definitions.specs.Agreement.{drawn}
+use Rattle.definitions.specs.Agreement.{drawn, after}
 use Rattle.redraw.specs.Differences.{differences}
-use Rattle.redraw.specs.Redraw.{readingOn, redrawCauses, redrawn, redrawnBuffer, taken}
+use Rattle.redraw.specs.Redraw.{wholeOr, readingOn, redrawCauses, redrawn, redrawnBuffer, taken}
 use Rattle.redraw.specs.Steps.{Field, fieldOf, Reading, readingOf, asked, on, Screen as StepScreen, alone, showing, ClearFor}
 use Rattle.redraw.proofs.RedrawLaws.{drawn-measured, causesOf, drawn-early, drawn-late}
 use Rattle.redraw.proofs.DifferenceLaws.{none-if-same}
@@ -31,7 +31,7 @@ use Rattle.readings.specs.declared.values.Totals.{Totals}
 use Rattle.readings.specs.Readings.{readingText, reading, framebuffer}
 use Rattle.readings.specs.Ground.{ClearTo}
 use Rattle.readings.proofs.NarrowLaws.{faultless}
-use Rattle.readings.specs.Sheet.{toFill, stepBuffer, Screen, screenOf, answerOn, screenAfter, differing, screenAt, Finds, refusedOne, drawnOne, tallied, Few, totalsTo, refusedTo, Sound}
+use Rattle.readings.specs.Sheet.{toFill, stepBuffer, Screen, screenOf, answerOn, screenAfter, wanted, differing, screenAt, Finds, refusedOne, drawnOne, tallied, Few, totalsTo, refusedTo, Sound}
 
 pub at-most : (n : ℕ) → pick (eqb n 0) 0 1 ≤ 1
 at-most n = by (eqb n 0)
@@ -80,7 +80,7 @@ module _ (narrow : Bool) (font : List ℕ) (place : Place) (ground : List ℕ) w
     old : Reading
     text-is : old .text ≡ readingText (s .old)
     sized : Sized field ground record { old = old; bytes = s .bytes }
-    shows : readingOn font (asked field old) (on field ground) ≡ readingOn font (reading place (s .old)) (framebuffer place ground)
+    shows : readingOn font (asked field old) (on field ground) ≡ wanted font place ground (s .old)
 
   unfoldable start-known : Known (screenOf 901 ground)
   start-known = record {
@@ -114,14 +114,14 @@ module _ (narrow : Bool) (font : List ℕ) (place : Place) (ground : List ℕ) w
       old = pick is-taken (inColor k) (known .old);
       text-is = texts is-taken ∙ sym (ap readingText next-old);
       sized = sized-next field ground (known .sized) (inColor k) refl next-length;
-      shows = shown is-taken ∙ sym (ap (λ (n : ℕ). readingOn font (reading place n) (framebuffer place ground)) next-old);
+      shows = shown is-taken ∙ sym (ap (wanted font place ground) next-old);
     }
       where
         texts : (b : Bool) → pick b (inColor k) (known .old) .text ≡ readingText (pick b k (s .old))
         texts true = refl
         texts false = known .text-is
 
-        shown : (b : Bool) → readingOn font (asked field (pick b (inColor k) (known .old))) (on field ground) ≡ readingOn font (reading place (pick b k (s .old))) (framebuffer place ground)
+        shown : (b : Bool) → readingOn font (asked field (pick b (inColor k) (known .old))) (on field ground) ≡ wanted font place ground (pick b k (s .old))
         shown true = refl
         shown false = known .shows
 
@@ -152,10 +152,7 @@ module _ (narrow : Bool) (font : List ℕ) (place : Place) (ground : List ℕ) w
   all-known zero = start-known
   all-known (suc k) = next-known (all-known k) k
 
-  -- ---- a refused reading, alone
-
-  abbrev onGround : ℕ → Outcome RenderedDimensions
-  onGround k = drawn font (reading place k) (framebuffer place ground)
+  -- ---- a reading that one of causes 1 to 6 refuses
 
   abbrev causes : ℕ → List Cause
   causes k = causesOf font (reading place k) (framebuffer place ground)
@@ -182,19 +179,25 @@ module _ (narrow : Bool) (font : List ℕ) (place : Place) (ground : List ℕ) w
       let early = drawn-early font (reading place k) (framebuffer place ground) (same-cause k i (omega arith) h ∙ e) in
       next-old (all-known k) k ∙ rw early (never-taken h e k (omega arith))
 
-  -- what the screen is to show after reading k is the ground, if that is refused alone
-  shows-ground : (k : ℕ) → k < 901 → {n c : ℕ} → onGround k ≡ refused n c → readingOn font (reading place (before (suc k) .old)) (framebuffer place ground) ≡ ground
+  not-drawn : (o : Outcome RenderedDimensions) (drawing : List ℕ) → taken o ≡ false → wholeOr o drawing ground ≡ ground
+  not-drawn (success d) drawing e = let z : _≡_ {A = ℕ} 0 1 = cc in absurd (omega arith)
+  not-drawn (refused n c) drawing e = refl
+
+  -- So what is to be cleared next shows the same as reading k.
+  same-shown : (k : ℕ) → k < 901 → wanted font place ground (before (suc k) .old) ≡ wanted font place ground k
   unfolding screenAt
-  shows-ground k h e = by (anyApplies (causes k)) refl
+  same-shown k h = by (anyApplies (causes k)) refl
     where
-      by : (b : Bool) → anyApplies (causes k) ≡ b → readingOn font (reading place (before (suc k) .old)) (framebuffer place ground) ≡ ground
+      by : (b : Bool) → anyApplies (causes k) ≡ b → wanted font place ground (before (suc k) .old) ≡ wanted font place ground k
       by true a =
-          ap (λ (n : ℕ). readingOn font (reading place n) (framebuffer place ground)) (never-taken h a (suc k) (omega arith))
+          let early = drawn-early font (reading place k) (framebuffer place ground) a in
+          ap (wanted font place ground) (never-taken h a (suc k) (omega arith))
           ∙ nothing-shown field ground (place .style .color)
+          ∙ sym (not-drawn (drawn font (reading place k) (framebuffer place ground)) (after font (reading place k) (framebuffer place ground)) early)
       by false a =
           let late = drawn-late font (reading place k) (framebuffer place ground) a in
           let this : before (suc k) .old ≡ k = next-old (all-known k) k ∙ rw late in
-          ap (λ (n : ℕ). readingOn font (reading place n) (framebuffer place ground)) this ∙ rw e
+          ap (wanted font place ground) this
 
   module _ (honest : narrow ≡ false) (clear : ClearTo 901 font place ground) where
     clear-for : (k : ℕ) → k < 901 → ClearFor field ground (inColor k)
@@ -205,20 +208,12 @@ module _ (narrow : Bool) (font : List ℕ) (place : Place) (ground : List ℕ) w
     all-shown zero h = bare-shown field ground
     all-shown (suc k) h = next-shown (all-known k) k honest (clear-for k (omega arith)) (all-shown k (omega arith))
 
-    as-wanted : (k : ℕ) → k ≤ 901 → before k .bytes ≡ readingOn font (reading place (before k .old)) (framebuffer place ground)
-    as-wanted k h = all-shown k h .is ∙ all-known k .shows
+    as-wanted : (k : ℕ) → k < 901 → before (suc k) .bytes ≡ wanted font place ground k
+    as-wanted k h = all-shown (suc k) (omega arith) .is ∙ all-known (suc k) .shows ∙ same-shown k h
 
-    none-differing : (k : ℕ) → k ≤ 901 → differing font place ground (before k) ≡ 0
+    none-differing : (k : ℕ) → k < 901 → differing font place ground (before (suc k)) k ≡ 0
     none-differing k h =
-        ap (λ (l : List ℕ). differences l (readingOn font (reading place (before k .old)) (framebuffer place ground))) (as-wanted k h)
-        ∙ none-if-same (readingOn font (reading place (before k .old)) (framebuffer place ground))
-
-    left-empty : (k : ℕ) → k < 901 → refusedOne (onGround k) ≡ 1 → before (suc k) .bytes ≡ ground
-    left-empty k h = by (onGround k) refl
-      where
-        by : (o : Outcome RenderedDimensions) → onGround k ≡ o → refusedOne o ≡ 1 → before (suc k) .bytes ≡ ground
-        by (success d) e one = absurd (omega arith)
-        by (refused n c) e one = as-wanted (suc k) (omega arith) ∙ shows-ground k h e
+        ap (λ (l : List ℕ). differences l (wanted font place ground k)) (as-wanted k h) ∙ none-if-same (wanted font place ground k)
 
   -- ---- the totals
 
@@ -243,20 +238,20 @@ module _ (narrow : Bool) (font : List ℕ) (place : Place) (ground : List ℕ) w
   unfolding totalsTo
   none-differs honest clear zero h = refl
   none-differs honest clear (suc k) h =
-      let e = none-differing honest clear (suc k) h in
+      let e = none-differing honest clear k (omega arith) in
       rw e (omega (arith, none-differs honest clear k (omega arith)))
 
   differing-few : (k : ℕ) → totals k .differing ≤ k
   unfolding totalsTo
   differing-few zero = omega arith
-  differing-few (suc k) = omega (arith, at-most (differing font place ground (before (suc k))), differing-few k)
+  differing-few (suc k) = omega (arith, at-most (differing font place ground (before (suc k)) k), differing-few k)
 
   pub sound : ClearTo 901 font place ground → Sound narrow font place ground (totals 901)
   sound clear = record {
     all = each-counted 901;
     refusals = refused-as-alone 901;
     none-differs = λ honest. none-differs honest clear 901 (omega arith);
-    refused-empty = λ honest. left-empty honest clear;
+    each-shown = λ honest. as-wanted honest clear;
   }
 
   -- ---- as the loop goes
@@ -295,5 +290,5 @@ module _ (narrow : Bool) (font : List ℕ) (place : Place) (ground : List ℕ) w
         h
         ∙ ap (λ (t : Totals). tallied t (dimensionsOutcome (found .answer)) (found .differing)) e
         ∙ ap (λ (o : Outcome RenderedDimensions). tallied (totals k) o (found .differing)) (finds .answer ∙ ap (λ (s : Screen). answerOn font place s k) here)
-        ∙ ap (tallied (totals k) (answerOn font place (before k) k)) (finds .differing ∙ ap (differing font place ground) (after-is ∙ ap before (sym suc-is)))
+        ∙ ap (tallied (totals k) (answerOn font place (before k) k)) (finds .differing ∙ ap (λ (s : Screen). differing font place ground s k) (after-is ∙ ap before (sym suc-is)))
         ∙ ap totals suc-is

@@ -64,9 +64,13 @@ screenAfter narrow font place s k = record {
   bytes = stepBuffer narrow font (readingText (s .old)) (reading place k) (place .background) (framebuffer place (s .bytes));
 }
 
--- the pixels in which a screen differs from what it is to show: its reading on the ground, whole or not at all
-abbrev pub differing : List ℕ → Place → List ℕ → Screen → ℕ
-differing font place ground s = differences (s .bytes) (readingOn font (reading place (s .old)) (framebuffer place ground))
+-- what the screen is to show after reading k: that reading alone on the ground, whole, or the ground if the reading is refused
+abbrev pub wanted : List ℕ → Place → List ℕ → ℕ → List ℕ
+wanted font place ground k = readingOn font (reading place k) (framebuffer place ground)
+
+-- the pixels in which it differs from that
+abbrev pub differing : List ℕ → Place → List ℕ → Screen → ℕ → ℕ
+differing font place ground s k = differences (s .bytes) (wanted font place ground k)
 
 -- the screen before reading k
 unfoldable pub screenAt : Bool → List ℕ → Place → List ℕ → ℕ → Screen
@@ -78,7 +82,7 @@ pub record Finds (narrow : Bool) (font : List ℕ) (place : Place) (ground : Lis
   pub answer : dimensionsOutcome (found .answer) ≡ answerOn font place s k
   pub old : found .old ≡ screenAfter narrow font place s k .old
   pub bytes : exit ≡ screenAfter narrow font place s k .bytes
-  pub differing : found .differing ≡ differing font place ground (screenAfter narrow font place s k)
+  pub differing : found .differing ≡ differing font place ground (screenAfter narrow font place s k) k
 
 -- ---- the totals
 
@@ -111,7 +115,7 @@ totalsTo narrow font place ground zero = record { drawn = 0; differing = 0; refu
 totalsTo narrow font place ground (suc k) =
     tallied (totalsTo narrow font place ground k)
     (answerOn font place (screenAt narrow font place ground k) k)
-    (differing font place ground (screenAt narrow font place ground (suc k)))
+    (differing font place ground (screenAt narrow font place ground (suc k)) k)
 
 -- how many of the first n readings are refused when each is drawn alone on the ground
 unfoldable pub refusedTo : List ℕ → Place → List ℕ → ℕ → ℕ
@@ -121,13 +125,12 @@ refusedTo font place ground (suc k) = refusedTo font place ground k + refusedOne
 -- ---- what a sheet is to be
 
 -- Every reading is counted once, and those are refused that are refused when they are drawn alone. Without the fault the screen
--- differs after no reading, refused ones among them, and a refused one leaves the field empty: the screen is the ground.
+-- shows after each reading what it is to show, so that none differs and a refused one leaves the field empty.
 pub record Sound (narrow : Bool) (font : List ℕ) (place : Place) (ground : List ℕ) (t : Totals) : Type 0 where
   pub all : t .drawn + t .refused ≡ 901
   pub refusals : t .refused ≡ refusedTo font place ground 901
   pub none-differs : narrow ≡ false → t .differing ≡ 0
-  pub refused-empty : narrow ≡ false → (k : ℕ) → k < 901 → refusedOne (drawn font (reading place k) (framebuffer place ground)) ≡ 1
-      → screenAt narrow font place ground (suc k) .bytes ≡ ground
+  pub each-shown : narrow ≡ false → (k : ℕ) → k < 901 → screenAt narrow font place ground (suc k) .bytes ≡ wanted font place ground k
 
 -- A sheet that is made has the totals of its definition, and is sound.
 abbrev pub SheetOf : Bool → List ℕ → Place → Sheet → Type 0

@@ -6,11 +6,11 @@ ghost use lib.ListN.{length};
 ghost use Rattle.integers.specs.Integers.{pick};
 ghost use Rattle.definitions.specs.Calls.{dimensionsOutcome};
 ghost use Rattle.redraw.specs.Differences.{differences};
-ghost use Rattle.redraw.specs.Redraw.{readingOn, redrawn, taken};
+ghost use Rattle.redraw.specs.Redraw.{redrawn, taken};
 ghost use Rattle.readings.specs.Readings.{readingText, reading, framebuffer};
 ghost use Rattle.readings.specs.Ground.{ClearTo};
 ghost use Rattle.readings.specs.Grid.{withCell, begun, nextCell, BandFits, SheetFits};
-ghost use Rattle.readings.specs.Sheet.{stepBuffer, screenOf, Finds, tallied, screenAt, totalsTo, Few, Sound};
+ghost use Rattle.readings.specs.Sheet.{stepBuffer, screenOf, wanted, Finds, tallied, screenAt, totalsTo, Few, Sound};
 use crate::bytes::fill;
 use crate::check::draw_alone;
 use crate::check::redraw_on;
@@ -93,7 +93,7 @@ fn draw_over(
     redraw_on(font, &old_text[a..], &new_text[b..], place, narrow, screen)
 }
 
-// How many pixels of the screen are not those of reading k drawn alone on the ground.
+// How many pixels of the screen are not those of reading k drawn alone on the ground, whole or not at all.
 fn compare(
     font: &[u8],
     k: usize,
@@ -103,7 +103,7 @@ fn compare(
     alone: &mut [u8],
 ) -> usize
     requires { ⌜ (length (now ground) ≡ length (now alone)) × (length (now screen) ≡ length (now alone)) ⌝ }
-    ensures { λ r. ⌜ r ≡ differences (now (screen .entry)) (readingOn (now (font .entry)) (reading place k) (framebuffer place (now (ground .entry)))) ⌝ }
+    ensures { λ r. ⌜ r ≡ differences (now (screen .entry)) (wanted (now (font .entry)) place (now (ground .entry)) k) ⌝ }
 {
     let mut text = [0u8; 6];
     let start = write_reading(k, &mut text);
@@ -118,7 +118,7 @@ fn next_old(answer: DimensionsResult, k: usize, old: usize) -> usize
     if is_taken(answer) { k } else { old }
 }
 
-// The step, watched: what the screen is to show is the reading that the next step is to clear.
+// The step, watched.
 fn step(
     font: &[u8],
     old: usize,
@@ -134,7 +134,7 @@ fn step(
 {
     let answer = draw_over(font, old, k, place, narrow, &mut screen[..]);
     let next = next_old(answer, k, old);
-    let differing = compare(font, next, place, ground, &screen[..], alone);
+    let differing = compare(font, k, place, ground, &screen[..], alone);
     Found {
         answer,
         old: next,

@@ -50,7 +50,7 @@ pub struct Asked {
 }
 
 // What is found of one step: its answer, the number of the reading that the next step is to clear, and how many pixels of the
-// screen are not those of that reading drawn alone.
+// screen are not what it is to show.
 pub struct Found {
     pub answer: DimensionsResult,
     pub old: usize,

@@ -6,9 +6,8 @@ use Rattle.integers.specs.Integers.{pick}
 use Rattle.types.specs.declared.geometry.RenderedDimensions.{RenderedDimensions}
 use Rattle.definitions.specs.Refusals.{Outcome}
 use Rattle.redraw.specs.Differences.{differences}
-use Rattle.redraw.specs.Redraw.{readingOn, taken}
-use Rattle.readings.specs.Readings.{reading, framebuffer}
-use Rattle.readings.specs.Sheet.{screenOf, screenAfter}
+use Rattle.redraw.specs.Redraw.{taken}
+use Rattle.readings.specs.Sheet.{wanted}
 use borrow.Author.Needs.{needs}
 use Rattle.readings.proofs.sheet.step.Statement.{statement}
 use Rattle.readings.proofs.sheet.step.Tie as tie
@@ -32,16 +31,11 @@ returns : tie.Need-returns
 returns c =
     let a = c .before .before .before .before .before .before .before .before .before .before .before .before .before .before .args in
     let d = c .before .before .before .before .before .before .before .before .draw-over .ensures in
-    let s = screenOf (a .old) (a .screen .now) in
-    let expected = framebuffer (a .place) (a .ground .now) in
-    let old = c .before .before .before .before .before .next-old .ensures ∙ ap (λ (o : Outcome RenderedDimensions). pick (taken o) (a .k) (a .old)) (d .0) in
     record {
       answer = d .0;
-      old = old;
+      old = c .before .before .before .before .before .next-old .ensures ∙ ap (λ (o : Outcome RenderedDimensions). pick (taken o) (a .k) (a .old)) (d .0);
       bytes = d .1;
-      differing = c .before .before .compare .ensures
-          ∙ ap (λ (l : List ℕ). differences l (readingOn (a .font .now) (reading (a .place) (c .before .before .before .before .before .next-old .result)) expected)) (d .1)
-          ∙ ap (λ (n : ℕ). differences (screenAfter (a .narrow) (a .font .now) (a .place) s (a .k) .bytes) (readingOn (a .font .now) (reading (a .place) n) expected)) old;
+      differing = c .before .before .compare .ensures ∙ ap (λ (l : List ℕ). differences l (wanted (a .font .now) (a .place) (a .ground .now) (a .k))) (d .1);
     }
 
 pub step-spec : {M : Type 1} → statement M
