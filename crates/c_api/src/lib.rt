@@ -10,17 +10,21 @@ mod reply;
 ghost use mathlib.Core.Path.{_≡_};
 ghost use lib.ListN.{length};
 ghost use Rattle.definitions.specs.Calls.{openFont, fontBoundingBox, measure, measureAligned, draw, drawBuffer};
+ghost use Rattle.definitions.specs.Agreement.{request, framebufferOf};
 ghost use Rattle.definitions.specs.Text.{point};
+ghost use Rattle.redraw.specs.Redraw.{redrawn, redrawnBuffer};
 ghost use Rattle.c_api.specs.Codes.{meaningOf};
 ghost use Rattle.c_api.specs.Replies.{Answers, styleOf, drawnBy, boxReply, textReply, alignedReply};
 ghost use Rattle.c_api.specs.Headers.{Opens};
 use codes::Codes;
+use codes::Meaning;
 use codes::known_codes;
 use font_reader::new_from_raw_data;
 use header::store_header;
 use measuring::font_bounding_box::get_font_bounding_box;
 use measuring::rendered_dimensions::get_rendered_dimensions;
 use measuring::rendered_dimensions_aligned::get_rendered_dimensions_aligned;
+use redraw::reading::redraw;
 use renderer::render::render;
 use reply::BAD_ARGUMENT;
 use reply::of_bounding_box;
@@ -31,7 +35,6 @@ use types::geometry::Point;
 use types::results::FontReaderResult;
 use types::style::FontColor;
 use types::style::FontStyle;
-use types::style::VerticalPosition;
 use utils::error::error_number;
 
 // The header's values and the default line height.
@@ -119,10 +122,11 @@ pub extern "C" fn papayahelm_measure_aligned(
     store(out, of_bounding_box(result))
 }
 
-fn style_of(vertical_pos: VerticalPosition, background: bool, fg: u8, bg: u8) -> FontStyle
-    ensures { λ r. ⌜ r ≡ styleOf «vertical_pos» background fg bg ⌝ }
+fn style_of(m: Meaning, fg: u8, bg: u8) -> FontStyle
+    ensures { λ r. ⌜ r ≡ styleOf (m .«vertical_pos») (m .background) fg bg ⌝ }
 {
-    if background {
+    let vertical_pos = m.vertical_pos;
+    if m.background {
         return FontStyle {
             color: FontColor::WithBackground { fg, bg },
             vertical_pos,
@@ -158,8 +162,7 @@ pub extern "C" fn papayahelm_draw(
     let Codes::Known(m) = known_codes(anchor, 0, skip, background, out.len()) else {
         return BAD_ARGUMENT;
     };
-    let vertical_pos = m.vertical_pos;
-    let style = style_of(vertical_pos, m.background, fg, bg);
+    let style = style_of(m, fg, bg);
     let position = Point { x, y };
     let result = render(
         font,
@@ -168,6 +171,48 @@ pub extern "C" fn papayahelm_draw(
         style,
         line_height,
         m.skip,
+        width,
+        height,
+        buffer,
+    );
+    store(out, of_dimensions(result))
+}
+
+// Clears the old text's reading with one colour and draws the new text's, whole or not at all.
+#[no_mangle]
+pub extern "C" fn papayahelm_redraw(
+    font: &[u8],
+    old_text: &[u8],
+    new_text: &[u8],
+    x: i32,
+    y: i32,
+    anchor: u32,
+    line_height: u32,
+    background: u32,
+    fg: u8,
+    bg: u8,
+    clear_color: u8,
+    width: usize,
+    height: usize,
+    buffer: &mut [u8],
+    out: &mut [i64],
+) -> u32
+    ensures answered { λ r. ⌜ Answers (meaningOf anchor 0 0 background (length (now (out .entry)))) (λ m. textReply (redrawn (now (font .entry)) (now («old_text» .entry)) (request (now («new_text» .entry)) (point x y) (styleOf (m .«vertical_pos») (m .background) fg bg) «line_height») (framebufferOf width height (now (buffer .entry))))) r (now (out .entry)) (now (out .exit)) ⌝ }
+    ensures shown { λ r. ⌜ now (buffer .exit) ≡ drawnBy (meaningOf anchor 0 0 background (length (now (out .entry)))) (λ m. redrawnBuffer (now (font .entry)) (now («old_text» .entry)) (request (now («new_text» .entry)) (point x y) (styleOf (m .«vertical_pos») (m .background) fg bg) «line_height») «clear_color» (framebufferOf width height (now (buffer .entry)))) (now (buffer .entry)) ⌝ }
+{
+    let Codes::Known(m) = known_codes(anchor, 0, 0, background, out.len()) else {
+        return BAD_ARGUMENT;
+    };
+    let style = style_of(m, fg, bg);
+    let position = Point { x, y };
+    let result = redraw(
+        font,
+        old_text,
+        new_text,
+        position,
+        style,
+        line_height,
+        clear_color,
         width,
         height,
         buffer,

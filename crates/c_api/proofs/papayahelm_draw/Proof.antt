@@ -3,7 +3,7 @@ use mathlib.Core.Path.{sym, ap, _∙_}
 use mir.Facts.{toZ-ofZ}
 use Rattle.c_api.specs.Replies.{textReply}
 use Rattle.c_api.proofs.CodesLaws.{has-room}
-use Rattle.c_api.proofs.RepliesLaws.{bad-argument, answers}
+use Rattle.c_api.proofs.RepliesLaws.{not-drawn, drawn}
 use borrow.Author.Needs.{needs}
 use Rattle.c_api.proofs.papayahelm_draw.Statement.{statement}
 use Rattle.c_api.proofs.papayahelm_draw.Tie as tie
@@ -18,9 +18,7 @@ enum-told : tie.Need-enum-told
 enum-told c = search needs
 
 returns : tie.Need-returns
-returns c =
-    let e = sym (c .before .before .known-codes .ensures) ∙ c .enum-told .given .1 in
-    (bad-argument _ _ _ e, simp e)
+returns c = not-drawn _ _ _ _ _ (sym (c .before .before .known-codes .ensures) ∙ c .enum-told .given .1)
 
 style-of-requires : tie.Need-style-of-requires
 style-of-requires c κs = search needs
@@ -45,12 +43,11 @@ returns-2 c =
     let a = c .before .before .before .before .before .before .before .before .before .before .before .before .before .before .before .before .fits .x in
     let b = c .before .before .before .before .before .before .before .before .before .before .before .before .before .before .before .before .fits .y in
     let e = sym (c .before .before .before .before .before .before .before .before .before .before .before .before .known-codes .ensures) ∙ c .before .before .before .before .before .before .before .before .before .before .m .given .1 in
-    let s = c .before .before .before .before .before .before .before .before .style-of .ensures in (
-      answers _ _ _ _ _ _ _ e
-          (c .before .before .of-dimensions .ensures ∙ ap textReply (simp (toZ-ofZ, a, b, s) at (c .before .before .before .before .before .before .render .ensures .0)))
-          (c .before .store .ensures),
-      simp e (simp (toZ-ofZ, a, b, s) at (c .before .before .before .before .before .before .render .ensures .1)),
-    )
+    let s = c .before .before .before .before .before .before .before .before .style-of .ensures in
+    drawn _ _ _ _ _ _ _ _ _ _ e
+    (c .before .before .of-dimensions .ensures ∙ ap textReply (simp (toZ-ofZ, a, b, s) at (c .before .before .before .before .before .before .render .ensures .0)))
+    (c .before .store .ensures)
+    (simp (toZ-ofZ, a, b, s) at (c .before .before .before .before .before .before .render .ensures .1))
 
 pub papayahelm-draw-spec : {M : Type 1} → statement M
 papayahelm-draw-spec =
