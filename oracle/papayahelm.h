@@ -50,6 +50,18 @@ uint32_t papayahelm_draw(const uint8_t *font, size_t font_len, const uint8_t *te
                          uint32_t anchor, uint32_t line_height, uint32_t skip, uint32_t background, uint8_t fg, uint8_t bg,
                          size_t width, size_t height, uint8_t *buffer, size_t buffer_len, int64_t *out, size_t out_len);
 
+/* The next reading in place of the one that stands: tests both texts for the causes 1 to 6, then fills the old text's
+ * bounding box with `clear_color`, and then draws the new text if each of its letters can be drawn. A reading is drawn whole
+ * or not at all, and no letter is skipped. The status says which text the next step takes as its old one:
+ *   0              the new text, which stands now
+ *   7, 8           the new text, though nothing of it is drawn: the old reading is cleared
+ *   1 .. 6, 255    the same old text as before, which still stands: nothing has changed
+ * Before the first reading it is an empty text. For an old text that cannot be drawn nothing is filled, since it left nothing. */
+uint32_t papayahelm_redraw(const uint8_t *font, size_t font_len, const uint8_t *old_text, size_t old_text_len,
+                           const uint8_t *new_text, size_t new_text_len, int32_t x, int32_t y, uint32_t anchor,
+                           uint32_t line_height, uint32_t background, uint8_t fg, uint8_t bg, uint8_t clear_color,
+                           size_t width, size_t height, uint8_t *buffer, size_t buffer_len, int64_t *out, size_t out_len);
+
 #ifdef __cplusplus
 }
 #endif

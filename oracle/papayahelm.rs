@@ -52,6 +52,28 @@ mod raw {
             out: *mut i64,
             out_len: usize,
         ) -> u32;
+        pub fn papayahelm_redraw(
+            font: *const u8,
+            font_len: usize,
+            old_text: *const u8,
+            old_text_len: usize,
+            new_text: *const u8,
+            new_text_len: usize,
+            x: i32,
+            y: i32,
+            anchor: u32,
+            line_height: u32,
+            background: u32,
+            fg: u8,
+            bg: u8,
+            clear_color: u8,
+            width: usize,
+            height: usize,
+            buffer: *mut u8,
+            buffer_len: usize,
+            out: *mut i64,
+            out_len: usize,
+        ) -> u32;
     }
 }
 
@@ -104,8 +126,6 @@ pub struct Place {
     pub y: i32,
     pub anchor: Anchor,
     pub line_height: u32,
-    /// skip letters that the font has not
-    pub skip: bool,
 }
 
 const NONE: Refusal = Refusal { number: 0, code_point: 0 };
@@ -114,6 +134,19 @@ fn checked(status: u32, code_point: i64) -> Result<(), Refusal> {
     match status {
         0 => Ok(()),
         number => Err(Refusal { number, code_point: code_point as u32, ..NONE }),
+    }
+}
+
+fn dimensions(status: u32, out: &[i64; 8]) -> Result<Dimensions, Refusal> {
+    checked(status, out[0])?;
+    Ok(Dimensions { advance: (out[1] as i32, out[2] as i32), bounds: bounds(out) })
+}
+
+/// Whether there is a background colour, and both colours.
+fn colors(ink: Ink) -> (u32, u8, u8) {
+    match ink {
+        Ink::Transparent(fg) => (0, fg, 0),
+        Ink::WithBackground { fg, bg } => (1, fg, bg),
     }
 }
 
@@ -136,7 +169,8 @@ pub fn font_box(font: &[u8], anchor: Anchor) -> Result<Area, Refusal> {
     bounds(&out).ok_or(NONE)
 }
 
-pub fn measure(font: &[u8], text: &[u8], place: Place) -> Result<Dimensions, Refusal> {
+/// With `skip`, here and below, letters that the font has not are skipped.
+pub fn measure(font: &[u8], text: &[u8], place: Place, skip: bool) -> Result<Dimensions, Refusal> {
     let mut out = [0; 8];
     let status = unsafe {
         raw::papayahelm_measure(
@@ -148,16 +182,15 @@ pub fn measure(font: &[u8], text: &[u8], place: Place) -> Result<Dimensions, Ref
             place.y,
             place.anchor as u32,
             place.line_height,
-            place.skip.into(),
+            skip.into(),
             out.as_mut_ptr(),
             out.len(),
         )
     };
-    checked(status, out[0])?;
-    Ok(Dimensions { advance: (out[1] as i32, out[2] as i32), bounds: bounds(&out) })
+    dimensions(status, &out)
 }
 
-pub fn measure_aligned(font: &[u8], text: &[u8], place: Place, align: Align) -> Result<Option<Area>, Refusal> {
+pub fn measure_aligned(font: &[u8], text: &[u8], place: Place, align: Align, skip: bool) -> Result<Option<Area>, Refusal> {
     let mut out = [0; 8];
     let status = unsafe {
         raw::papayahelm_measure_aligned(
@@ -170,7 +203,7 @@ pub fn measure_aligned(font: &[u8], text: &[u8], place: Place, align: Align) -> 
             place.anchor as u32,
             align as u32,
             place.line_height,
-            place.skip.into(),
+            skip.into(),
             out.as_mut_ptr(),
             out.len(),
         )
@@ -184,14 +217,12 @@ pub fn draw(
     font: &[u8],
     text: &[u8],
     place: Place,
+    skip: bool,
     ink: Ink,
     (width, height): (usize, usize),
     buffer: &mut [u8],
 ) -> Result<Dimensions, Refusal> {
-    let (background, fg, bg) = match ink {
-        Ink::Transparent(fg) => (0, fg, 0),
-        Ink::WithBackground { fg, bg } => (1, fg, bg),
-    };
+    let (background, fg, bg) = colors(ink);
     let mut out = [0; 8];
     let status = unsafe {
         raw::papayahelm_draw(
@@ -203,7 +234,7 @@ pub fn draw(
             place.y,
             place.anchor as u32,
             place.line_height,
-            place.skip.into(),
+            skip.into(),
             background,
             fg,
             bg,
@@ -215,6 +246,56 @@ pub fn draw(
             out.len(),
         )
     };
-    checked(status, out[0])?;
-    Ok(Dimensions { advance: (out[1] as i32, out[2] as i32), bounds: bounds(&out) })
+    dimensions(status, &out)
+}
+
+/// The next reading in place of the one that stands: fills the old text's bounding box with `clear_color` and draws the new
+/// text, whole or not at all. The causes 1 to 6 are tested for both texts before anything changes. `standing` says which text
+/// the next step takes as its old one; before the first reading it is an empty text.
+pub fn redraw(
+    font: &[u8],
+    old_text: &[u8],
+    new_text: &[u8],
+    place: Place,
+    ink: Ink,
+    clear_color: u8,
+    (width, height): (usize, usize),
+    buffer: &mut [u8],
+) -> Result<Dimensions, Refusal> {
+    let (background, fg, bg) = colors(ink);
+    let mut out = [0; 8];
+    let status = unsafe {
+        raw::papayahelm_redraw(
+            font.as_ptr(),
+            font.len(),
+            old_text.as_ptr(),
+            old_text.len(),
+            new_text.as_ptr(),
+            new_text.len(),
+            place.x,
+            place.y,
+            place.anchor as u32,
+            place.line_height,
+            background,
+            fg,
+            bg,
+            clear_color,
+            width,
+            height,
+            buffer.as_mut_ptr(),
+            buffer.len(),
+            out.as_mut_ptr(),
+            out.len(),
+        )
+    };
+    dimensions(status, &out)
+}
+
+/// The text that stands after a step, and that the next one clears: the new one after success and after 7 and 8, of which
+/// nothing is drawn then; the old one after 1 to 6, which change nothing.
+pub fn standing<T>(answer: &Result<Dimensions, Refusal>, old_text: T, new_text: T) -> T {
+    match answer {
+        Ok(_) | Err(Refusal { number: 7 | 8, .. }) => new_text,
+        Err(_) => old_text,
+    }
 }

@@ -163,13 +163,13 @@ fn rust(input: &Input, buffer: &mut [u8]) -> i32 {
 
 fn ours(input: &Input, buffer: &mut [u8]) -> i32 {
     let (font, text) = (&input.font, input.text.as_bytes());
-    let place = Place { x: 2, y: 20, anchor: Anchor::Baseline, line_height: input.line_height, skip: false };
-    let draw = |ink, buffer| papayahelm::draw(font, text, place, ink, (WIDTH, HEIGHT), buffer).map_or(-1, |d| d.advance.0);
+    let place = Place { x: 2, y: 20, anchor: Anchor::Baseline, line_height: input.line_height };
+    let draw = |ink, buffer| papayahelm::draw(font, text, place, false, ink, (WIDTH, HEIGHT), buffer).map_or(-1, |d| d.advance.0);
     match input.call {
         Call::Open => papayahelm::open(black_box(font)).map_or(-1, |v| v[20] as i32),
-        Call::Measure => papayahelm::measure(font, text, place).map_or(-1, |d| d.advance.0),
+        Call::Measure => papayahelm::measure(font, text, place, false).map_or(-1, |d| d.advance.0),
         Call::Aligned => {
-            papayahelm::measure_aligned(font, text, place, Align::Center).map_or(-1, |b| b.map_or(0, |b| b.left))
+            papayahelm::measure_aligned(font, text, place, Align::Center, false).map_or(-1, |b| b.map_or(0, |b| b.left))
         }
         Call::Transparent => draw(Ink::Transparent(1), buffer),
         Call::Background => draw(Ink::WithBackground { fg: 1, bg: 2 }, buffer),

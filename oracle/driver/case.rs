@@ -7,6 +7,9 @@ pub const ALIGNMENTS: usize = 3;
 pub struct Case {
     pub font: Vec<u8>,
     pub text: Vec<u8>,
+    /// what a step clears before it draws the text, and the colour it fills with
+    pub old_text: Vec<u8>,
+    pub clear_color: u8,
     pub x: i32,
     pub y: i32,
     pub line_height: u32,
@@ -37,13 +40,23 @@ pub enum Call {
     Draw(Ink),
     /// aligned drawing, of which only Left has a counterpart: plain drawing
     DrawAligned(Ink),
+    /// the redraw step, which the Rust has not: step.rs makes it of drawings
+    Redraw(Ink),
 }
 
 impl Call {
-    pub const NAMES: [&'static str; 7] =
-        ["open", "font box", "measure", "measure aligned", "draw, transparent", "draw, background", "draw aligned, Left"];
+    pub const NAMES: [&'static str; 8] = [
+        "open",
+        "font box",
+        "measure",
+        "measure aligned",
+        "draw, transparent",
+        "draw, background",
+        "draw aligned, Left",
+        "redraw",
+    ];
 
-    pub const ALL: [Call; 13] = [
+    pub const ALL: [Call; 15] = [
         Call::Open,
         Call::FontBox(0),
         Call::FontBox(1),
@@ -57,6 +70,8 @@ impl Call {
         Call::Draw(Ink::WithBackground),
         Call::DrawAligned(Ink::Transparent),
         Call::DrawAligned(Ink::WithBackground),
+        Call::Redraw(Ink::Transparent),
+        Call::Redraw(Ink::WithBackground),
     ];
 
     pub fn name(self) -> usize {
@@ -68,12 +83,13 @@ impl Call {
             Call::Draw(Ink::Transparent) => 4,
             Call::Draw(Ink::WithBackground) => 5,
             Call::DrawAligned(_) => 6,
+            Call::Redraw(_) => 7,
         }
     }
 
     pub fn ink(self) -> Option<Ink> {
         match self {
-            Call::Draw(ink) | Call::DrawAligned(ink) => Some(ink),
+            Call::Draw(ink) | Call::DrawAligned(ink) | Call::Redraw(ink) => Some(ink),
             _ => None,
         }
     }
@@ -126,7 +142,8 @@ impl Case {
         if call.ink().is_some() && !fits {
             return Some(3);
         }
-        if self.text.len() > 4096 || std::str::from_utf8(&self.text).is_err() {
+        let bad = |text: &[u8]| text.len() > 4096 || std::str::from_utf8(text).is_err();
+        if bad(&self.text) || matches!(call, Call::Redraw(_)) && bad(&self.old_text) {
             return Some(4);
         }
         let places = -1_048_576..=1_048_576;
@@ -141,9 +158,6 @@ impl Case {
         self.font[2..9].contains(&8)
     }
 
-    pub fn text_is(&self) -> String {
-        String::from_utf8_lossy(&self.text).escape_debug().to_string()
-    }
 }
 
 impl std::fmt::Display for Case {
@@ -155,11 +169,14 @@ impl std::fmt::Display for Case {
         };
         let bytes = |v: &[u8]| v.chunk_by(|a, b| a == b).map(run).collect::<Vec<_>>().join(" ");
         writeln!(f, "  font ({} bytes): {}", self.font.len(), bytes(&self.font))?;
-        writeln!(f, "  text: \"{}\" = {}", self.text_is(), bytes(&self.text))?;
+        for (name, text) in [("text", &self.text), ("old text", &self.old_text)] {
+            writeln!(f, "  {name}: \"{}\" = {}", String::from_utf8_lossy(text).escape_debug(), bytes(text))?;
+        }
         writeln!(
             f,
-            "  at ({}, {}), anchor {}, line height {}, skip {}, colours {} {}, framebuffer {} x {} of {} bytes",
-            self.x, self.y, self.anchor, self.line_height, self.skip, self.fg, self.bg, self.width, self.height, self.buffer.len()
+            "  at ({}, {}), anchor {}, line height {}, skip {}, colours {} {}, cleared with {}, framebuffer {} x {} of {} bytes",
+            self.x, self.y, self.anchor, self.line_height, self.skip, self.fg, self.bg, self.clear_color, self.width, self.height,
+            self.buffer.len()
         )
     }
 }

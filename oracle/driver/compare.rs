@@ -5,6 +5,7 @@ use std::collections::BTreeMap;
 use crate::case::{Answer, Call, Case, Outcome};
 use crate::rust_side;
 use crate::shrink::shrink;
+use crate::step;
 
 /// The panics of the Rust for which our answer need not be 8: docs/DIFFERENCES.md lists them.
 const LISTED: &[&str] = &["font_reader/glyph_renderer.rs:56: attempt to subtract with overflow"];
@@ -12,9 +13,9 @@ const LISTED: &[&str] = &["font_reader/glyph_renderer.rs:56: attempt to subtract
 /// What one call came to.
 pub enum Verdict {
     /// compared, and equal
-    Same(&'static str),
+    Same(String),
     /// the Rust panicked here, and ours is number 8 for the same letter
-    Eight(String),
+    Eight { what: String, site: String },
     /// not compared, for this reason
     NotCompared(&'static str),
     /// an answer that should not be
@@ -59,9 +60,24 @@ pub fn verdict(case: &Case, call: Call, ours: &Outcome) -> Verdict {
         if call.ink().is_some() && ours.buffer != case.buffer {
             return Verdict::Different("off limits: the framebuffer changed".to_string());
         }
-        return Verdict::Same(outcome_name(&ours.answer));
+        return Verdict::Same(outcome_name(&ours.answer).to_string());
     }
-    let rust = rust_side::call(case, call);
+    // a step is counted by whether there was a reading to clear
+    let mut over = "";
+    let rust = match call {
+        Call::Redraw(ink) => {
+            let step = step::of_drawings(case, ink, rust_side::call);
+            match &step.old {
+                Answer::Panicked { site, .. } if LISTED.contains(&site.as_str()) && !case.has_width_8() => {
+                    return Verdict::NotCompared("a listed panic of the old text");
+                }
+                Answer::Text { bounds: Some(_), .. } => over = ", over a reading",
+                _ => {}
+            }
+            step.outcome
+        }
+        _ => rust_side::call(case, call),
+    };
     let same = rust == *ours;
     if case.has_width_8() && !matches!(call, Call::Open | Call::FontBox(_)) {
         return Verdict::NotCompared(if same { "8 bits wide, and the same" } else { "8 bits wide, and different or a panic" });
@@ -70,7 +86,7 @@ pub fn verdict(case: &Case, call: Call, ours: &Outcome) -> Verdict {
         Answer::Panicked { code_point, site } => {
             let eight = Answer::Refused { number: 8, code_point: *code_point };
             if ours.answer == eight && ours.buffer == rust.buffer {
-                Verdict::Eight(without_numbers(site))
+                Verdict::Eight { what: format!("panic, and number 8{over}"), site: without_numbers(site) }
             } else if ours.answer == eight {
                 Verdict::Different("number 8: the framebuffers differ".to_string())
             } else if LISTED.contains(&site.as_str()) {
@@ -83,14 +99,14 @@ pub fn verdict(case: &Case, call: Call, ours: &Outcome) -> Verdict {
             Verdict::Different(format!("the Rust {}, ours {}", outcome_name(answer), outcome_name(&ours.answer)))
         }
         _ if !same => Verdict::Different("the framebuffers differ".to_string()),
-        answer => Verdict::Same(outcome_name(answer)),
+        answer => Verdict::Same(format!("{}{over}", outcome_name(answer))),
     }
 }
 
 #[derive(Default)]
 pub struct Tally {
     pub calls: u64,
-    pub counts: BTreeMap<(usize, &'static str), u64>,
+    pub counts: BTreeMap<(usize, String), u64>,
     /// each kind of difference, with how often it came and a case of it
     pub different: BTreeMap<(usize, String), (u64, Case)>,
     /// a case of the listed panic
@@ -100,17 +116,22 @@ pub struct Tally {
 }
 
 impl Tally {
+    fn count(&mut self, call: Call, what: String) {
+        *self.counts.entry((call.name(), what)).or_default() += 1;
+    }
+
     pub fn add(&mut self, case: &Case, call: Call, verdict: Verdict) {
         self.calls += 1;
         match verdict {
-            Verdict::Same(what) | Verdict::NotCompared(what) => {
-                *self.counts.entry((call.name(), what)).or_default() += 1;
+            Verdict::Same(what) => self.count(call, what),
+            Verdict::NotCompared(what) => {
+                self.count(call, what.to_string());
                 if what == "a listed panic" && self.listed.is_none() {
                     self.listed = Some(case.clone());
                 }
             }
-            Verdict::Eight(site) => {
-                *self.counts.entry((call.name(), "panic, and number 8")).or_default() += 1;
+            Verdict::Eight { what, site } => {
+                self.count(call, what);
                 *self.sites.entry(site).or_default() += 1;
             }
             Verdict::Different(what) => {

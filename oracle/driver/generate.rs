@@ -12,6 +12,8 @@ pub struct Cases {
     random: Random,
     fonts: VecDeque<Font>,
     sequences: Option<Sequences>,
+    /// The old texts have a stream of their own too, so that a seed's other inputs stay as they are.
+    old: Random,
 }
 
 impl Cases {
@@ -21,7 +23,7 @@ impl Cases {
 
     /// The same cases without the sequences of sequences.rs: the stored answers are chosen from these.
     pub fn plain(seed: u64) -> Self {
-        Cases { random: Random::new(seed), fonts: VecDeque::new(), sequences: None }
+        Cases { random: Random::new(seed), fonts: VecDeque::new(), sequences: None, old: Random::new(seed.rotate_left(32) ^ 1) }
     }
 
     pub fn next(&mut self) -> Case {
@@ -29,7 +31,9 @@ impl Cases {
             self.round();
         }
         let font = self.fonts.pop_front().expect("a round has fonts");
-        let mut case = case(&mut self.random, font);
+        let old_text = text(&mut self.old, &font.codes);
+        let clear_color = self.old.byte();
+        let mut case = Case { old_text, clear_color, ..case(&mut self.random, font) };
         if let Some(sequences) = &mut self.sequences {
             sequences.put(&mut case.text);
         }
@@ -153,6 +157,8 @@ fn case(r: &mut Random, font: Font) -> Case {
     Case {
         font: font.bytes,
         text,
+        old_text: Vec::new(),
+        clear_color: 0,
         x: place(r, width),
         y: place(r, height),
         line_height: line_height(r),

@@ -18,6 +18,7 @@ mod record;
 mod rust_side;
 mod sequences;
 mod shrink;
+mod step;
 
 use case::{Call, Case, Outcome};
 

@@ -4,6 +4,7 @@ use std::io::{BufRead, BufReader, Write};
 use std::process::{Child, ChildStdin, ChildStdout, Command, Stdio};
 
 use crate::case::{Answer, Area, Call, Case, Ink, Outcome};
+use crate::step;
 
 pub struct Model {
     _child: Child,
@@ -25,12 +26,15 @@ impl Model {
     }
 
     pub fn call(&mut self, case: &Case, call: Call) -> Outcome {
+        if let Call::Redraw(ink) = call {
+            return step::of_drawings(case, ink, |c, call| self.call(c, call)).outcome;
+        }
         let (kind, which) = match call {
             Call::Open => (0, 0),
             Call::FontBox(anchor) => (1, anchor),
             Call::Measure => (2, 0),
             Call::Aligned(align) => (3, align),
-            Call::Draw(ink) | Call::DrawAligned(ink) => (4, (ink == Ink::WithBackground) as usize),
+            Call::Draw(ink) | Call::DrawAligned(ink) | Call::Redraw(ink) => (4, (ink == Ink::WithBackground) as usize),
         };
         let hex = |v: &[u8]| v.iter().map(|b| format!("{b:02x}")).collect::<String>();
         let buffer: &[u8] = if kind == 4 { &case.buffer } else { &[] };
@@ -71,7 +75,7 @@ impl Model {
                 Answer::Open(values)
             }
             Call::FontBox(_) => Answer::FontBox(area(0).expect("a box")),
-            Call::Measure | Call::Draw(_) => {
+            Call::Measure | Call::Draw(_) | Call::Redraw(_) => {
                 Answer::Text { advance: (number(0) as i32, number(1) as i32), bounds: area(2) }
             }
             Call::Aligned(_) => Answer::Bounds(area(0)),

@@ -10,6 +10,7 @@ use u8g2_fonts::{Content, Error, FontRenderer, LookupError};
 
 use crate::case::{Answer, Area, Call, Case, Ink, Outcome};
 use crate::display::{Colour, Display};
+use crate::step;
 
 thread_local! {
     static SITE: RefCell<String> = const { RefCell::new(String::new()) };
@@ -137,6 +138,9 @@ pub unsafe fn lent(font: &[u8]) -> &'static [u8] {
 
 /// What the Rust answers to a call that is within limits.
 pub fn call(case: &Case, call: Call) -> Outcome {
+    if let Call::Redraw(ink) = call {
+        return step::of_drawings(case, ink, self::call).outcome;
+    }
     // The renderer below lives no longer than this function, and the font longer.
     let font = unsafe { lent(&case.font) };
     let letter = Cell::new(0);
@@ -161,7 +165,7 @@ pub fn call(case: &Case, call: Call) -> Outcome {
         Call::Aligned(align) => renderer()
             .get_rendered_dimensions_aligned(text(), position, anchor, alignment_of(align))
             .map_or_else(missing, |b| Answer::Bounds(b.map(area_of))),
-        Call::Draw(ink) => {
+        Call::Draw(ink) | Call::Redraw(ink) => {
             renderer().render(text(), position, anchor, color(ink), &mut display).map_or_else(refusal, text_answer)
         }
         Call::DrawAligned(ink) => renderer()

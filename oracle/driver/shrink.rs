@@ -62,11 +62,16 @@ impl<S: FnMut(&Case) -> bool> Shrink<S> {
     }
 
     fn fewer_letters(&mut self) {
-        let text = self.case.text.clone();
+        self.fewer_letters_of(|c| &mut c.text);
+        self.fewer_letters_of(|c| &mut c.old_text);
+    }
+
+    fn fewer_letters_of(&mut self, of: fn(&mut Case) -> &mut Vec<u8>) {
+        let text = of(&mut self.case).clone();
         let mut letters = letters(&text);
         chunks(letters.len(), |range| {
             let fewer = [&letters[..range.start], &letters[range.end..]].concat();
-            let gone = self.attempt(|c| c.text = fewer.concat());
+            let gone = self.attempt(|c| *of(c) = fewer.concat());
             if gone {
                 letters = fewer;
             }
@@ -94,7 +99,7 @@ impl<S: FnMut(&Case) -> bool> Shrink<S> {
         self.attempt(|c| c.line_height = 0);
         self.attempt(|c| c.skip = false);
         self.attempt(|c| c.anchor = 0);
-        self.attempt(|c| (c.fg, c.bg) = (1, 0));
+        self.attempt(|c| (c.fg, c.bg, c.clear_color) = (1, 0, 2));
     }
 
     /// A whole header stays.

@@ -74,6 +74,8 @@ fn some_case(font: Vec<u8>, text: &[u8]) -> Case {
     Case {
         font,
         text: text.to_vec(),
+        old_text: text.to_vec(),
+        clear_color: 5,
         x: -7,
         y: i32::MIN,
         line_height: u32::MAX,
@@ -94,7 +96,7 @@ fn shrinks_what_is_empty() {
             let case = some_case(font.clone(), text);
             assert!(shrink(case.clone(), |_| false) == case);
             let least = shrink(case, |_| true);
-            assert_eq!((least.text.len(), least.font.iter().max()), (0, least.font.iter().min()));
+            assert_eq!((least.text.len() + least.old_text.len(), least.font.iter().max()), (0, least.font.iter().min()));
             assert_eq!(least.font.len(), if font.len() < 23 { 0 } else { 23 });
             assert_eq!((least.x, least.y, least.line_height, least.skip, least.anchor), (0, 0, 0, false, 0));
             assert_eq!((least.width, least.height, least.buffer), (1, 1, vec![0]));
