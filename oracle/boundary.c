@@ -87,6 +87,8 @@ static int readings(void) {
     if (!alone("--")) return 31;
     fill();
     if (plain_step(DAMAGED, "-4-", "--") != 0 || !as_expected()) return 32;
+    /* for an old text that is not drawn nothing is filled */
+    if (plain_step(DAMAGED, "-4-", "") != 0 || !as_expected()) return 33;
     return 0;
 }
 
