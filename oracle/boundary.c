@@ -35,7 +35,7 @@ static uint32_t aligned(uint32_t anchor, uint32_t align, uint32_t skip, size_t r
 /* Of T cut to 32 bytes "4" can be measured but not drawn. */
 #define DAMAGED 32
 
-static const int64_t refused_nothing[8] = {0};
+static const int64_t zeros[8] = {0};
 static uint8_t expected[64];
 
 /* A step on the buffer as it is. */
@@ -62,7 +62,7 @@ static int as_expected(void) { return memcmp(buffer, expected, 64) == 0; }
 
 /* Refused by one of 1 to 6: zeros are stored, and the buffer is as it was. */
 static int still(uint32_t status, uint32_t number) {
-    return status == number && memcmp(out, refused_nothing, sizeof refused_nothing) == 0 && out[8] == 77 && as_expected();
+    return status == number && memcmp(out, zeros, sizeof zeros) == 0 && out[8] == 77 && as_expected();
 }
 
 static int readings(void) {

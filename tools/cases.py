@@ -12,7 +12,7 @@ import make_font
 import model as m
 import oracle_cases
 
-OPEN, FONT_BOX, MEASURE, ALIGNED, DRAW = range(5)
+OPEN, FONT_BOX, MEASURE, ALIGNED, DRAW, REDRAW = range(6)
 
 # ---- fonts
 
@@ -82,8 +82,8 @@ def show_panel(panel, before, width, height):
 
 
 def case(label, kind, font, text=b'', x=0, y=0, anchor=0, align=0, line=4, skip=False, ink=(1,), size=(8, 8), fill=0,
-         length=None, want=None):
-    text = text.encode('utf-8') if isinstance(text, str) else text
+         length=None, want=None, old='', clear=0):
+    text, old = (t.encode('utf-8') if isinstance(t, str) else t for t in (text, old))
     width, height = size
     length = width * height if length is None else length
     lines = []
@@ -98,12 +98,16 @@ def case(label, kind, font, text=b'', x=0, y=0, anchor=0, align=0, line=4, skip=
     else:
         before = bytes((fill + i % 3 * (fill > 0)) % 256 for i in range(length))
         panel = bytearray(before)
-        answer = m.draw(font, text, x, y, anchor, ink, line, skip, width, height, panel)
+        if kind == DRAW:
+            answer = m.draw(font, text, x, y, anchor, ink, line, skip, width, height, panel)
+        else:
+            answer = m.redraw(font, old, text, x, y, anchor, ink, line, clear, width, height, panel)
         lines = show_panel(panel, before, width, height)
     if want is not None and not meets(say(answer), want):
         sys.exit('%s: model says %s, wanted %s' % (label, say(answer), want))
     out = [label + ': ' + say(answer)] + lines
-    CASES.append((label, kind, font, text, x, y, anchor, align, line, skip, ink, size, fill, length, out))
+    step = (len(old), clear)
+    CASES.append((label, kind, font, old + text, x, y, anchor, align, line, skip, ink, size, fill, length, step, out))
 
 
 def segments(data):
@@ -139,9 +143,9 @@ def packed(data):
 
 
 def record(c):
-    label, kind, font, text, x, y, anchor, align, line, skip, ink, size, fill, length, _ = c
-    numbers = (kind, x, y, anchor, align, line, int(skip), len(ink) - 1, ink[0], ink[-1], size[0], size[1], fill, length)
-    return packed(label.encode()) + packed(font) + packed(text) + struct.pack('<IiiIIIIIIIIIII', *numbers)
+    label, kind, font, text, x, y, anchor, align, line, skip, ink, size, fill, length, step, _ = c
+    numbers = (kind, x, y, anchor, align, line, int(skip), len(ink) - 1, ink[0], ink[-1], size[0], size[1], fill, length, *step)
+    return packed(label.encode()) + packed(font) + packed(text) + struct.pack('<IiiIIIIIIIIIIIII', *numbers)
 
 
 # ---- opening and the font box
@@ -369,6 +373,38 @@ look('the longest jump table, U+0100', LONGEST, '\u0100', 'no 7 256')
 draw('the longest font, -4 drawn', LONGEST, '-4', None, x=2, y=4)
 for name, kind in (('opened', OPEN), ('measured', MEASURE), ('drawn', DRAW)):
     case('a byte too long, ' + name, kind, LONGEST + bytes(1), '-4', want='no 1 0')
+
+# ---- the redraw step
+
+
+def redraw(label, font, old, new, want, **more):
+    settings = {'y': 4, 'fill': 5, 'clear': 9}
+    settings.update(more)
+    case('redraw ' + label, REDRAW, font, new, old=old, want=want, **settings)
+
+
+# of CUT the "4" can be measured but not drawn
+CUT = T[:32]
+redraw('-4 over 4-', T, '4-', '-4', 'ok 6 0 0 1 5 3')
+redraw('- over -4, with background', GROUND, '-4', '-', 'ok 3 0 0 1 2 1', ink=(1, 2))
+redraw('the first reading', T, '', '-4', 'ok 6 0 0 1 5 3')
+redraw('no reading any more', T, '-4', '', 'ok 0 0 none')
+for x, y in ((-1, 3), (6, 4), (4, 9), (-40, 4)):
+    redraw('4- at %d, %d' % (x, y), GROUND, '-4-', '4-', None, x=x, y=y, ink=(1, 2))
+for anchor, name in enumerate(('Baseline', 'Top', 'Center', 'Bottom')):
+    redraw('one line over two, ' + name, T, '4-\n-', '4', None, anchor=anchor, y=5)
+redraw('7 in the new text', T, '4-', '-A4', 'no 7 65')
+redraw('8 in the new text', CUT, '--', '-4', 'no 8 52')
+redraw('over a text that does not draw', CUT, '-4', '-', 'ok 3 0 0 1 2 1')
+redraw('8 over a text that does not draw', CUT, '-4', 'B', 'no 8 66')
+redraw('no letter is skipped', T, '-A', 'A', 'no 7 65', skip=True)
+redraw('1 before the rest', T[:22], bytes([255]), bytes([255]), 'no 1 0', size=(0, 0))
+redraw('2 before the rest', but(T, (4, 9)), bytes([255]), bytes([255]), 'no 2 0', size=(0, 0))
+redraw('3 before the old text', T, bytes([255]), '-', 'no 3 0', length=63)
+redraw('4 of the old text', T, bytes([45, 255]), '-', 'no 4 0', x=1048577, ink=(1, 2))
+redraw('4 of the new text', T, '-4', bytes([45, 255]), 'no 4 0', x=1048577, ink=(1, 2))
+redraw('5 before 6', T, '-4', 'A', 'no 5 0', line=65536, ink=(1, 2))
+redraw('6 before letters', T, '-4', 'A', 'no 6 0', ink=(1, 2))
 
 # ---- what the Rust answered
 

@@ -1,6 +1,6 @@
 """Document 01's rules, written a second time in Python, to work out what the case programs must print.
 
-It is written from 01 alone and shares nothing with the crates. cases.py beside it writes the stored outputs.
+It is written from 01 alone, but for `redraw`, our own step made of 01's drawings, and shares nothing with the crates. cases.py beside it writes the stored outputs.
 A refusal is ('no', number, code point).
 """
 
@@ -261,3 +261,25 @@ def draw(f, text, x, y, anchor, ink, line, skip, width, height, panel):
     except Refused as r:
         return ('no',) + r.args
     return ('ok', (ax, ay), box)
+
+
+def redraw(f, old, new, x, y, anchor, ink, line, clear, width, height, panel):
+    """The step from one reading to the next, made of drawings. The causes 1 to 6 of both texts come first. Then the old text's
+    box is filled if that text draws, and the new text is drawn if all of it does. The panel is changed in place."""
+    def drawn(text, on):
+        return draw(f, text, x, y, anchor, ink, line, False, width, height, on)
+
+    first = drawn(old, bytearray(panel))
+    causes = [answer for answer in (first, drawn(new, bytearray(panel))) if answer[0] == 'no' and answer[1] <= 6]
+    if causes:
+        return min(causes)
+    if first[0] == 'ok' and first[2]:
+        left, top, w, h = first[2]
+        for i in range(len(panel)):
+            if left <= i % width < left + w and top <= i // width < top + h:
+                panel[i] = clear
+    after = bytearray(panel)
+    answer = drawn(new, after)
+    if answer[0] == 'ok':
+        panel[:] = after
+    return answer

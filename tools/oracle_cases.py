@@ -39,7 +39,7 @@ def load(show_panel):
         if a['kind'] == 4:
             lines += show_panel(a['buffer'], filled(a['fill'], w * h), w, h)
         out.append((a['label'], a['kind'], a['font'], a['text'], a['x'], a['y'], a['anchor'], a['align'], a['line'], a['skip'],
-                    a['ink'], a['size'], a['fill'], w * h, lines))
+                    a['ink'], a['size'], a['fill'], w * h, (0, 0), lines))
     return out
 
 

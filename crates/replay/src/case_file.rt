@@ -37,7 +37,7 @@ pub fn signed_number(file: &[u8], at: usize) -> i32 {
     ((n as i64) - 4294967296) as i32
 }
 
-fn least(a: usize, b: usize) -> usize
+pub fn least(a: usize, b: usize) -> usize
     ensures { λ r. ⌜ (r ≤ a) × (r ≤ b) ⌝ }
 {
     if a < b { a } else { b }

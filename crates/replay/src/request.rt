@@ -1,4 +1,5 @@
 // A case's numbers, and the call that they ask for.
+use crate::case_file::least;
 use crate::case_file::number;
 use crate::case_file::signed_number;
 use crate::framebuffers;
@@ -7,6 +8,7 @@ use font_reader::new_from_raw_data;
 use measuring::font_bounding_box::get_font_bounding_box;
 use measuring::rendered_dimensions::get_rendered_dimensions;
 use measuring::rendered_dimensions_aligned::get_rendered_dimensions_aligned;
+use redraw::reading::redraw;
 use renderer::render::render;
 use types::geometry::BoundingBox;
 use types::geometry::Point;
@@ -21,7 +23,7 @@ use types::style::VerticalPosition;
 ghost use Prim.Native.Nat.{_≤_};
 
 // How many bytes the numbers of a case take.
-pub const SIZE: usize = 56;
+pub const SIZE: usize = 64;
 
 fn vertical_pos(code: u32) -> VerticalPosition {
     if code == 0 {
@@ -108,6 +110,51 @@ fn byte(file: &[u8], at: usize) -> u8 {
     (number(file, at) % 256) as u8
 }
 
+// Draws the text. A step has two, one behind the other: it clears the first and draws the second.
+fn draw_or_redraw(
+    file: &[u8],
+    at: usize,
+    font: &[u8],
+    text: &[u8],
+    position: Point,
+    style: FontStyle,
+    framebuffer: &mut [u8],
+) -> DimensionsResult
+    requires { ⌜ at ≤ 1048576 ⌝ }
+{
+    let line_height = number(file, at + 20);
+    let width = number(file, at + 40) as usize;
+    let height = number(file, at + 44) as usize;
+    if number(file, at) == 4 {
+        let skip = number(file, at + 24) == 1;
+        return render(
+            font,
+            text,
+            position,
+            style,
+            line_height,
+            skip,
+            width,
+            height,
+            framebuffer,
+        );
+    }
+    let old_len = least(number(file, at + 56) as usize, text.len());
+    let clear_color = byte(file, at + 60);
+    redraw(
+        font,
+        &text[..old_len],
+        &text[old_len..],
+        position,
+        style,
+        line_height,
+        clear_color,
+        width,
+        height,
+        framebuffer,
+    )
+}
+
 // Draws on a framebuffer with the contents that the case asks for, and prints the answer and the framebuffer.
 fn answer_draw(
     file: &[u8],
@@ -127,23 +174,11 @@ fn answer_draw(
         ),
         vertical_pos: vertical_pos(number(file, at + 12)),
     };
-    let line_height = number(file, at + 20);
-    let skip = number(file, at + 24) == 1;
     let width = number(file, at + 40) as usize;
     let height = number(file, at + 44) as usize;
     let fill = byte(file, at + 48);
     framebuffers::fill(&mut framebuffer[..], fill);
-    let result = render(
-        font,
-        text,
-        position,
-        style,
-        line_height,
-        skip,
-        width,
-        height,
-        &mut framebuffer[..],
-    );
+    let result = draw_or_redraw(file, at, font, text, position, style, &mut framebuffer[..]);
     print_dimensions(result);
     framebuffers::print(&framebuffer[..], fill, width, height);
 }
