@@ -1,4 +1,4 @@
-//! Tests of the driver's own parts: the sequences in the texts, and shrinking.
+//! Tests of the driver's own parts: the sequences in the texts, the step made of drawings, and shrinking.
 
 mod case;
 mod fonts;
@@ -6,8 +6,9 @@ mod generate;
 mod random;
 mod sequences;
 mod shrink;
+mod step;
 
-use case::{Call, Case};
+use case::{Answer, Area, Call, Case, Ink, Outcome};
 use generate::Cases;
 use random::Random;
 use sequences::{MALFORMED, WELL_FORMED};
@@ -87,6 +88,45 @@ fn some_case(font: Vec<u8>, text: &[u8]) -> Case {
         height: 5,
         buffer: vec![6; 15],
     }
+}
+
+/// Draws a letter as a pixel. A digit refuses with its number: 1 to 6 before anything is drawn, 7 and 8 where it stands.
+fn toy_draw(case: &Case, _: Call) -> Outcome {
+    let mut buffer = case.buffer.clone();
+    for (i, b) in case.text.iter().enumerate() {
+        match b {
+            b'1'..=b'6' => {
+                return Outcome { answer: Answer::Refused { number: u32::from(b - b'0'), code_point: 0 }, buffer: case.buffer.clone() }
+            }
+            b'7' | b'8' => return Outcome { answer: Answer::Refused { number: u32::from(b - b'0'), code_point: 99 }, buffer },
+            _ => buffer[i] = case.fg,
+        }
+    }
+    let width = case.text.len() as u32;
+    let bounds = (width > 0).then_some(Area { left: 0, top: 0, width, height: 1 });
+    Outcome { answer: Answer::Text { advance: (width as i32, 0), bounds }, buffer }
+}
+
+#[test]
+fn a_step_is_made_of_drawings() {
+    let after = |old: &[u8], new: &[u8]| {
+        let case = Case { old_text: old.to_vec(), ..some_case(vec![], new) };
+        let outcome = step::of_drawings(&case, Ink::Transparent, toy_draw).outcome;
+        let number = if let Answer::Refused { number, .. } = outcome.answer { number } else { 0 };
+        assert_eq!(outcome.buffer[3..], [6; 12]);
+        (number, [outcome.buffer[0], outcome.buffer[1], outcome.buffer[2]])
+    };
+    // the ground is 6, the colour to clear with 5, the ink 9
+    assert_eq!(after(b"abc", b"d"), (0, [9, 5, 5]));
+    assert_eq!(after(b"", b"de"), (0, [9, 9, 6]));
+    assert_eq!(after(b"ab", b""), (0, [5, 5, 6]));
+    assert_eq!(after(b"ab", b"d7"), (7, [5, 5, 6]));
+    assert_eq!(after(b"ab", b"d8e"), (8, [5, 5, 6]));
+    assert_eq!(after(b"a7", b"d"), (0, [9, 6, 6]));
+    assert_eq!(after(b"a8", b"7"), (7, [6, 6, 6]));
+    assert_eq!(after(b"4", b"d"), (4, [6, 6, 6]));
+    assert_eq!(after(b"ab", b"6"), (6, [6, 6, 6]));
+    assert_eq!(after(b"5", b"4"), (4, [6, 6, 6]));
 }
 
 #[test]
