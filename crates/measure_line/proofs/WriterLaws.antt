@@ -1,37 +1,69 @@
 -- Laws of a line that is written piece by piece.
-use mathlib.Core.Path.{_≡_, _∙_}
-use mathlib.Core.List.{List, [], _++_, append-assoc, append-nil}
-use Prim.Native.Nat.{ℕ, suc, _+_, _<_}
+use mathlib.Core.Path.{_≡_, refl, sym, ap, subst, _∙_}
+use mathlib.Core.List.{List, [], _∷_, _++_, append-assoc, append-nil}
+use Prim.Native.Nat.{ℕ, _+_, _≤_, _<_}
 use native.Mathlib.Numerals.{add-one}
 use native.Mathlib.Omega.{arith}
-use lib.ListN.{length, take, getD, set}
-use lib.Seq.{take-suc, take-suc-set}
+use lib.IntN.{ℤ}
+use lib.ListN.{length, take, drop, getD, set, length-append, length-take}
+use lib.Seq.{take-at, drop-at, drop-drop, take-length, take-all, length-take-le, paste, paste-suc}
+use Rattle.io.specs.Counts.{Counts}
+use Rattle.io.proofs.Counting.{counts}
+use Rattle.definitions.specs.Line.{signedDecimal}
+use Rattle.measure_line.specs.Written.{written, Written}
 
 -- One byte more of s is stored.
-pub next-byte : (before out s : List ℕ) (at i : ℕ) → at + i < length out → i < length s → take (at + i) out ≡ take at before ++ take i s
-    → take (at + (i + 1)) (set out (at + i) (getD s i 0)) ≡ take at before ++ take (i + 1) s
-next-byte before out s at i h k e =
-    let n : at + (i + 1) ≡ suc (at + i) = omega arith in
-    rw (n, take-suc-set, e, add-one, take-suc s i 0, append-assoc)
+pub next-byte : (before out s : List ℕ) (at i : ℕ) → at + i < length before → i < length s → out ≡ paste before at s i
+    → set out (at + i) (getD s i 0) ≡ paste before at s (i + 1)
+next-byte before out s at i h k e = rw (e, add-one, paste-suc)
 
--- Pieces written one after the other onto a line b; w, x, y, z and v are the line after each.
-module _ (b p q : List ℕ) {w x : List ℕ} (first : w ≡ b ++ p) (second : x ≡ w ++ q) where
-  pub two-pieces : x ≡ b ++ (p ++ q)
-  two-pieces = second ∙ rw first (append-assoc b p q)
+-- All of s is stored.
+pub all-bytes : (before out s : List ℕ) (at i : ℕ) → i ≡ length s → out ≡ paste before at s i → Written before at s (at + i) out
+all-bytes before out s at i e f = record { ends = rw e; whole = f ∙ rw (e, take-length) }
 
-  module _ (r : List ℕ) {y : List ℕ} (third : y ≡ x ++ r) where
-    pub three-pieces : y ≡ b ++ (p ++ (q ++ r))
-    three-pieces = third ∙ rw two-pieces (simp append-assoc)
+-- the same piece, spelled otherwise
+pub spelled-as : {before after p q : List ℕ} {at end : ℕ} → p ≡ q → Written before at p end after → Written before at q end after
+spelled-as {before} {after} {p} {q} {at} {end} e w = subst (λ (l : List ℕ). Written before at l end after) e w
 
-    module _ (s : List ℕ) {z : List ℕ} (fourth : z ≡ y ++ s) where
-      -- four words, each with its space
-      pub four-words : z ≡ b ++ (p ++ (q ++ (r ++ (s ++ []))))
-      four-words = fourth ∙ rw three-pieces (simp (append-assoc, append-nil))
+-- .. and the same word, its number given otherwise
+pub word-of : {before after : List ℕ} {at end : ℕ} {y z : ℤ} → y ≡ z → Written before at (32 ∷ signedDecimal y) end after → Written before at (32 ∷ signedDecimal z) end after
+word-of e w = spelled-as (ap (λ (z : ℤ). 32 ∷ signedDecimal z) e) w
 
-      -- a first word, two more and a newline
-      pub refusal-ends : z ≡ b ++ (p ++ ((q ++ (r ++ [])) ++ s))
-      refusal-ends = fourth ∙ rw three-pieces (simp (append-assoc, append-nil))
+-- Two pieces, one behind the other, are one piece.
+module _ {before middle after p q : List ℕ} {at m end : ℕ} (h : at ≤ length before) where
+  pub then : Written before at p m middle → Written middle m q end after → Written before at (p ++ q) end after
+  then v w =
+      let front : List ℕ = take at before ++ p in
+      let l : length front ≡ m = length-append (take at before) p ∙ rw (length-take-le at before h) (sym (v .ends)) in
+      let n : at + length p + length q ≡ at + length (p ++ q) = omega (arith, length-append p q) in
+      let start : take m middle ≡ front = rw (v .whole) (take-at front (drop (at + length p) before) m l) in
+      let behind : drop (m + length q) middle ≡ drop (at + length (p ++ q)) before =
+      sym (drop-drop (length q) m middle) ∙ ap (drop (length q)) (rw (v .whole) (drop-at front (drop (at + length p) before) m l))
+      ∙ drop-drop (length q) (at + length p) before ∙ ap (λ (k : ℕ). drop k before) n in
+      record {
+        ends = omega (arith, v .ends, w .ends);
+        whole = w .whole ∙ rw (start, behind) (simp append-assoc);
+      }
 
-      -- a first word, two more, a box and a newline
-      pub success-ends : (t : List ℕ) {v : List ℕ} → v ≡ z ++ t → v ≡ b ++ (p ++ ((q ++ (r ++ s)) ++ t))
-      success-ends t fifth = fifth ∙ rw (fourth, three-pieces) (simp append-assoc)
+-- The piece ends within the buffer.
+pub counted : {before p after : List ℕ} {at end : ℕ} → at ≤ length before → Written before at p end after → Counts end after
+counted {before} {p} {after} {at} {end} h w =
+    counts end after
+    (rw (w .whole) (omega (arith, w .ends, length-append (take at before ++ p) (drop (at + length p) before), length-append (take at before) p, length-take-le at before h)))
+
+-- Four pieces and five, as the definition of the line brackets them.
+module _ {o v x y z p q r s : List ℕ} {at a b c d : ℕ} (h : at ≤ length o) (first : Written o at p a v) (second : Written v a q b x) (third : Written x b r c y) (fourth : Written y c s d z) where
+  pub four-pieces : Written o at (p ++ q ++ r ++ s) d z
+  four-pieces = then h (then h (then h first second) third) fourth
+
+  -- four words, each with its space
+  pub four-words : Written o at (p ++ (q ++ (r ++ (s ++ [])))) d z
+  four-words = spelled-as (simp (append-assoc, append-nil)) four-pieces
+
+  -- a first word, two more and a newline
+  pub refusal-ends : Written o at (p ++ (q ++ (r ++ [])) ++ s) d z
+  refusal-ends = spelled-as (simp (append-assoc, append-nil)) four-pieces
+
+  -- a first word, two more, a box and a newline
+  pub success-ends : {w t : List ℕ} {e : ℕ} → Written z d t e w → Written o at (p ++ (q ++ (r ++ s)) ++ t) e w
+  success-ends fifth = spelled-as (simp append-assoc) (then h four-pieces fifth)

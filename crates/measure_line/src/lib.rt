@@ -1,14 +1,15 @@
 // The line that the measuring program prints (01, the end of "Font T and its readings").
+pub mod program;
 pub mod writer;
 
 ghost use mathlib.Core.Path.{_≡_};
-ghost use mathlib.Core.List.{_++_};
 ghost use Prim.Native.Nat.{_+_, _≤_};
-ghost use lib.ListN.{length, take};
+ghost use lib.ListN.{length};
 ghost use Rattle.io.specs.Counts.{Counts};
 ghost use Rattle.definitions.specs.Refusals.{success, refusal};
 ghost use Rattle.definitions.specs.Calls.{dimensionsOutcome};
 ghost use Rattle.definitions.specs.Line.{spaced, boxWords, outcomeLine, measuredByProgram, measuringLine};
+ghost use Rattle.measure_line.specs.Written.{Written};
 use font_reader::new_from_raw_data;
 use measuring::rendered_dimensions::get_rendered_dimensions;
 use types::error::Error;
@@ -28,7 +29,7 @@ use writer::append_unsigned;
 // Left, top, width and height.
 fn append_rectangle(out: &mut [u8], at: usize, r: Rectangle) -> usize
     requires { ⌜ at + 46 ≤ length (now out) ⌝ }
-    ensures { λ n. ⌜ (n ≤ at + 46) × (take n (now (out .exit)) ≡ take at (now (out .entry)) ++ spaced (boxWords (BoundingBox.Some r))) ⌝ }
+    ensures { λ n. ⌜ (n ≤ at + 46) × Written (now (out .entry)) at (spaced (boxWords (BoundingBox.Some r))) n (now (out .exit)) ⌝ }
 {
     let left = append_signed(out, at, r.top_left.x);
     let top = append_signed(out, left, r.top_left.y);
@@ -38,7 +39,7 @@ fn append_rectangle(out: &mut [u8], at: usize, r: Rectangle) -> usize
 
 fn append_bounding_box(out: &mut [u8], at: usize, b: BoundingBox) -> usize
     requires { ⌜ at + 46 ≤ length (now out) ⌝ }
-    ensures { λ n. ⌜ (n ≤ at + 46) × (take n (now (out .exit)) ≡ take at (now (out .entry)) ++ spaced (boxWords b)) ⌝ }
+    ensures { λ n. ⌜ (n ≤ at + 46) × Written (now (out .entry)) at (spaced (boxWords b)) n (now (out .exit)) ⌝ }
 {
     match b {
         BoundingBox::None => append(out, at, b" none"),
@@ -46,9 +47,11 @@ fn append_bounding_box(out: &mut [u8], at: usize, b: BoundingBox) -> usize
     }
 }
 
-fn success_line(out: &mut [u8], d: RenderedDimensions) -> usize
-    requires { ⌜ 73 ≤ length (now out) ⌝ }
-    ensures { λ n. ⌜ (n ≤ 73) × (take n (now (out .exit)) ≡ outcomeLine (success d)) ⌝ }
+// The longest line: `ok`, four signed numbers, two unsigned ones, a space before each, and the newline.
+pub const LINE_ROOM: usize = 73;
+
+fn success_line(out: &mut [u8; LINE_ROOM], d: RenderedDimensions) -> usize
+    ensures { λ n. ⌜ Written (now (out .entry)) 0 (outcomeLine (success d)) n (now (out .exit)) ⌝ }
 {
     let ok = append(out, 0, b"ok");
     let x = append_signed(out, ok, d.advance.x);
@@ -58,9 +61,8 @@ fn success_line(out: &mut [u8], d: RenderedDimensions) -> usize
     append(out, end, b"\n")
 }
 
-fn refusal_line(out: &mut [u8], e: Error) -> usize
-    requires { ⌜ 73 ≤ length (now out) ⌝ }
-    ensures { λ n. ⌜ (n ≤ 73) × (take n (now (out .exit)) ≡ outcomeLine (refusal e)) ⌝ }
+fn refusal_line(out: &mut [u8; LINE_ROOM], e: Error) -> usize
+    ensures { λ n. ⌜ Written (now (out .entry)) 0 (outcomeLine (refusal e)) n (now (out .exit)) ⌝ }
 {
     let number = error_number(e);
     let code_point = error_code_point(e);
@@ -70,9 +72,8 @@ fn refusal_line(out: &mut [u8], e: Error) -> usize
     append(out, end, b"\n")
 }
 
-fn result_line(out: &mut [u8], result: DimensionsResult) -> usize
-    requires { ⌜ 73 ≤ length (now out) ⌝ }
-    ensures { λ n. ⌜ (n ≤ 73) × (take n (now (out .exit)) ≡ outcomeLine (dimensionsOutcome result)) ⌝ }
+fn result_line(out: &mut [u8; LINE_ROOM], result: DimensionsResult) -> usize
+    ensures { λ n. ⌜ Written (now (out .entry)) 0 (outcomeLine (dimensionsOutcome result)) n (now (out .exit)) ⌝ }
 {
     match result {
         DimensionsResult::Ok(d) => success_line(out, d),
@@ -102,11 +103,9 @@ fn measured(font: &[u8], text: &[u8]) -> DimensionsResult
     }
 }
 
-// Writes the line to the start of `out` and answers its length. The longest line has 73 bytes: `ok`,
-// four signed numbers, two unsigned ones, a space before each, and the newline.
-pub fn measure_line(font: &[u8], text: &[u8], out: &mut [u8]) -> usize
-    requires { ⌜ 73 ≤ length (now out) ⌝ }
-    ensures { λ n. ⌜ Counts n (now (out .exit)) × (take n (now (out .exit)) ≡ measuringLine (now (font .entry)) (now (text .entry))) ⌝ }
+// Writes the line to the start of `out` and answers its length. What stands behind the line stays.
+pub fn measure_line(font: &[u8], text: &[u8], out: &mut [u8; LINE_ROOM]) -> usize
+    ensures { λ n. ⌜ Counts n (now (out .exit)) × Written (now (out .entry)) 0 (measuringLine (now (font .entry)) (now (text .entry))) n (now (out .exit)) ⌝ }
 {
     let result = measured(font, text);
     result_line(out, result)

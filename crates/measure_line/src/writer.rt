@@ -1,14 +1,15 @@
-// A line is written piece by piece: what stood before the position, then the piece.
-ghost use mathlib.Core.Path.{_≡_};
-ghost use mathlib.Core.List.{_∷_, _++_};
+// A line is written piece by piece: each function writes at `at` and answers where its piece ends. The
+// rest of the buffer stays as it was.
+ghost use mathlib.Core.List.{_∷_};
 ghost use Prim.Native.Nat.{_+_, _≤_};
-ghost use lib.ListN.{length, take};
+ghost use lib.ListN.{length};
 ghost use Rattle.definitions.specs.Line.{decimal, signedDecimal};
+ghost use Rattle.measure_line.specs.Written.{Written};
 use utils::number::magnitude;
 
 pub fn append(out: &mut [u8], at: usize, s: &[u8]) -> usize
     requires { ⌜ at + length (now s) ≤ length (now out) ⌝ }
-    ensures { λ r. ⌜ (r ≡ at + length (now (s .entry))) × (take r (now (out .exit)) ≡ take at (now (out .entry)) ++ now (s .entry)) ⌝ }
+    ensures { λ r. ⌜ Written (now (out .entry)) at (now (s .entry)) r (now (out .exit)) ⌝ }
 {
     let mut i = 0;
     while i < s.len() {
@@ -21,7 +22,7 @@ pub fn append(out: &mut [u8], at: usize, s: &[u8]) -> usize
 // The digits of a number, of which a u32 has at most ten.
 fn append_decimal(out: &mut [u8], at: usize, n: u32) -> usize
     requires { ⌜ at + 10 ≤ length (now out) ⌝ }
-    ensures { λ r. ⌜ (r ≤ at + 10) × (take r (now (out .exit)) ≡ take at (now (out .entry)) ++ decimal n) ⌝ }
+    ensures { λ r. ⌜ (r ≤ at + 10) × Written (now (out .entry)) at (decimal n) r (now (out .exit)) ⌝ }
 {
     let mut digits = [0u8; 20];
     let k = io::decimal(n as u64, &mut digits);
@@ -31,7 +32,7 @@ fn append_decimal(out: &mut [u8], at: usize, n: u32) -> usize
 // A number after a space.
 pub fn append_unsigned(out: &mut [u8], at: usize, n: u32) -> usize
     requires { ⌜ at + 11 ≤ length (now out) ⌝ }
-    ensures { λ r. ⌜ (r ≤ at + 11) × (take r (now (out .exit)) ≡ take at (now (out .entry)) ++ 32 ∷ decimal n) ⌝ }
+    ensures { λ r. ⌜ (r ≤ at + 11) × Written (now (out .entry)) at (32 ∷ decimal n) r (now (out .exit)) ⌝ }
 {
     let next = append(out, at, b" ");
     append_decimal(out, next, n)
@@ -39,7 +40,7 @@ pub fn append_unsigned(out: &mut [u8], at: usize, n: u32) -> usize
 
 pub fn append_signed(out: &mut [u8], at: usize, n: i32) -> usize
     requires { ⌜ at + 12 ≤ length (now out) ⌝ }
-    ensures { λ r. ⌜ (r ≤ at + 12) × (take r (now (out .exit)) ≡ take at (now (out .entry)) ++ 32 ∷ signedDecimal n) ⌝ }
+    ensures { λ r. ⌜ (r ≤ at + 12) × Written (now (out .entry)) at (32 ∷ signedDecimal n) r (now (out .exit)) ⌝ }
 {
     if n < 0 {
         let next = append(out, at, b" -");

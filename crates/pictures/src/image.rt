@@ -1,17 +1,17 @@
 // A PGM image in its binary form: a head, and then the framebuffer's bytes.
-ghost use mathlib.Core.Path.{_≡_};
-ghost use Prim.Native.Nat.{_≤_};
-ghost use lib.ListN.{length, take};
 ghost use Rattle.io.specs.Counts.{Counts};
+ghost use Rattle.measure_line.specs.Written.{Written};
 ghost use Rattle.pictures.specs.Images.{pgmHead};
 use measure_line::writer::append;
 use measure_line::writer::append_unsigned;
 use types::geometry::Size;
 
-// Writes the head to the start of `out` and answers its length.
-fn write_head(size: Size, out: &mut [u8]) -> usize
-    requires { ⌜ 29 ≤ length (now out) ⌝ }
-    ensures { λ r. ⌜ Counts r (now (out .exit)) × (take r (now (out .exit)) ≡ pgmHead (size .width) (size .height)) ⌝ }
+// The longest head: `P5`, two numbers of ten digits, each after a space, and `255` between newlines.
+const HEAD_ROOM: usize = 29;
+
+// Writes the head to the start of `out` and answers its length. What stands behind the head stays.
+fn write_head(size: Size, out: &mut [u8; HEAD_ROOM]) -> usize
+    ensures { λ r. ⌜ Counts r (now (out .exit)) × Written (now (out .entry)) 0 (pgmHead (size .width) (size .height)) r (now (out .exit)) ⌝ }
 {
     let start = append(out, 0, b"P5");
     let middle = append_unsigned(out, start, size.width);
@@ -26,7 +26,7 @@ pub fn write_image(path: &[u8], size: Size, pixels: &[u8]) {
         os::fail(path);
         return;
     }
-    let mut head = [0u8; 29];
+    let mut head = [0u8; HEAD_ROOM];
     let n = write_head(size, &mut head);
     io::write_all(file, &head[..n]);
     if !io::write_all(file, pixels) {

@@ -1,7 +1,7 @@
 -- By cases of the box.
-use mathlib.Core.Path.{_∙_}
 use native.Mathlib.Omega.{arith}
 use borrow.Author.Needs.{needs}
+use Rattle.measure_line.proofs.WriterLaws.{spelled-as}
 use Rattle.measure_line.proofs.append_bounding_box.Statement.{statement}
 use Rattle.measure_line.proofs.append_bounding_box.Tie as tie
 
@@ -24,13 +24,17 @@ same-length : tie.Need-same-length
 same-length c = search needs
 
 returns : tie.Need-returns
-returns c = (omega (arith, c .before .before .append .ensures .0), c .before .before .append .ensures .1 ∙ simp (c .before .before .before .before .before .enum-told .given .1))
+returns c =
+    let w = c .before .before .append .ensures in
+    (omega (arith, w .ends), spelled-as (simp (c .before .before .before .before .before .enum-told .given .1)) w)
 
 same-length-2 : tie.Need-same-length-2
 same-length-2 c = search needs
 
 returns-2 : tie.Need-returns-2
-returns-2 c = (c .before .before .append-rectangle .ensures .0, c .before .before .append-rectangle .ensures .1 ∙ simp (c .before .before .before .before .before .b .given .1))
+returns-2 c =
+    let w = c .before .before .append-rectangle .ensures in
+    (w .0, spelled-as (simp (c .before .before .before .before .before .b .given .1)) (w .1))
 
 pub append-bounding-box-spec : {M : Type 1} → statement M
 append-bounding-box-spec =

@@ -1,14 +1,11 @@
 -- Four words, each after its space.
-use mathlib.Core.List.{_∷_}
 use native.Mathlib.Omega.{arith}
-use lib.ListN.{take}
 use mir.Syntax.{w32}
-use mir.Val.{SFits, toZ, ofZ}
+use mir.Val.{SFits}
 use mir.Facts.{toZ-ofZ}
 use borrow.Author.Needs.{needs}
 use Rattle.definitions.specs.Geometry.{left, top}
-use Rattle.definitions.specs.Line.{decimal, signedDecimal}
-use Rattle.measure_line.proofs.WriterLaws.{four-words}
+use Rattle.measure_line.proofs.WriterLaws.{word-of, four-words}
 use Rattle.measure_line.proofs.append_rectangle.Statement.{statement}
 use Rattle.measure_line.proofs.append_rectangle.Tie as tie
 
@@ -29,22 +26,14 @@ same-length c = search needs
 
 returns : tie.Need-returns
 returns c =
-    let a = c .before .before .before .before .before .before .before .before .before .before .before .before .before .before .before .before .before .before .before .args in
-    let r = a .r in
+    let r = c .before .before .before .before .before .before .before .before .before .before .before .before .before .before .before .before .before .before .before .args .r in
     let fx : SFits w32 (left r) = search needs in
-    let fy : SFits w32 (top r) = search needs in (
-      omega arith,
-      simp (toZ-ofZ, fx, fy) at
-          (four-words (take (a .at) (a .out .now))
-          (32 ∷ signedDecimal (toZ w32 (ofZ w32 (left r))))
-          (32 ∷ signedDecimal (toZ w32 (ofZ w32 (top r))))
-          (c .before .before .before .before .before .before .before .before .before .before .before .before .before .before .before .append-signed .ensures .1)
-          (c .before .before .before .before .before .before .before .before .before .before .append-signed2 .ensures .1)
-          (32 ∷ decimal (r .size .width))
-          (c .before .before .before .before .before .before .append-unsigned .ensures .1)
-          (32 ∷ decimal (r .size .height))
-          (c .before .before .append-unsigned2 .ensures .1)),
-    )
+    let fy : SFits w32 (top r) = search needs in
+    let x = word-of (toZ-ofZ fx) (c .before .before .before .before .before .before .before .before .before .before .before .before .before .before .before .append-signed .ensures .1) in
+    let y = word-of (toZ-ofZ fy) (c .before .before .before .before .before .before .before .before .before .before .append-signed2 .ensures .1) in
+    let width = c .before .before .before .before .before .before .append-unsigned .ensures .1 in
+    let height = c .before .before .append-unsigned2 .ensures .1 in
+    (omega arith, four-words (omega arith) x y width height)
 
 pub append-rectangle-spec : {M : Type 1} → statement M
 append-rectangle-spec =

@@ -1,9 +1,11 @@
 -- What the pieces write, one after the other; the number and the code point are those of the error.
-use mathlib.Core.List.{[], _∷_}
+use mathlib.Core.Path.{ap}
+use mathlib.Core.List.{_∷_}
+use Prim.Native.Nat.{ℕ}
 use native.Mathlib.Omega.{arith}
 use borrow.Author.Needs.{needs}
 use Rattle.definitions.specs.Line.{decimal}
-use Rattle.measure_line.proofs.WriterLaws.{refusal-ends}
+use Rattle.measure_line.proofs.WriterLaws.{spelled-as, refusal-ends}
 use Rattle.measure_line.proofs.refusal_line.Statement.{statement}
 use Rattle.measure_line.proofs.refusal_line.Tie as tie
 
@@ -31,23 +33,12 @@ slice-aggregate-append-2 c = search needs
 append-requires-2 : tie.Need-append-requires-2
 append-requires-2 c κs = search needs
 
-same-length : tie.Need-same-length
-same-length c = search needs
-
 returns : tie.Need-returns
 returns c =
-    let n = c .before .before .before .before .before .before .before .before .before .before .before .before .before .before .before .before .before .before .before .error-number in
-    let k = c .before .before .before .before .before .before .before .before .before .before .before .before .before .before .before .before .before .before .error-code-point in (
-      omega arith,
-      simp (n .ensures, k .ensures) at
-          (refusal-ends [] (110 ∷ 111 ∷ []) (32 ∷ decimal (n .result))
-          (c .before .before .before .before .before .before .before .before .before .before .before .before .before .before .before .append .ensures .1)
-          (c .before .before .before .before .before .before .before .before .before .before .before .append-unsigned .ensures .1)
-          (32 ∷ decimal (k .result))
-          (c .before .before .before .before .before .before .before .append-unsigned2 .ensures .1)
-          (10 ∷ [])
-          (c .before .before .append2 .ensures .1)),
-    )
+    let no = c .before .before .before .before .before .before .before .append .ensures in
+    let number = spelled-as (ap (λ (n : ℕ). 32 ∷ decimal n) (c .before .before .before .before .before .before .before .before .before .before .before .error-number .ensures)) (c .before .before .before .before .before .append-unsigned .ensures .1) in
+    let point = spelled-as (ap (λ (n : ℕ). 32 ∷ decimal n) (c .before .before .before .before .before .before .before .before .before .before .error-code-point .ensures)) (c .before .before .before .append-unsigned2 .ensures .1) in
+    refusal-ends (omega arith) no number point (c .append2 .ensures)
 
 pub refusal-line-spec : {M : Type 1} → statement M
 refusal-line-spec =
@@ -61,5 +52,4 @@ refusal-line-spec =
     append-unsigned-requires-2
     slice-aggregate-append-2
     append-requires-2
-    same-length
     returns)

@@ -1,12 +1,10 @@
 -- What the pieces write, one after the other.
-use mathlib.Core.List.{[], _∷_}
 use native.Mathlib.Omega.{arith}
 use mir.Syntax.{w32}
-use mir.Val.{SFits, toZ, ofZ}
+use mir.Val.{SFits}
 use mir.Facts.{toZ-ofZ}
 use borrow.Author.Needs.{needs}
-use Rattle.definitions.specs.Line.{signedDecimal, spaced, boxWords}
-use Rattle.measure_line.proofs.WriterLaws.{success-ends}
+use Rattle.measure_line.proofs.WriterLaws.{word-of, success-ends}
 use Rattle.measure_line.proofs.success_line.Statement.{statement}
 use Rattle.measure_line.proofs.success_line.Tie as tie
 
@@ -31,26 +29,16 @@ slice-aggregate-append-2 c = search needs
 append-requires-2 : tie.Need-append-requires-2
 append-requires-2 c κs = search needs
 
-same-length : tie.Need-same-length
-same-length c = search needs
-
 returns : tie.Need-returns
 returns c =
-    let d = c .before .before .before .before .before .before .before .before .before .before .before .before .before .before .before .before .before .before .before .before .before .before .before .before .before .args .d in
+    let d = c .before .before .before .before .before .before .before .before .before .before .before .before .before .before .args .d in
     let fx : SFits w32 (d .advance .x) = search needs in
-    let fy : SFits w32 (d .advance .y) = search needs in (
-      omega arith,
-      simp (toZ-ofZ, fx, fy) at
-          (success-ends [] (111 ∷ 107 ∷ []) (32 ∷ signedDecimal (toZ w32 (ofZ w32 (d .advance .x))))
-          (c .before .before .before .before .before .before .before .before .before .before .before .before .before .before .before .before .before .before .before .before .before .append .ensures .1)
-          (c .before .before .before .before .before .before .before .before .before .before .before .before .before .before .before .before .append-signed .ensures .1)
-          (32 ∷ signedDecimal (toZ w32 (ofZ w32 (d .advance .y))))
-          (c .before .before .before .before .before .before .before .before .before .before .before .append-signed2 .ensures .1)
-          (spaced (boxWords (d .«bounding_box»)))
-          (c .before .before .before .before .before .before .before .append-bounding-box .ensures .1)
-          (10 ∷ [])
-          (c .before .before .append2 .ensures .1)),
-    )
+    let fy : SFits w32 (d .advance .y) = search needs in
+    let ok = c .before .before .before .before .before .before .before .before .before .before .before .append .ensures in
+    let x = word-of (toZ-ofZ fx) (c .before .before .before .before .before .before .before .before .append-signed .ensures .1) in
+    let y = word-of (toZ-ofZ fy) (c .before .before .before .before .before .append-signed2 .ensures .1) in
+    let box = c .before .before .before .append-bounding-box .ensures .1 in
+    success-ends (omega arith) ok x y box (c .append2 .ensures)
 
 pub success-line-spec : {M : Type 1} → statement M
 success-line-spec =
@@ -63,5 +51,4 @@ success-line-spec =
     append-bounding-box-requires
     slice-aggregate-append-2
     append-requires-2
-    same-length
     returns)

@@ -1,24 +1,22 @@
--- The loop's invariant: what stood before `at`, then the first i bytes of s.
-use mathlib.Core.Path.{_≡_, ap, _∙_}
-use mathlib.Core.List.{List, _++_, append-nil}
-use Prim.Native.Nat.{ℕ, _+_, _-_, _≤_}
-use native.Mathlib.Nat.{add-zero}
+-- The loop's invariant: the first i bytes of s stand at `at`, and everything else as it was.
+use mathlib.Core.Path.{_≡_}
+use Prim.Native.Nat.{_-_, _≤_}
 use native.Mathlib.Omega.{arith}
-use lib.ListN.{length, take}
-use lib.Seq.{take-all}
+use lib.ListN.{length}
+use lib.Seq.{paste, paste-zero}
 use borrow.Author.Needs.{needs}
-use Rattle.measure_line.proofs.WriterLaws.{next-byte}
+use Rattle.measure_line.proofs.WriterLaws.{next-byte, all-bytes}
 use Rattle.measure_line.proofs.writer.append.Statement.{statement}
 use Rattle.measure_line.proofs.writer.append.Tie as tie
 
 abbrev Inv-loop : tie.InvT-loop
-Inv-loop out₀ at s i₀ out i = (i ≤ length s) × (length out ≡ length out₀) × (take (at + i) out ≡ take at out₀ ++ take i s)
+Inv-loop out₀ at s i₀ out i = (i ≤ length s) × (length out ≡ length out₀) × (out ≡ paste out₀ at s i)
 
 abbrev μ-loop : tie.MeasureT-loop
 μ-loop out₀ at s i₀ out i = length s - i
 
 loop-holds : tie.Need-loop-holds Inv-loop μ-loop
-loop-holds c = (search needs, search needs, simp (add-zero, append-nil))
+loop-holds c = (search needs, search needs, paste-zero (c .args .out .now) (c .args .at) (c .args .s .now))
 
 shared-slice-read-out : tie.Need-shared-slice-read-out Inv-loop μ-loop
 shared-slice-read-out c = search needs
@@ -48,7 +46,10 @@ same-length : tie.Need-same-length Inv-loop μ-loop
 same-length c = search needs
 
 returns : tie.Need-returns Inv-loop μ-loop
-returns c = let a = c .before .before .args in (search needs, c .before .loop .inv .2 ∙ ap (λ (l : List ℕ). take (a .at) (a .out .now) ++ l) (take-all (c .before .loop .i) (a .s .now) (c .loop-test .left)))
+returns c =
+    let a = c .before .before .args in
+    let k = c .before .loop in
+    all-bytes (a .out .now) (k .out) (a .s .now) (a .at) (k .i) (omega arith) (k .inv .2)
 
 pub append-spec : {M : Type 1} → statement M
 append-spec =

@@ -1,12 +1,9 @@
 -- `io::decimal` writes the fewest digits that hold the number: they are the definition's, and ten at most.
-use mathlib.Core.Path.{_≡_, ap, _∙_}
-use mathlib.Core.List.{List, _++_}
-use Prim.Native.Nat.{ℕ}
+use mathlib.Core.Path.{_∙_}
 use native.Mathlib.Omega.{arith}
-use lib.ListN.{take}
 use borrow.Author.Needs.{needs}
-use Rattle.definitions.specs.Line.{decimal}
 use Rattle.measure_line.proofs.DecimalLaws.{spelled, at-most-ten}
+use Rattle.measure_line.proofs.WriterLaws.{spelled-as}
 use Rattle.measure_line.proofs.writer.append_decimal.Statement.{statement}
 use Rattle.measure_line.proofs.writer.append_decimal.Tie as tie
 
@@ -29,10 +26,9 @@ returns : tie.Need-returns
 returns c =
     let a = c .before .before .before .before .before .before .before .before .args in
     let k = c .before .before .before .before .before .decimal in
-    let w = c .before .before .append in
-    let e : take (k .result) (k .last .1 .0) ≡ decimal (a .n) = k .ensures .1 .1 ∙ spelled (k .result) (a .n) (k .ensures .1 .0) in (
-      omega (arith, w .ensures .0, at-most-ten (k .result) (a .n) (search needs) (k .ensures .1 .0)),
-      w .ensures .1 ∙ ap (λ (l : List ℕ). take (a .at) (a .out .now) ++ l) e,
+    let w = c .before .before .append .ensures in (
+      omega (arith, w .ends, at-most-ten (k .result) (a .n) (search needs) (k .ensures .1 .0)),
+      spelled-as (k .ensures .1 .1 ∙ spelled (k .result) (a .n) (k .ensures .1 .0)) w,
     )
 
 pub append-decimal-spec : {M : Type 1} → statement M

@@ -1,14 +1,13 @@
 -- A minus sign where the number is negative, then the digits of its size.
 use mathlib.Core.Path.{sym, ap, _∙_}
-use mathlib.Core.List.{List, [], _∷_, _++_}
+use mathlib.Core.List.{List, _∷_}
 use Prim.Native.Nat.{ℕ}
 use native.Mathlib.Omega.{arith}
-use lib.ListN.{take}
 use mir.Facts.{toZ-ofZ}
 use borrow.Author.Needs.{needs}
 use Rattle.definitions.specs.Line.{decimal}
 use Rattle.definitions.proofs.LineLaws.{minus-sign, no-sign}
-use Rattle.measure_line.proofs.WriterLaws.{two-pieces}
+use Rattle.measure_line.proofs.WriterLaws.{then, spelled-as}
 use Rattle.measure_line.proofs.writer.append_signed.Statement.{statement}
 use Rattle.measure_line.proofs.writer.append_signed.Tie as tie
 
@@ -30,14 +29,12 @@ same-length c = search needs
 returns : tie.Need-returns
 returns c =
     let k = c .before .before .before .before .before .before .before .before .before .before .before .before in
-    let a = k .args in
     let f = k .fits .n in
     let sign = simp (toZ-ofZ, f) at (c .before .before .before .before .before .before .before .before .before .before .if1 .taken) in
-    let size = simp (toZ-ofZ, f) at (c .before .before .before .magnitude .ensures) in
-    let front = take (a .at) (a .out .now) in (
+    let size = simp (toZ-ofZ, f) at (c .before .before .before .magnitude .ensures) in (
       omega arith,
-      two-pieces front (32 ∷ 45 ∷ []) (decimal (c .before .before .before .magnitude .result)) (c .before .before .before .before .before .before .before .append .ensures .1) (c .before .before .append-decimal .ensures .1)
-          ∙ ap (λ (l : List ℕ). front ++ 32 ∷ l) (ap (λ (n : ℕ). 45 ∷ decimal n) size ∙ sym (minus-sign (a .n) sign)),
+      spelled-as (ap (λ (n : ℕ). 32 ∷ 45 ∷ decimal n) size ∙ ap (λ (l : List ℕ). 32 ∷ l) (sym (minus-sign (k .args .n) sign)))
+          (then (omega arith) (c .before .before .before .before .before .before .before .append .ensures) (c .before .before .append-decimal .ensures .1)),
     )
 
 magnitude-requires-2 : tie.Need-magnitude-requires-2
@@ -52,13 +49,11 @@ same-length-2 c = search needs
 returns-2 : tie.Need-returns-2
 returns-2 c =
     let k = c .before .before .before .before .before .before .before in
-    let a = k .args in
     let f = k .fits .n in
     let sign = simp (toZ-ofZ, f) at (c .before .before .before .before .before .if1 .left) in
     let size = simp (toZ-ofZ, f) at (c .before .before .before .magnitude2 .ensures) in (
       omega arith,
-      c .before .before .append-unsigned .ensures .1
-          ∙ ap (λ (l : List ℕ). take (a .at) (a .out .now) ++ 32 ∷ l) (ap decimal size ∙ sym (no-sign (a .n) sign)),
+      spelled-as (ap (λ (n : ℕ). 32 ∷ decimal n) size ∙ ap (λ (l : List ℕ). 32 ∷ l) (sym (no-sign (k .args .n) sign))) (c .before .before .append-unsigned .ensures .1),
     )
 
 pub append-signed-spec : {M : Type 1} → statement M

@@ -1,10 +1,7 @@
 -- A space, then the digits.
-use mathlib.Core.List.{[], _∷_}
 use native.Mathlib.Omega.{arith}
-use lib.ListN.{take}
 use borrow.Author.Needs.{needs}
-use Rattle.definitions.specs.Line.{decimal}
-use Rattle.measure_line.proofs.WriterLaws.{two-pieces}
+use Rattle.measure_line.proofs.WriterLaws.{then}
 use Rattle.measure_line.proofs.writer.append_unsigned.Statement.{statement}
 use Rattle.measure_line.proofs.writer.append_unsigned.Tie as tie
 
@@ -21,9 +18,7 @@ same-length : tie.Need-same-length
 same-length c = search needs
 
 returns : tie.Need-returns
-returns c =
-    let a = c .before .before .before .before .before .before .before .before .before .before .args in
-    (omega arith, two-pieces (take (a .at) (a .out .now)) (32 ∷ []) (decimal (a .n)) (c .before .before .before .before .before .before .append .ensures .1) (c .before .before .append-decimal .ensures .1))
+returns c = (omega arith, then (omega arith) (c .before .before .before .before .before .before .append .ensures) (c .before .before .append-decimal .ensures .1))
 
 pub append-unsigned-spec : {M : Type 1} → statement M
 append-unsigned-spec =

@@ -1,10 +1,7 @@
--- `write_head` meets its contract: the pieces of the head, one after the other. Assumes nothing.
-use mathlib.Core.List.{[], _∷_, append-assoc}
-use mathlib.Core.Path.{_∙_}
+-- The pieces of the head, one after the other.
+use native.Mathlib.Omega.{arith}
 use borrow.Author.Needs.{needs}
-use Rattle.definitions.specs.Line.{decimal}
-use Rattle.io.proofs.Counting.{counts}
-use Rattle.measure_line.proofs.WriterLaws.{three-pieces}
+use Rattle.measure_line.proofs.WriterLaws.{counted, four-pieces}
 use Rattle.pictures.proofs.image.write_head.Statement.{statement}
 use Rattle.pictures.proofs.image.write_head.Tie as tie
 
@@ -26,19 +23,15 @@ slice-aggregate-append-2 c = search needs
 append-requires-2 : tie.Need-append-requires-2
 append-requires-2 c κs = search needs
 
-same-length : tie.Need-same-length
-same-length c = search needs
-
 returns : tie.Need-returns
 returns c =
-    let size = c .before .before .before .before .before .before .before .before .before .before .before .before .before .before .before .before .before .before .before .args .size in
-    let sides =
-    three-pieces [] (80 ∷ 53 ∷ []) (32 ∷ decimal (size .width))
-    (c .before .before .before .before .before .before .before .before .before .before .before .before .before .before .before .append .ensures .1)
-    (c .before .before .before .before .before .before .before .before .before .before .before .append-unsigned .ensures .1)
-    (32 ∷ decimal (size .height))
-    (c .before .before .before .before .before .before .before .append-unsigned2 .ensures .1) in
-    (counts (c .before .before .append2 .result) (c .before .before .append2 .last .0) (search needs), c .before .before .append2 .ensures .1 ∙ rw sides (simp append-assoc))
+    let head =
+    four-pieces (omega arith)
+    (c .before .before .before .before .before .before .before .append .ensures)
+    (c .before .before .before .before .before .append-unsigned .ensures .1)
+    (c .before .before .before .append-unsigned2 .ensures .1)
+    (c .append2 .ensures) in
+    (counted (omega arith) head, head)
 
 pub write-head-spec : {M : Type 1} → statement M
 write-head-spec =
@@ -50,5 +43,4 @@ write-head-spec =
     append-unsigned-requires-2
     slice-aggregate-append-2
     append-requires-2
-    same-length
     returns)

@@ -1,0 +1,61 @@
+// The measuring program (01, the end of "Font T and its readings"): it reads a font and a text and prints
+// the line.
+ghost use Prim.Native.Nat.{ℕ, _≤_};
+ghost use mathlib.Core.List.{List};
+ghost use lib.ListN.{length};
+ghost use Rattle.io.specs.Counts.{Counts};
+ghost use Rattle.definitions.specs.Line.{measuringLine};
+ghost use Rattle.measure_line.specs.Written.{Written};
+ghost use Rattle.measure_line.specs.Filled.{Filled};
+use crate::LINE_ROOM;
+use crate::measure_line;
+use libc::STDOUT_FILENO;
+
+// Room for a byte more than is allowed, so that what is too long is seen.
+const FONT_ROOM: usize = 65_537;
+
+const TEXT_ROOM: usize = 4_097;
+
+// Reads the font and answers how many bytes of it there are. A file that is missing or cannot be read
+// is an empty font.
+fn read_font(path: &[u8], font: &mut [u8; FONT_ROOM]) -> usize
+    ensures { λ r. ⌜ Counts r (now (font .exit)) ⌝ }
+{
+    let file = os::open_read(path);
+    if file < 0 {
+        return 0;
+    }
+    let n = io::read_full(file, font);
+    libc::close(file);
+    n
+}
+
+// Writes the line of a font file and an input of any length to the start of `out` and answers the line's
+// length.
+fn read_line(
+    font: &[u8; FONT_ROOM],
+    n: usize,
+    text: &[u8; TEXT_ROOM],
+    k: usize,
+    out: &mut [u8; LINE_ROOM],
+) -> usize
+    requires { ⌜ Counts n (now font) × Counts k (now text) ⌝ }
+    ensures counts { λ r. ⌜ Counts r (now (out .exit)) ⌝ }
+    ensures line { λ r. ⌜ ((file input : List ℕ) → Filled file (now (font .entry)) n → Filled input (now (text .entry)) k
+        → Written (now (out .entry)) 0 (measuringLine file input) r (now (out .exit))) ⌝ }
+{
+    let font: &[u8] = font;
+    let text: &[u8] = text;
+    measure_line(&font[..n], &text[..k], out)
+}
+
+// Measures the text that comes from `input` in the font of that path.
+pub fn measure_file(path: &[u8], input: i32) {
+    let mut font = [0u8; FONT_ROOM];
+    let n = read_font(path, &mut font);
+    let mut text = [0u8; TEXT_ROOM];
+    let k = io::read_full(input, &mut text);
+    let mut line = [0u8; LINE_ROOM];
+    let end = read_line(&font, n, &text, k, &mut line);
+    io::write_all(STDOUT_FILENO, &line[..end]);
+}
