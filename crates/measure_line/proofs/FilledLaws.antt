@@ -1,15 +1,14 @@
 -- The line follows from as much of the files as the program reads: a font of more than 65,536 bytes is number 1 and a text of more
 -- than 4,096 bytes number 4, whatever else they hold.
 use mathlib.Core.Path.{_≡_, refl, sym, ap, _∙_}
+use mathlib.Core.Bool.{Bool}
 use mathlib.Core.List.{List}
-use Prim.Native.Nat.{ℕ, _≤_, _<_, min}
+use Prim.Native.Nat.{ℕ, _≤_, _<_}
 use native.Mathlib.Decide.{decLt}
 use native.Mathlib.Omega.{arith}
 use borrow.Author.Tests.{lt-ltb}
-use lib.IntN.{pos}
 use lib.ListN.{length, take, length-take}
 use lib.Seq.{take-all}
-use mathlib.Core.Bool.{Bool}
 use Rattle.types.specs.declared.font_reader.FontReader.{FontReader}
 use Rattle.types.specs.declared.geometry.Point.{Point}
 use Rattle.types.specs.declared.style.VerticalPosition.{VerticalPosition}
@@ -19,6 +18,10 @@ use Rattle.definitions.specs.Calls.{openFont, measure}
 use Rattle.definitions.specs.Line.{outcomeLine, measureOpened, measuredByProgram, measuringLine}
 use Rattle.definitions.proofs.LineLaws.{font-too-long}
 use Rattle.measure_line.specs.Filled.{Filled}
+
+-- Whatever a buffer holds, some file fills it: the contract of `measure_buffers` is never empty.
+pub some-file : (buffer : List ℕ) (n : ℕ) → Filled (take n buffer) buffer n
+some-file buffer n = sym (take-all (length buffer) (take n buffer) (omega (arith, length-take n buffer)))
 
 text-too-long : (font text : List ℕ) (p : Point) (v : VerticalPosition) (lineHeight : ℕ) (skip : Bool) → 4096 < length text
     → measure font text p v lineHeight skip ≡ unlessRefused (fontCauses font) (refused 4 0)
@@ -49,7 +52,7 @@ module _ (font text : List ℕ) (k : ℕ) (room : 4096 < k) where
       split (yes p) = font-too-long (take n font) (take k text) (cut-long 65536 n font h p) ∙ sym (font-too-long font text p)
       split (no p) = rw (take-all n font (omega arith), cut-text (openFont font))
 
-pub read-line : (file input font text : List ℕ) (n k : ℕ) → Filled file font n → Filled input text k → 65536 < length font → 4096 < length text
+pub files-line : (file input font text : List ℕ) (n k : ℕ) → Filled file font n → Filled input text k → 65536 < length font → 4096 < length text
     → measuringLine (take n font) (take k text) ≡ measuringLine file input
 unfolding measuringLine
-read-line file input font text n k f g p q = rw (f, g) (ap outcomeLine (cut-files file input (length text) q (length font) p))
+files-line file input font text n k f g p q = rw (f, g) (ap outcomeLine (cut-files file input (length text) q (length font) p))

@@ -1,16 +1,16 @@
 -- Laws of a line that is written piece by piece.
-use mathlib.Core.Path.{_≡_, refl, sym, ap, subst, _∙_}
+use mathlib.Core.Path.{_≡_, sym, ap, subst, _∙_}
 use mathlib.Core.List.{List, [], _∷_, _++_, append-assoc, append-nil}
 use Prim.Native.Nat.{ℕ, _+_, _≤_, _<_}
 use native.Mathlib.Numerals.{add-one}
 use native.Mathlib.Omega.{arith}
 use lib.IntN.{ℤ}
-use lib.ListN.{length, take, drop, getD, set, length-append, length-take}
-use lib.Seq.{take-at, drop-at, drop-drop, take-length, take-all, length-take-le, paste, paste-suc}
+use lib.ListN.{length, take, drop, getD, set, length-append}
+use lib.Seq.{take-at, drop-at, drop-drop, take-length, length-take-le, paste, paste-suc}
 use Rattle.io.specs.Counts.{Counts}
 use Rattle.io.proofs.Counting.{counts}
 use Rattle.definitions.specs.Line.{signedDecimal}
-use Rattle.measure_line.specs.Written.{written, Written}
+use Rattle.measure_line.specs.Written.{Written}
 
 -- One byte more of s is stored.
 pub next-byte : (before out s : List ℕ) (at i : ℕ) → at + i < length before → i < length s → out ≡ paste before at s i
@@ -26,7 +26,8 @@ pub spelled-as : {before after p q : List ℕ} {at end : ℕ} → p ≡ q → Wr
 spelled-as {before} {after} {p} {q} {at} {end} e w = subst (λ (l : List ℕ). Written before at l end after) e w
 
 -- .. and the same word, its number given otherwise
-pub word-of : {before after : List ℕ} {at end : ℕ} {y z : ℤ} → y ≡ z → Written before at (32 ∷ signedDecimal y) end after → Written before at (32 ∷ signedDecimal z) end after
+pub word-of : {before after : List ℕ} {at end : ℕ} {y z : ℤ} → y ≡ z → Written before at (32 ∷ signedDecimal y) end after
+    → Written before at (32 ∷ signedDecimal z) end after
 word-of e w = spelled-as (ap (λ (z : ℤ). 32 ∷ signedDecimal z) e) w
 
 -- Two pieces, one behind the other, are one piece.
@@ -49,10 +50,13 @@ module _ {before middle after p q : List ℕ} {at m end : ℕ} (h : at ≤ lengt
 pub counted : {before p after : List ℕ} {at end : ℕ} → at ≤ length before → Written before at p end after → Counts end after
 counted {before} {p} {after} {at} {end} h w =
     counts end after
-    (rw (w .whole) (omega (arith, w .ends, length-append (take at before ++ p) (drop (at + length p) before), length-append (take at before) p, length-take-le at before h)))
+    (rw (w .whole)
+    (omega
+    (arith, w .ends, length-append (take at before ++ p) (drop (at + length p) before), length-append (take at before) p, length-take-le at before h)))
 
 -- Four pieces and five, as the definition of the line brackets them.
-module _ {o v x y z p q r s : List ℕ} {at a b c d : ℕ} (h : at ≤ length o) (first : Written o at p a v) (second : Written v a q b x) (third : Written x b r c y) (fourth : Written y c s d z) where
+module _ {o v x y z p q r s : List ℕ} {at a b c d : ℕ} (h : at ≤ length o)
+    (first : Written o at p a v) (second : Written v a q b x) (third : Written x b r c y) (fourth : Written y c s d z) where
   pub four-pieces : Written o at (p ++ q ++ r ++ s) d z
   four-pieces = then h (then h (then h first second) third) fourth
 

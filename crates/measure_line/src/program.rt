@@ -1,8 +1,7 @@
 // The measuring program (01, the end of "Font T and its readings"): it reads a font and a text and prints
 // the line.
-ghost use Prim.Native.Nat.{ℕ, _≤_};
 ghost use mathlib.Core.List.{List};
-ghost use lib.ListN.{length};
+ghost use Prim.Native.Nat.{ℕ};
 ghost use Rattle.io.specs.Counts.{Counts};
 ghost use Rattle.definitions.specs.Line.{measuringLine};
 ghost use Rattle.measure_line.specs.Written.{Written};
@@ -30,9 +29,9 @@ fn read_font(path: &[u8], font: &mut [u8; FONT_ROOM]) -> usize
     n
 }
 
-// Writes the line of a font file and an input of any length to the start of `out` and answers the line's
-// length.
-fn read_line(
+// Writes the line of a font file and an input, each of any length, to the start of `out` and answers the
+// line's length. The first n bytes of `font` and k of `text` are what could be read.
+fn measure_buffers(
     font: &[u8; FONT_ROOM],
     n: usize,
     text: &[u8; TEXT_ROOM],
@@ -56,6 +55,6 @@ pub fn measure_file(path: &[u8], input: i32) {
     let mut text = [0u8; TEXT_ROOM];
     let k = io::read_full(input, &mut text);
     let mut line = [0u8; LINE_ROOM];
-    let end = read_line(&font, n, &text, k, &mut line);
+    let end = measure_buffers(&font, n, &text, k, &mut line);
     io::write_all(STDOUT_FILENO, &line[..end]);
 }

@@ -1,10 +1,10 @@
 -- The buffers have room for a byte more than is allowed, so the line of what they hold is the line of the files.
 use native.Mathlib.Omega.{arith}
 use borrow.Author.Needs.{needs}
-use Rattle.measure_line.proofs.FilledLaws.{read-line}
+use Rattle.measure_line.proofs.FilledLaws.{files-line}
 use Rattle.measure_line.proofs.WriterLaws.{spelled-as}
-use Rattle.measure_line.proofs.program.read_line.Statement.{statement}
-use Rattle.measure_line.proofs.program.read_line.Tie as tie
+use Rattle.measure_line.proofs.program.measure_buffers.Statement.{statement}
+use Rattle.measure_line.proofs.program.measure_buffers.Tie as tie
 
 slice-aggregate-measure-line : tie.Need-slice-aggregate-measure-line
 slice-aggregate-measure-line c = search needs
@@ -19,10 +19,10 @@ returns : tie.Need-returns
 returns c =
     let a = c .before .before .before .before .before .before .args in
     let w = c .measure-line .ensures in
-    (w .0, λ file input f g. spelled-as (read-line file input (a .font .now) (a .text .now) (a .n) (a .k) f g (omega arith) (omega arith)) (w .1))
+    (w .0, λ file input f g. spelled-as (files-line file input (a .font .now) (a .text .now) (a .n) (a .k) f g (omega arith) (omega arith)) (w .1))
 
-pub read-line-spec : {M : Type 1} → statement M
-read-line-spec =
+pub measure-buffers-spec : {M : Type 1} → statement M
+measure-buffers-spec =
     tie.close
     (tie.spec
     slice-aggregate-measure-line
