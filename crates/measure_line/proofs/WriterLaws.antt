@@ -1,15 +1,13 @@
 -- Laws of a line that is written piece by piece.
 use mathlib.Core.Path.{_≡_, sym, ap, subst, _∙_}
-use mathlib.Core.List.{List, [], _∷_, _++_, append-assoc, append-nil}
+use mathlib.Core.List.{List, [], _++_, append-assoc, append-nil}
 use Prim.Native.Nat.{ℕ, _+_, _≤_, _<_}
 use native.Mathlib.Numerals.{add-one}
 use native.Mathlib.Omega.{arith}
-use lib.IntN.{ℤ}
 use lib.ListN.{length, take, drop, getD, set, length-append}
 use lib.Seq.{take-at, drop-at, drop-drop, take-length, length-take-le, paste, paste-suc}
 use Rattle.io.specs.Counts.{Counts}
 use Rattle.io.proofs.Counting.{counts}
-use Rattle.definitions.specs.Line.{signedDecimal}
 use Rattle.measure_line.specs.Written.{Written}
 
 -- One byte more of s is stored.
@@ -24,11 +22,6 @@ all-bytes before out s at i e f = record { ends = rw e; whole = f ∙ rw (e, tak
 -- the same piece, spelled otherwise
 pub spelled-as : {before after p q : List ℕ} {at end : ℕ} → p ≡ q → Written before at p end after → Written before at q end after
 spelled-as {before} {after} {p} {q} {at} {end} e w = subst (λ (l : List ℕ). Written before at l end after) e w
-
--- .. and the same word, its number given otherwise
-pub word-of : {before after : List ℕ} {at end : ℕ} {y z : ℤ} → y ≡ z → Written before at (32 ∷ signedDecimal y) end after
-    → Written before at (32 ∷ signedDecimal z) end after
-word-of e w = spelled-as (ap (λ (z : ℤ). 32 ∷ signedDecimal z) e) w
 
 -- Two pieces, one behind the other, are one piece.
 module _ {before middle after p q : List ℕ} {at m end : ℕ} (h : at ≤ length before) where

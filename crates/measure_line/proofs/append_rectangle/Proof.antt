@@ -5,7 +5,7 @@ use mir.Val.{SFits}
 use mir.Facts.{toZ-ofZ}
 use borrow.Author.Needs.{needs}
 use Rattle.definitions.specs.Geometry.{left, top}
-use Rattle.measure_line.proofs.WriterLaws.{word-of, four-words}
+use Rattle.measure_line.proofs.WriterLaws.{spelled-as, four-words}
 use Rattle.measure_line.proofs.append_rectangle.Statement.{statement}
 use Rattle.measure_line.proofs.append_rectangle.Tie as tie
 
@@ -28,12 +28,15 @@ returns : tie.Need-returns
 returns c =
     let r = c .before .before .before .before .before .before .before .before .before .before .before .before .before .before .before .before .before .before .before .args .r in
     let fx : SFits w32 (left r) = search needs in
-    let fy : SFits w32 (top r) = search needs in
-    let x = word-of (toZ-ofZ fx) (c .before .before .before .before .before .before .before .before .before .before .before .before .before .before .before .append-signed .ensures .1) in
-    let y = word-of (toZ-ofZ fy) (c .before .before .before .before .before .before .before .before .before .before .append-signed2 .ensures .1) in
-    let width = c .before .before .before .before .before .before .append-unsigned .ensures .1 in
-    let height = c .before .before .append-unsigned2 .ensures .1 in
-    (omega arith, four-words (omega arith) x y width height)
+    let fy : SFits w32 (top r) = search needs in (
+      omega arith,
+      spelled-as (simp (toZ-ofZ, fx, fy))
+          (four-words (omega arith)
+          (c .before .before .before .before .before .before .before .before .before .before .before .before .before .before .before .append-signed .ensures .1)
+          (c .before .before .before .before .before .before .before .before .before .before .append-signed2 .ensures .1)
+          (c .before .before .before .before .before .before .append-unsigned .ensures .1)
+          (c .before .before .append-unsigned2 .ensures .1)),
+    )
 
 pub append-rectangle-spec : {M : Type 1} → statement M
 append-rectangle-spec =

@@ -1,10 +1,6 @@
 -- What the pieces write, one after the other; the number and the code point are those of the error.
-use mathlib.Core.Path.{ap}
-use mathlib.Core.List.{_∷_}
-use Prim.Native.Nat.{ℕ}
 use native.Mathlib.Omega.{arith}
 use borrow.Author.Needs.{needs}
-use Rattle.definitions.specs.Line.{decimal}
 use Rattle.measure_line.proofs.WriterLaws.{spelled-as, refusal-ends}
 use Rattle.measure_line.proofs.refusal_line.Statement.{statement}
 use Rattle.measure_line.proofs.refusal_line.Tie as tie
@@ -35,10 +31,14 @@ append-requires-2 c κs = search needs
 
 returns : tie.Need-returns
 returns c =
-    let no = c .before .before .before .before .before .before .before .append .ensures in
-    let number = spelled-as (ap (λ (n : ℕ). 32 ∷ decimal n) (c .before .before .before .before .before .before .before .before .before .before .before .error-number .ensures)) (c .before .before .before .before .before .append-unsigned .ensures .1) in
-    let point = spelled-as (ap (λ (n : ℕ). 32 ∷ decimal n) (c .before .before .before .before .before .before .before .before .before .before .error-code-point .ensures)) (c .before .before .before .append-unsigned2 .ensures .1) in
-    refusal-ends (omega arith) no number point (c .append2 .ensures)
+    let number = c .before .before .before .before .before .before .before .before .before .before .before .error-number .ensures in
+    let point = c .before .before .before .before .before .before .before .before .before .before .error-code-point .ensures in
+    spelled-as (simp (number, point))
+    (refusal-ends (omega arith)
+    (c .before .before .before .before .before .before .before .append .ensures)
+    (c .before .before .before .before .before .append-unsigned .ensures .1)
+    (c .before .before .before .append-unsigned2 .ensures .1)
+    (c .append2 .ensures))
 
 pub refusal-line-spec : {M : Type 1} → statement M
 refusal-line-spec =

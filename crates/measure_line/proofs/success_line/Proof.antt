@@ -4,7 +4,7 @@ use mir.Syntax.{w32}
 use mir.Val.{SFits}
 use mir.Facts.{toZ-ofZ}
 use borrow.Author.Needs.{needs}
-use Rattle.measure_line.proofs.WriterLaws.{word-of, success-ends}
+use Rattle.measure_line.proofs.WriterLaws.{spelled-as, success-ends}
 use Rattle.measure_line.proofs.success_line.Statement.{statement}
 use Rattle.measure_line.proofs.success_line.Tie as tie
 
@@ -34,11 +34,13 @@ returns c =
     let d = c .before .before .before .before .before .before .before .before .before .before .before .before .before .before .args .d in
     let fx : SFits w32 (d .advance .x) = search needs in
     let fy : SFits w32 (d .advance .y) = search needs in
-    let ok = c .before .before .before .before .before .before .before .before .before .before .before .append .ensures in
-    let x = word-of (toZ-ofZ fx) (c .before .before .before .before .before .before .before .before .append-signed .ensures .1) in
-    let y = word-of (toZ-ofZ fy) (c .before .before .before .before .before .append-signed2 .ensures .1) in
-    let box = c .before .before .before .append-bounding-box .ensures .1 in
-    success-ends (omega arith) ok x y box (c .append2 .ensures)
+    spelled-as (simp (toZ-ofZ, fx, fy))
+    (success-ends (omega arith)
+    (c .before .before .before .before .before .before .before .before .before .before .before .append .ensures)
+    (c .before .before .before .before .before .before .before .before .append-signed .ensures .1)
+    (c .before .before .before .before .before .append-signed2 .ensures .1)
+    (c .before .before .before .append-bounding-box .ensures .1)
+    (c .append2 .ensures))
 
 pub success-line-spec : {M : Type 1} → statement M
 success-line-spec =
