@@ -47,7 +47,8 @@ fn append_bounding_box(out: &mut [u8], at: usize, b: BoundingBox) -> usize
     }
 }
 
-// The longest line: `ok`, four signed numbers, two unsigned ones, a space before each, and the newline.
+// The longest line: `ok`, four signed numbers of 11 characters, two unsigned ones of 10, a space before
+// each, and the newline.
 pub const LINE_ROOM: usize = 73;
 
 fn success_line(out: &mut [u8; LINE_ROOM], d: RenderedDimensions) -> usize
