@@ -1,7 +1,7 @@
 -- The width's power of two as the code has it, and what the answers of the bit reader say of the read. Assumes nothing.
 use mathlib.Core.Path.{_≡_, refl, ap, _∙_}
-use Prim.Native.Nat.{ℕ, _-_, _*_, _%_, _^_, _≤_, _<_}
-use native.Mathlib.Nat.{one-mul, mod-eq-of-lt, mod-lt, lt-of-lt-of-le}
+use Prim.Native.Nat.{ℕ, _+_, _-_, _*_, _%_, _^_, _≤_, _<_}
+use native.Mathlib.Nat.{one-mul, mod-lt, lt-of-lt-of-le}
 use native.Mathlib.Omega.{arith}
 use lib.IntN.{ℤ, pos, _-ℤ_}
 use lib.Pow.{pow-pos, pow-mono, shl-exact}
@@ -23,12 +23,8 @@ use Rattle.glyph_reader.specs.declared.SignedRead.the-variants as signed
 power : (e : ℕ) → e ≤ 8 → (1 * 2 ^ e) % 2 ^ 32 ≡ 2 ^ e
 power e h = shl-exact 1 e 32 (omega arith) (omega arith) ∙ one-mul (2 ^ e)
 
--- a number that does not wrap
-pub unwrapped-pos : (n m : ℕ) → 0 < n → n < m → 0 < n % m
-unwrapped-pos n m h k = rw (mod-eq-of-lt k) h
-
-pub power-fits : (e : ℕ) → e ≤ 8 → SFits w32 (pos ((1 * 2 ^ e) % 2 ^ 32))
-power-fits e h = rw (power e h) (omega (zarith, pow-mono h))
+pub power-pos : (e : ℕ) → e ≤ 8 → 0 < (1 * 2 ^ e) % 2 ^ 32
+power-pos e h = rw (power e h) (pow-pos e)
 
 -- a remainder by it
 pub remainder-is : (n e : ℕ) → e ≤ 8 → n % ((1 * 2 ^ e) % 2 ^ 32) ≡ n % 2 ^ e
@@ -48,25 +44,35 @@ plain {n} {p} k f =
 pub difference-fits : {n p : ℕ} → n ≤ 255 → SFits w32 (pos p) → SFits w32 (toZ w32 n -ℤ toZ w32 p)
 difference-fits {n} {p} k f = rw (plain k f) (omega (zarith, minus (pos n) (pos p), range f))
 
--- A number of b bits less 2 to the power b − 1 fits a signed byte.
-module _ (b n : ℕ) (h : (1 ≤ b) × (b ≤ 8)) (k : n < 2 ^ b) where
-  byte : n ≤ 255
-  byte = omega (arith, pow-mono (h .1))
+-- it fits a signed byte
+module _ {n p : ℕ} (k : n ≤ 255) (f : SFits w32 (pos p)) (above : n ≤ 127 + p) (below : p ≤ 128 + n) where
+  wide-is : toZ w32 (ofZ w32 (toZ w32 n -ℤ toZ w32 p)) ≡ pos n -ℤ pos p
+  wide-is = toZ-ofZ (difference-fits k f) ∙ plain k f
 
+  pub narrow-fits : SFits w8 (toZ w32 (ofZ w32 (toZ w32 n -ℤ toZ w32 p)))
+  narrow-fits = rw wide-is (omega (zarith, minus (pos n) (pos p)))
+
+  narrow-is : toZ w8 (ofZ w8 (toZ w32 (ofZ w32 (toZ w32 n -ℤ toZ w32 p)))) ≡ pos n -ℤ pos p
+  narrow-is = toZ-ofZ narrow-fits ∙ wide-is
+
+-- a number of b bits less 2 to the power b − 1
+module _ (b n : ℕ) (h : (1 ≤ b) × (b ≤ 8)) (k : n < 2 ^ b) where
   abbrev half : ℕ
   half = (1 * 2 ^ (b - 1)) % 2 ^ 32
 
-  wide-is : toZ w32 (ofZ w32 (toZ w32 n -ℤ toZ w32 half)) ≡ biased b n
-  wide-is =
-      let e : b - 1 ≤ 8 = omega arith in
-      let f = power-fits (b - 1) e in
-      toZ-ofZ (difference-fits byte f) ∙ plain byte f ∙ ap (λ (p : ℕ). pos n -ℤ pos p) (power (b - 1) e)
+  half-is : half ≡ 2 ^ (b - 1)
+  half-is = power (b - 1) (omega arith)
 
-  pub biased-fits : SFits w8 (toZ w32 (ofZ w32 (toZ w32 n -ℤ toZ w32 half)))
-  biased-fits = let r = biased-range b n h k in rw wide-is (omega zarith)
+  pub half-bounds : (half ≤ 128) × (n ≤ 127 + half)
+  half-bounds =
+      let r = biased-range b n h k in
+      let q : 2 ^ (b - 1) ≤ 128 = pow-mono {j = 7} (omega arith) in
+      omega (zarith, half-is, minus (pos n) (pos (2 ^ (b - 1))))
 
   pub biased-is : toZ w8 (ofZ w8 (toZ w32 (ofZ w32 (toZ w32 n -ℤ toZ w32 half)))) ≡ biased b n
-  biased-is = toZ-ofZ biased-fits ∙ wide-is
+  biased-is =
+      let r = half-bounds in
+      narrow-is (omega (arith, pow-mono (h .1))) (omega (zarith, r .0)) (r .1) (omega (arith, r .0)) ∙ ap (λ (p : ℕ). pos n -ℤ pos p) half-is
 
 -- ---- answers
 

@@ -61,9 +61,9 @@ pub fn draw_reading(
     ensures answered { λ r. ⌜ dimensionsOutcome r ≡ measureFrom (drawnAnswer (now (font .entry)) false) «line_height» origin start (characters (now (text .entry))) ⌝ }
     ensures shown { λ r. ⌜ now (buffer .exit) ≡ wholeOr (measureFrom (drawnAnswer (now (font .entry)) false) «line_height» origin start (characters (now (text .entry)))) (drawFrom width color (pixelsOf (now (font .entry))) (drawnAnswer (now (font .entry)) false) «line_height» origin start (now (buffer .entry)) (characters (now (text .entry)))) (now (buffer .entry)) ⌝ }
 {
-    let drawn = get_drawn_dimensions(font, head, text, origin, line_height, false);
-    let DimensionsResult::Ok(_) = drawn else {
-        return drawn;
+    let expected = get_drawn_dimensions(font, head, text, origin, line_height, false);
+    let DimensionsResult::Ok(_) = expected else {
+        return expected;
     };
     draw_text(
         font,

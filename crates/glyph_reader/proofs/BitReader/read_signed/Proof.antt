@@ -1,11 +1,12 @@
 -- What `read_unsigned` answers, and that the difference taken in 32 bits fits a signed byte (ReadLaws). Assumes nothing.
 use mathlib.Core.Path.{_≡_, sym}
-use Prim.Native.Nat.{ℕ, _+_, _^_, _≤_, _<_}
+use Prim.Native.Nat.{ℕ, _+_, _-_, _*_, _%_, _^_, _≤_, _<_}
 use native.Mathlib.Omega.{arith}
+use Rattle.integers.proofs.Laws.{zarith}
 use Rattle.definitions.proofs.BitsLaws.{read-small, unsigned-range}
 use Rattle.definitions.specs.Bits.{got, readAt}
 use Rattle.glyph_reader.specs.BitReads.{signedRead}
-use Rattle.glyph_reader.proofs.ReadLaws.{unsigned-value, unsigned-ends, power-fits, difference-fits, biased-fits, biased-is}
+use Rattle.glyph_reader.proofs.ReadLaws.{unsigned-value, unsigned-ends, difference-fits, narrow-fits, half-bounds, biased-is}
 use borrow.Author.Needs.{needs}
 use Rattle.glyph_reader.proofs.BitReader.read_signed.Statement.{statement}
 use Rattle.glyph_reader.proofs.BitReader.read_signed.Tie as tie
@@ -24,6 +25,9 @@ small c = read-small (S c .args .font .now) _ _ _ (read c .0)
 
 byte : (c : tie.After-known-told) → value c ≤ 255
 byte c = unsigned-range (S c .args .font .now) _ _ _ (S c .pre .0 .1) (read c .0)
+
+bounds : (c : tie.After-known-told) → let half = (1 * 2 ^ (S c .args .bits - 1)) % 2 ^ 32 in (half ≤ 128) × (value c ≤ 127 + half)
+bounds c = half-bounds (S c .args .bits) (value c) (S c .pre .0) (small c)
 
 read-unsigned-requires : tie.Need-read-unsigned-requires
 read-unsigned-requires c κs = search needs
@@ -53,13 +57,13 @@ cast-t10 : tie.Need-cast-t10
 cast-t10 c = search needs
 
 cast-t11 : tie.Need-cast-t11
-cast-t11 c = power-fits _ (omega arith)
+cast-t11 c = omega (zarith, bounds c)
 
 sub-t12 : tie.Need-sub-t12
 sub-t12 c = difference-fits (byte c) (cast-t11 c)
 
 cast-t13 : tie.Need-cast-t13
-cast-t13 c = biased-fits _ _ (S c .pre .0) (small c)
+cast-t13 c = narrow-fits (byte c) (cast-t11 c) (omega (arith, bounds c, byte c)) (omega (arith, bounds c))
 
 returns-2 : tie.Need-returns-2
 unfolding signedRead

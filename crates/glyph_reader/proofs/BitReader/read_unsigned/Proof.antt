@@ -2,10 +2,9 @@
 use Prim.Native.Nat.{_/_, _<_}
 use native.Mathlib.Omega.{arith}
 use lib.ListN.{getD}
-use lib.Pow.{pow-pos, pow-mono}
 use Rattle.definitions.proofs.BitsLaws.{read-ends, read-bytes}
 use Rattle.glyph_reader.specs.BitReads.{unsignedRead}
-use Rattle.glyph_reader.proofs.ReadLaws.{unwrapped-pos, remainder-is, remainder-fits}
+use Rattle.glyph_reader.proofs.ReadLaws.{power-pos, remainder-is, remainder-fits}
 use borrow.Author.Needs.{needs}
 use Rattle.glyph_reader.proofs.BitReader.read_unsigned.Statement.{statement}
 use Rattle.glyph_reader.proofs.BitReader.read_unsigned.Tie as tie
@@ -50,9 +49,7 @@ shl-value : tie.Need-shl-value
 shl-value c = search needs
 
 rem-value : tie.Need-rem-value
-rem-value c =
-    let s = c .before .before .before .before in
-    unwrapped-pos _ _ (omega (arith, pow-pos (s .args .bits))) (omega (arith, pow-mono (s .pre .0)))
+rem-value c = power-pos _ (omega arith)
 
 cast-value-2 : tie.Need-cast-value-2
 cast-value-2 c = remainder-fits _ _ (omega arith)

@@ -179,7 +179,8 @@ returns-2 : tie.Need-returns-2 Inv-loop μ-loop Inv-pairs μ-pairs
 returns-2 c =
     let q = c .before .before .before .before in
     let l = loop (pixel q) in
-    row-drawn q (c .before .before .before .before .before .before .before .before .before .before .before .if3 .taken) _ (l .before .before .before .pairs .inv .1 .1) .buffer ∙ rw (c .if4 .taken)
+    let e : l .loop .row + 1 ≡ start l .args .rows .past = omega arith in
+    row-drawn q (c .before .before .before .before .before .before .before .before .before .before .before .if3 .taken) _ (l .before .before .before .pairs .inv .1 .1) .buffer ∙ rw e
 
 pub draw-rows-spec : {M : Type 1} → statement M
 draw-rows-spec =

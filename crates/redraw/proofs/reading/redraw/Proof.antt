@@ -56,7 +56,7 @@ enum-known-checked-2 : tie.Need-enum-known-checked-2
 enum-known-checked-2 c = search needs
 
 clear-reading-requires : tie.Need-clear-reading-requires
-clear-reading-requires c κs = let r = is-ready (c .before .before .before .before) in (r .opens, (r .old-checked, r .fits))
+clear-reading-requires c κs = let r = is-ready (c .before .before .before .before) in search needs
 
 draw-reading-requires : tie.Need-draw-reading-requires
 draw-reading-requires c κs =
@@ -89,7 +89,7 @@ returns-2 c =
     let s = entry k in
     let a = s .args in
     let answered = answers (a .font .now) (a .old-text .now) (new s) (a .background) (screen s) (λ o. o) (r .unrefused) (rw (r .new-at) at (d .0)) in
-    let between = rw (r .old-at) at (c .before .before .before .before .before .before .clear-reading .ensures) in
+    let between = simp (r .old-at, r .new-at) at (c .before .before .before .before .before .before .clear-reading .ensures) in
     let shown = leaves (a .font .now) (a .old-text .now) (new s) (a .background) (screen s) (λ o. o) (r .unrefused) between (rw (r .new-at) at (d .1)) in
     (answered, (shown, leaves-reading (field s) (a .old-text .now) (reading s) answered shown))
 
