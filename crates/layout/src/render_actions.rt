@@ -43,13 +43,10 @@ fn skip_unknown(error: Error, ignore_unknown_chars: bool) -> Answer
 pub fn answer_of(lookup: GlyphResult, ignore_unknown_chars: bool) -> Answer
     ensures { λ r. ⌜ asAnswer r ≡ answer «ignore_unknown_chars» (glyphOutcome lookup) ⌝ }
 {
-    let GlyphResult::Ok(glyph) = lookup else {
-        let GlyphResult::Err(error) = lookup else {
-            return Answer::Nothing;
-        };
-        return skip_unknown(error, ignore_unknown_chars);
-    };
-    Answer::Shows(glyph)
+    match lookup {
+        GlyphResult::Ok(glyph) => Answer::Shows(glyph),
+        GlyphResult::Err(error) => skip_unknown(error, ignore_unknown_chars),
+    }
 }
 
 // The answer to a code point in measuring, which reads no runs.
@@ -62,7 +59,11 @@ pub fn try_retrieve_glyph_data(
     requires { ⌜ Opened (now font) head ⌝ }
     ensures { λ r. ⌜ asAnswer r ≡ measuredAnswer (now (font .entry)) «ignore_unknown_chars» ch ⌝ }
 {
-    answer_of(retrieve_glyph_data(font, head, ch), ignore_unknown_chars)
+    let lookup = retrieve_glyph_data(font, head, ch);
+    let GlyphResult::Ok(glyph) = lookup else {
+        return answer_of(lookup, ignore_unknown_chars);
+    };
+    Answer::Shows(glyph)
 }
 
 // A coordinate moved by an offset or an advance of a glyph.
