@@ -1,7 +1,7 @@
 -- A letter refuses a text with 7 or 8, and never with the number of a cause that is tested before the letters. Assumes nothing.
-use mathlib.Core.Path.{_≡_}
+use mathlib.Core.Path.{_≡_, refl}
 use mathlib.Core.Bool.{Bool, true, false, _&&_}
-use mathlib.Core.List.{List, [], _∷_}
+use mathlib.Core.List.{List, [], _∷_, map}
 use Prim.Native.Nat.{ℕ, _+_, _*_, _<_}
 use native.Mathlib.Omega.{arith}
 use lib.Dec.{eqb}
@@ -60,6 +60,10 @@ late-drawable font c (success g) h = by (glyphPixels font (header font) g)
     by cut = late {n = 8} (omega arith)
 
 -- ---- a text
+
+-- Skipping hides 7 alone.
+pub skips-seven : map (answer true) (refused 7 65 ∷ refused 8 65 ∷ []) ≡ nothing ∷ stops 8 65 ∷ []
+skips-seven = refl
 
 data LateAnswer : Answer → Type 0 where
   goes-on : {g : GlyphReader} → LateAnswer (shows g)

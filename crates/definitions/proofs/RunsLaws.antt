@@ -17,6 +17,11 @@ use Rattle.definitions.specs.Bits.{Read, got, ends, bits, number, read, 
 use Rattle.definitions.specs.Runs.{Pixels, pixels, cut, prepend, unlessCut, readPair, pair, afterPair, runs, glyphPixels, pixelsAfter, pixelsFrom}
 use Rattle.definitions.proofs.BitsLaws.{bits-append}
 
+-- Runs of one bit each: no zero and a one, then 1 repeats them, then 0 brings a zero and no one.
+pub one-repeats : runs 1 1 3 (0 ∷ 1 ∷ 1 ∷ 0 ∷ 1 ∷ 0 ∷ 0 ∷ []) ≡ pixels (1 ∷ 1 ∷ 0 ∷ [])
+unfolding runs afterPair number
+one-repeats = refl
+
 -- ---- what leads to pixels
 
 abbrev pub pairPixels : ℕ → ℕ → List ℕ

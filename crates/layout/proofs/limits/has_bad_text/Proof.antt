@@ -4,14 +4,14 @@ use borrow.Author.Tests.{lt-ltb, le-ltb}
 use Rattle.layout.proofs.limits.has_bad_text.Statement.{statement}
 use Rattle.layout.proofs.limits.has_bad_text.Tie as tie
 
+returns-2 : tie.Need-returns-2
+returns-2 c = simp (le-ltb _ _ (c .before .if1 .left), c .is-utf8 .ensures)
+
 returns : tie.Need-returns
 returns c = simp (lt-ltb _ _ (c .if1 .taken))
 
 is-utf8-requires : tie.Need-is-utf8-requires
 is-utf8-requires c κs = search needs
-
-returns-2 : tie.Need-returns-2
-returns-2 c = simp (le-ltb _ _ (c .before .if1 .left), c .is-utf8 .ensures)
 
 pub has-bad-text-spec : {M : Type 1} → statement M
 has-bad-text-spec = tie.close (tie.spec returns is-utf8-requires returns-2)

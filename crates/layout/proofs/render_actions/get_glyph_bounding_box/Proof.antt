@@ -14,6 +14,14 @@ module _ (c : tie.Start) where
   y-fits : SFits w8 (c .args .glyph .«offset_y»)
   y-fits = search needs
 
+returns-2 : tie.Need-returns-2
+returns-2 c =
+    let top = c .before .before in
+    let left = top .before .before in
+    let s = left .before .before .before .before .before in
+    simp (left .before .before .if1 .left, stored w32 (left .moved .ok) (left .moved .ensures), stored w32 (top .top .ok) (top .top .ensures))
+    (simp (toZ-ofZ, x-fits s, y-fits s, s .fits .x, s .fits .y))
+
 returns : tie.Need-returns
 returns c = simp (c .if1 .taken)
 
@@ -28,14 +36,6 @@ cast-t10 c = search needs
 
 cast-t11 : tie.Need-cast-t11
 cast-t11 c = search needs
-
-returns-2 : tie.Need-returns-2
-returns-2 c =
-    let top = c .before .before in
-    let left = top .before .before in
-    let s = left .before .before .before .before .before in
-    simp (left .before .before .if1 .left, stored w32 (left .moved .ok) (left .moved .ensures), stored w32 (top .top .ok) (top .top .ensures))
-    (simp (toZ-ofZ, x-fits s, y-fits s, s .fits .x, s .fits .y))
 
 pub get-glyph-bounding-box-spec : {M : Type 1} → statement M
 get-glyph-bounding-box-spec =
