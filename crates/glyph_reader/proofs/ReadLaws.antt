@@ -44,7 +44,7 @@ plain {n} {p} k f =
 pub difference-fits : {n p : ℕ} → n ≤ 255 → SFits w32 (pos p) → SFits w32 (toZ w32 n -ℤ toZ w32 p)
 difference-fits {n} {p} k f = rw (plain k f) (omega (zarith, minus (pos n) (pos p), range f))
 
--- it fits a signed byte
+-- from −128 to 127 it fits a signed byte
 module _ {n p : ℕ} (k : n ≤ 255) (f : SFits w32 (pos p)) (above : n ≤ 127 + p) (below : p ≤ 128 + n) where
   wide-is : toZ w32 (ofZ w32 (toZ w32 n -ℤ toZ w32 p)) ≡ pos n -ℤ pos p
   wide-is = toZ-ofZ (difference-fits k f) ∙ plain k f
