@@ -15,7 +15,7 @@ use Rattle.types.specs.declared.style.VerticalPosition.the-variants.{Baseline}
 use Rattle.integers.specs.Integers.{signed8}
 use Rattle.definitions.specs.Header.{header, headerOff}
 use Rattle.definitions.specs.Bits.{lowBits, bits, number, readAt}
-use Rattle.definitions.specs.Lookup.{chain, search}
+use Rattle.definitions.specs.Lookup.{record8, chain, search}
 use Rattle.definitions.specs.Glyph.{fields, glyph}
 use Rattle.definitions.specs.Utf8.{table, rowOf, firstCharacter, decodeFrom, newlines}
 use Rattle.definitions.specs.Refusals.{success}
@@ -56,7 +56,7 @@ unfolding T header headerOff signed8 table rowOf firstCharacter decodeFrom
 supposed = record { first-within = refl; second-within = refl; more = added; longer = refl; as-wide = omega arith; as-high = omega arith }
 
 pub succeeds : drawn T request small ≡ success dimensions
-unfolding T header headerOff signed8 glyph fields search chain readAt bits lowBits number table rowOf firstCharacter decodeFrom newlines joinAll layout afterPair runs glyphPixels draw
+unfolding T header headerOff signed8 glyph fields search record8 chain readAt bits lowBits number table rowOf firstCharacter decodeFrom newlines joinAll layout afterPair runs glyphPixels draw
 succeeds = refl
 
 -- The drawing changes pixels: the left one of "-" in both, and that of "4" in the second.
@@ -68,7 +68,7 @@ changed =
     ∷ []
 
 pub changes : changed ≡ 1 ∷ 1 ∷ 1 ∷ []
-unfolding T header headerOff signed8 glyph fields search chain readAt bits lowBits number table rowOf firstCharacter decodeFrom newlines joinAll layout afterPair runs glyphPixels textPicture mapAt drawBuffer
+unfolding T header headerOff signed8 glyph fields search record8 chain readAt bits lowBits number table rowOf firstCharacter decodeFrom newlines joinAll layout afterPair runs glyphPixels textPicture mapAt drawBuffer
 changes = refl
 
 pub claimed : Agree small large (results T (T ++ added) request small large) dimensions

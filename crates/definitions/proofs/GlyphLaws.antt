@@ -10,14 +10,14 @@ use Rattle.definitions.specs.Refusals.{Outcome, success}
 use Rattle.integers.specs.Integers.{signed8}
 use Rattle.definitions.specs.Header.{header, Opened}
 use Rattle.definitions.specs.Bits.{Read, got, ends, lowBits, bits, number, readAt}
-use Rattle.definitions.specs.Lookup.{Search, found, missing, short, chain, search}
+use Rattle.definitions.specs.Lookup.{Search, found, missing, short, record8, chain, search}
 use Rattle.definitions.specs.Glyph.{unlessEnds, fields, fromSearch, glyph}
 use Rattle.definitions.specs.FontT.{T}
 use Rattle.definitions.proofs.BitsLaws.{SignedByte, read-inside, read-longer, unsigned-range, signed-range}
 
 -- Glyph data reaches to the font's end, not to the next record: T with the jump of "4" cut from 5 to 3.
 pub past-the-jump : glyph (set T 29 3) 52 ≡ glyph T 52
-unfolding T header signed8 glyph fields search chain readAt bits lowBits number
+unfolding T header signed8 glyph fields search record8 chain readAt bits lowBits number
 past-the-jump = refl
 
 -- a field that was read: its number, and what came of that

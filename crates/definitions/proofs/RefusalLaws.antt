@@ -17,7 +17,7 @@ use Rattle.types.specs.declared.style.VerticalPosition.the-variants.{Baseline}
 use Rattle.definitions.specs.Refusals.{Outcome, success, refused, Cause, unlessRefused, anyApplies}
 use Rattle.definitions.specs.Header.{header, headerOff}
 use Rattle.definitions.specs.Bits.{lowBits, bits, number, readAt}
-use Rattle.definitions.specs.Lookup.{chain, search}
+use Rattle.definitions.specs.Lookup.{record8, chain, search}
 use Rattle.definitions.specs.Glyph.{fields, glyph}
 use Rattle.definitions.specs.Utf8.{table, rowOf, firstCharacter, decodeFrom, newlines}
 use Rattle.definitions.specs.Text.{point, joinAll, layout}
@@ -81,7 +81,7 @@ module _ where
       ∷ drawnOf T (65 ∷ []) (pos 0) (Transparent 1) (0 ∷ [])
       ∷ [])
       ≡ (refused 1 0 ∷ refused 2 0 ∷ refused 3 0 ∷ refused 4 0 ∷ refused 5 0 ∷ refused 6 0 ∷ refused 7 65 ∷ [])
-  unfolding T header headerOff signed8 glyph fields search chain readAt bits lowBits number table rowOf firstCharacter decodeFrom newlines joinAll layout draw
+  unfolding T header headerOff signed8 glyph fields search record8 chain readAt bits lowBits number table rowOf firstCharacter decodeFrom newlines joinAll layout draw
   draw-order = refl
 
   abbrev measuredOf : List ℕ → List ℕ → ℤ → Outcome RenderedDimensions
@@ -95,7 +95,7 @@ module _ where
       ∷ measuredOf T (65 ∷ []) (pos 0)
       ∷ [])
       ≡ (refused 1 0 ∷ refused 2 0 ∷ refused 4 0 ∷ refused 5 0 ∷ refused 7 65 ∷ [])
-  unfolding T header headerOff signed8 glyph fields search chain readAt bits lowBits number table rowOf firstCharacter decodeFrom newlines joinAll layout measure
+  unfolding T header headerOff signed8 glyph fields search record8 chain readAt bits lowBits number table rowOf firstCharacter decodeFrom newlines joinAll layout measure
   measure-order = refl
 
 -- ---- the framebuffer of a refused call

@@ -23,7 +23,7 @@ use Rattle.integers.specs.Integers.{signed8}
 use Rattle.definitions.specs.Refusals.{Outcome, success, refused}
 use Rattle.definitions.specs.Header.{header, headerOff}
 use Rattle.definitions.specs.Bits.{lowBits, bits, number, readAt}
-use Rattle.definitions.specs.Lookup.{chain, unicodeChain, jumpTable, search}
+use Rattle.definitions.specs.Lookup.{record8, chain, record16, jumpTable, search}
 use Rattle.definitions.specs.Glyph.{fields, glyph}
 use Rattle.definitions.specs.VerticalOffset.{verticalOffset}
 use Rattle.definitions.specs.Utf8.{table, rowOf, firstCharacter, decodeFrom, newlines}
@@ -266,5 +266,5 @@ cases =
     ∷ []
 
 pub cases-hold : map (λ (c : Case). c .given) cases ≡ map (λ (c : Case). c .expected) cases
-unfolding cases openFont fontBoundingBox header headerOff signed8 T glyph fields search chain unicodeChain jumpTable readAt bits lowBits number table rowOf firstCharacter decodeFrom newlines joinAll layout aligned afterPair runs glyphPixels textPicture mapAt measure measureAligned draw drawBuffer
+unfolding cases openFont fontBoundingBox header headerOff signed8 T glyph fields search record8 chain record16 jumpTable readAt bits lowBits number table rowOf firstCharacter decodeFrom newlines joinAll layout aligned afterPair runs glyphPixels textPicture mapAt measure measureAligned draw drawBuffer
 cases-hold = refl

@@ -1,6 +1,6 @@
 -- Document 01, "From code point to glyph": where a code point's glyph begins, or why there is none.
 --
--- The chains walk the font's bytes. `skip` bytes are still to be passed over before a record is looked at, and `at` is the
+-- The chain walks the font's bytes. `skip` bytes are still to be passed over before a record is looked at, and `at` is the
 -- index of the list's first byte. So the walk ends with the bytes, and no other bound decides an answer.
 use mathlib.Core.Bool.{Bool}
 use mathlib.Core.List.{List, [], _∷_}
@@ -8,34 +8,55 @@ use Prim.Native.Nat.{ℕ, zero, suc, _+_, _-_, _*_}
 use lib.Dec.{ltb, leb, eqb}
 use lib.ListN.{length, drop}
 use Rattle.integers.specs.Integers.{pick}
-use Rattle.definitions.specs.Header.{bigEndian16}
+use Rattle.types.specs.declared.font_reader.FontReader.{FontReader}
+use Rattle.definitions.specs.Header.{header}
 
 pub data Search : Type 0 where
   found : ℕ → Search  -- the glyph begins at this byte
   missing : Search  -- the font has no such glyph: number 7
   short : Search  -- a byte is missing, or a move goes past the end: number 8
 
--- A record is code, jump, glyph. Code equal: found. Else jump 0: missing. Else move by the jump.
-unfoldable pub chain : ℕ → ℕ → ℕ → List ℕ → Search
-chain c at skip [] = short
-chain c at (suc skip) (b ∷ s) = chain c (suc at) skip s
-chain c at zero (code ∷ []) = short
-chain c at zero (code ∷ jump ∷ s) =
-    pick (eqb code c) (found (at + 2))
-    (pick (eqb jump 0) missing
-    (chain c (suc at) (jump - 1) (jump ∷ s)))
+-- ---- a record, which is code, jump, glyph
 
--- From 256 on a code has two bytes, and code 0 gives missing before the jump is needed.
-unfoldable pub unicodeChain : ℕ → ℕ → ℕ → List ℕ → Search
-unicodeChain c at skip [] = short
-unicodeChain c at (suc skip) (b ∷ s) = unicodeChain c (suc at) skip s
-unicodeChain c at zero (high ∷ []) = short
-unicodeChain c at zero (high ∷ low ∷ []) = pick (eqb (high * 256 + low) 0) missing short
-unicodeChain c at zero (high ∷ low ∷ jump ∷ s) =
-    pick (eqb (high * 256 + low) 0) missing
-    (pick (eqb (high * 256 + low) c) (found (at + 3))
-    (pick (eqb jump 0) missing
-    (unicodeChain c (suc at) (jump - 1) (low ∷ jump ∷ s))))
+-- What the record at the head of the bytes says of a code point.
+pub data Record : Type 0 where
+  here : ℕ → Record  -- its glyph begins so many bytes on
+  next : ℕ → Record  -- the next record begins so many bytes on
+  last : Record  -- the chain ends
+  cut : Record  -- a byte is missing
+
+-- Up to 255. Code equal: found. Else jump 0: the chain ends. Else move by the jump.
+unfoldable pub record8 : ℕ → List ℕ → Record
+record8 c [] = cut
+record8 c (code ∷ []) = cut
+record8 c (code ∷ jump ∷ s) = pick (eqb code c) (here 2) (pick (eqb jump 0) last (next jump))
+
+-- From 256 on a code has two bytes, and code 0 ends the chain before the jump is needed.
+unfoldable pub record16 : ℕ → List ℕ → Record
+record16 c [] = cut
+record16 c (high ∷ []) = cut
+record16 c (high ∷ low ∷ []) = pick (eqb (high * 256 + low) 0) last cut
+record16 c (high ∷ low ∷ jump ∷ s) =
+    pick (eqb (high * 256 + low) 0) last
+    (pick (eqb (high * 256 + low) c) (here 3)
+    (pick (eqb jump 0) last (next jump)))
+
+-- ---- the chain
+
+-- what a record at `at` comes to, `rest` being the chain after a jump
+abbrev pub follow : Record → ℕ → (ℕ → Search) → Search
+follow (here n) at rest = found (at + n)
+follow (next jump) at rest = rest jump
+follow last at rest = missing
+follow cut at rest = short
+
+-- Record after record, each looked at as `look` does.
+unfoldable pub chain : (List ℕ → Record) → ℕ → ℕ → List ℕ → Search
+chain look at skip [] = short
+chain look at (suc skip) (b ∷ s) = chain look (suc at) skip s
+chain look at zero (b ∷ s) = follow (look (b ∷ s)) at (λ jump. chain look (suc at) (jump - 1) s)
+
+-- ---- the jump table
 
 -- The jump table: the sum of the distances, up to the first entry whose upper limit is not below the code point; none if
 -- no whole entry remains before that.
@@ -51,24 +72,32 @@ jumpTable c total (a ∷ b ∷ d ∷ []) = none
 jumpTable c total (a ∷ b ∷ d ∷ e ∷ s) =
     pick (ltb (d * 256 + e) c) (jumpTable c (total + (a * 256 + b)) s) (sum (total + (a * 256 + b)))
 
+-- ---- the lookup
+
 -- The first byte after the header.
 abbrev pub records : ℕ
 records = 23
 
 -- Code points up to 255 start there, moved by the offset of 'a' from 97 up and by that of 'A' from 65 to 96.
-abbrev pub chainStart : List ℕ → ℕ → ℕ
-chainStart font c = pick (leb 97 c) (records + bigEndian16 font 19) (pick (leb 65 c) (records + bigEndian16 font 17) records)
+abbrev pub chainStart : FontReader → ℕ → ℕ
+chainStart head c =
+    pick (leb 97 c) (records + head .«array_offset_lower_a»)
+    (pick (leb 65 c) (records + head .«array_offset_upper_a») records)
 
-abbrev pub tableStart : List ℕ → ℕ
-tableStart font = records + bigEndian16 font 21
+abbrev pub tableStart : FontReader → ℕ
+tableStart head = records + head .«array_offset_0x0100»
 
-abbrev pub fromTable : List ℕ → ℕ → Distance → Search
-fromTable font c none = missing
-fromTable font c (sum d) = unicodeChain c 0 (tableStart font + d) font
+-- the jump table at `table`, and the chain that it leads to
+abbrev pub fromTable : List ℕ → ℕ → ℕ → Distance → Search
+fromTable font table c none = missing
+fromTable font table c (sum d) = chain (record16 c) 0 (table + d) font
 
+abbrev pub searchTable : List ℕ → ℕ → ℕ → Search
+searchTable font table c =
+    pick (leb table (length font)) (fromTable font table c (jumpTable c 0 (drop table font))) short
+
+-- From 256 to 65535: the table and its chain. Above: missing.
 unfoldable pub search : List ℕ → ℕ → Search
 search font c =
-    pick (leb c 255) (chain c 0 (chainStart font c) font)
-    (pick (leb c 65535)
-    (pick (leb (tableStart font) (length font)) (fromTable font c (jumpTable c 0 (drop (tableStart font) font))) short)
-    missing)
+    pick (leb c 255) (chain (record8 c) 0 (chainStart (header font) c) font)
+    (pick (leb c 65535) (searchTable font (tableStart (header font)) c) missing)

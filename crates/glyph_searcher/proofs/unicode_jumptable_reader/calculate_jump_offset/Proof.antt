@@ -7,7 +7,7 @@ use lib.ListN.{length, drop}
 use borrow.Author.Needs.{needs}
 use Rattle.definitions.specs.Header.{bigEndian16}
 use Rattle.definitions.specs.Lookup.{jumpTable}
-use Rattle.glyph_searcher.proofs.Steps.{table-end, table-found, table-next}
+use Rattle.glyph_searcher.proofs.TableLaws.{table-end, table-found, table-next}
 use Rattle.glyph_searcher.proofs.unicode_jumptable_reader.calculate_jump_offset.Statement.{
   statement,
 }
@@ -22,27 +22,6 @@ Inv-loop font start encoding jump-offset₀ at₀ jump-offset at =
 abbrev μ-loop : tie.MeasureT-loop
 μ-loop font start encoding jump-offset₀ at₀ jump-offset at = length font - at
 
-loop-holds : tie.Need-loop-holds Inv-loop μ-loop
-loop-holds c = search needs
-
-add-loop : tie.Need-add-loop Inv-loop μ-loop
-add-loop c = search needs
-
-u16-at-requires : tie.Need-u16-at-requires Inv-loop μ-loop
-u16-at-requires c κs = search needs
-
-cast-jump-offset : tie.Need-cast-jump-offset Inv-loop μ-loop
-cast-jump-offset c = search needs
-
-add-jump-offset : tie.Need-add-jump-offset Inv-loop μ-loop
-add-jump-offset c = search needs
-
-add-u16-at : tie.Need-add-u16-at Inv-loop μ-loop
-add-u16-at c = search needs
-
-u16-at-requires-2 : tie.Need-u16-at-requires-2 Inv-loop μ-loop
-u16-at-requires-2 c κs = search needs
-
 returns : tie.Need-returns Inv-loop μ-loop
 returns c =
     let l = c .before .before .before .before in
@@ -50,12 +29,6 @@ returns c =
     let limit : a .encoding ≤ bigEndian16 (a .font .now) (l .loop .at + 2) = omega arith in
     rw (c .before .before .u16-at .ensures)
     (sym (l .loop .inv .1 .1 ∙ table-found (a .encoding) (l .loop .jump-offset) (a .font .now) (l .loop .at) (omega arith) limit))
-
-add-at : tie.Need-add-at Inv-loop μ-loop
-add-at c = search needs
-
-loop-less : tie.Need-loop-less Inv-loop μ-loop
-loop-less c = search needs
 
 loop-again : tie.Need-loop-again Inv-loop μ-loop
 loop-again c =
@@ -84,15 +57,15 @@ calculate-jump-offset-spec =
     (tie.spec
     Inv-loop
     μ-loop
-    loop-holds
-    add-loop
-    u16-at-requires
-    cast-jump-offset
-    add-jump-offset
-    add-u16-at
-    u16-at-requires-2
+    (λ c. search needs)
+    (λ c. search needs)
+    (λ c κs. search needs)
+    (λ c. search needs)
+    (λ c. search needs)
+    (λ c. search needs)
+    (λ c κs. search needs)
     returns
-    add-at
-    loop-less
+    (λ c. search needs)
+    (λ c. search needs)
     loop-again
     returns-2)

@@ -1,0 +1,43 @@
+-- What a record comes to in the chain, whichever the width of its code. Assumes nothing.
+use mathlib.Core.Path.{_≡_, sym, ap, _∙_}
+use mathlib.Core.Bool.{Bool, true, false}
+use mathlib.Core.List.{List, []}
+use Prim.Native.Nat.{ℕ, zero, suc, _+_, _≤_, _<_}
+use native.Mathlib.Decide.{decLt}
+use native.Mathlib.Omega.{arith}
+use lib.Dec.{eqb}
+use lib.ListN.{length, drop, drop-of-length-le}
+use Rattle.integers.specs.Integers.{pick}
+use Rattle.integers.proofs.Choices.{impossible}
+use Rattle.definitions.specs.Lookup.{Record, next, cut, record8, record16, follow, chain}
+use Rattle.definitions.proofs.LookupLaws.{Looks, looks8, looks16, chain-at}
+use Rattle.glyph_searcher.specs.Answers.{recordOf}
+
+module _ (width c : ℕ) where
+  looks : Looks (recordOf width c)
+  looks = by (eqb width 1)
+    where
+      by : (t : Bool) → Looks (pick t (record8 c) (record16 c))
+      by true = looks8 c
+      by false = looks16 c
+
+  module _ (font : List ℕ) (at : ℕ) where
+    pub followed : {r : Record} → recordOf width c (drop at font) ≡ r
+        → chain (recordOf width c) 0 at font ≡ follow r at (λ jump. chain (recordOf width c) 0 (at + jump) font)
+    followed e =
+        chain-at looks font at ∙ ap (λ (r : Record). follow r at (λ jump. chain (recordOf width c) 0 (at + jump) font)) e
+
+    -- A record that another one follows begins before the font's end, and the other further on.
+    pub further : (jump : ℕ) → recordOf width c (drop at font) ≡ next jump → (at < length font) × (0 < jump)
+    further jump e = (before (decLt at (length font)), moves jump e)
+      where
+        before : Dec (at < length font) → at < length font
+        before (yes h) = h
+        before (no h) =
+            let end : drop at font ≡ [] = drop-of-length-le font {i = at} (omega arith) in
+            let look : recordOf width c (drop at font) ≡ cut = ap (recordOf width c) end ∙ looks .empty in
+            impossible cc
+
+        moves : (jump : ℕ) → recordOf width c (drop at font) ≡ next jump → 0 < jump
+        moves zero e = absurd (looks .moves (drop at font) e)
+        moves (suc n) e = omega arith

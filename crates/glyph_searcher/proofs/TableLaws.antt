@@ -1,0 +1,26 @@
+-- One step of each walk, in the terms of the code: what a test or the next record shows of the definition. Assumes nothing.
+use mathlib.Core.Path.{_≡_, refl, _∙_}
+use mathlib.Core.Bool.{Bool, true, false}
+use mathlib.Core.List.{List}
+use native.Mathlib.Decide.{decLt}
+use native.Mathlib.Omega.{arith}
+use Prim.Native.Nat.{ℕ, _+_, _≤_, _<_}
+use borrow.Author.Tests.{lt-ltb, le-ltb, eq-eqb, ne-eqb, eqb-true, eqb-false}
+use lib.Dec.{eqb}
+use lib.ListN.{length, drop, length-drop}
+use Rattle.integers.specs.Integers.{pick}
+use Rattle.definitions.specs.Header.{byte, bigEndian16}
+use Rattle.definitions.specs.Lookup.{sum, none, jumpTable}
+use Rattle.definitions.proofs.LookupLaws.{table-at, table-ends}
+
+module _ (c total : ℕ) (font : List ℕ) (at : ℕ) where
+  pub table-end : length font < at + 4 → jumpTable c total (drop at font) ≡ none
+  table-end h = table-ends c total (drop at font) (omega (arith, length-drop at font))
+
+  module _ (h : at + 4 ≤ length font) where
+    pub table-found : c ≤ bigEndian16 font (at + 2) → jumpTable c total (drop at font) ≡ sum (total + bigEndian16 font at)
+    table-found p = table-at c total font at h ∙ simp (le-ltb (bigEndian16 font (at + 2)) c p)
+
+    pub table-next : bigEndian16 font (at + 2) < c
+        → jumpTable c total (drop at font) ≡ jumpTable c (total + bigEndian16 font at) (drop (at + 4) font)
+    table-next p = table-at c total font at h ∙ simp (lt-ltb (bigEndian16 font (at + 2)) c p)
