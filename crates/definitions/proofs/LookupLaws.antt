@@ -18,6 +18,11 @@ use Rattle.integers.specs.Integers.{pick}
 use Rattle.definitions.specs.Header.{byte, bigEndian16, header, Opened}
 use Rattle.definitions.specs.Lookup.{Search, found, missing, short, Record, here, next, last, cut, record8, record16, follow, chain, Distance, sum, none, jumpTable, records, chainStart, tableStart, fromTable, searchTable, search}
 
+-- The code is compared before the jump is seen: a record with jump 0 is found.
+pub code-first : record8 45 (45 ∷ 0 ∷ []) ≡ here 2
+unfolding record8
+code-first = refl
+
 -- The table is walked on where a distance leads past the end: an entry with a limit of 0, and then one that answers.
 pub past-the-end : jumpTable 256 0 (255 ∷ 255 ∷ 0 ∷ 0 ∷ 0 ∷ 0 ∷ 1 ∷ 0 ∷ []) ≡ sum 65535
 unfolding jumpTable
