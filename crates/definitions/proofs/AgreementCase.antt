@@ -1,6 +1,7 @@
 -- The third demand is not empty: its hypotheses hold for "-4" drawn with font T on 8 × 8 pixels and with five bytes added to T
 -- on 9 × 12, the contents differing from the seventh row on. The 4 lies off the first framebuffer and half off the second.
 use mathlib.Core.Path.{_≡_, refl}
+use mathlib.Core.Bool.{false}
 use mathlib.Core.List.{List, [], _∷_, _++_}
 use Prim.Native.Nat.{ℕ}
 use native.Mathlib.Omega.{arith}
@@ -23,27 +24,23 @@ use Rattle.definitions.specs.Text.{point, joinAll, layout}
 use Rattle.definitions.specs.Runs.{pixels, afterPair, runs, glyphPixels}
 use Rattle.definitions.specs.Picture.{textPicture}
 use Rattle.definitions.specs.Framebuffer.{mapAt}
-use Rattle.definitions.specs.Calls.{draw, drawBuffer}
+use Rattle.definitions.specs.Calls.{Request, plain, draw, drawBuffer}
+use Rattle.definitions.specs.Font.{u8g2}
 use Rattle.definitions.specs.FontT.{T}
-use Rattle.definitions.specs.Agreement.{Request, Framebuffer, drawn, after, pixel, results, TwoDrawings, Agree}
+use Rattle.definitions.specs.Agreement.{Ground, on, drawn, after, pixel, results, TwoDrawings, Agree}
 use Rattle.definitions.proofs.Agreement.{agreement}
 
 abbrev added : List ℕ
 added = 45 ∷ 3 ∷ 255 ∷ 0 ∷ 9 ∷ []
 
-abbrev request : Request
-request = record {
-  text = 45 ∷ 52 ∷ [];
-  position = point (pos 5) (pos 3);
-  style = record { color = Transparent 1; «vertical_pos» = Baseline };
-  lineHeight = 4;
-}
+abbrev asked : Request
+asked = plain (45 ∷ 52 ∷ []) (point (pos 5) (pos 3)) Baseline 4 false
 
-abbrev small : Framebuffer
-small = record { width = 8; height = 8; before = replicate 64 0 }
+abbrev small : Ground
+small = on record { width = 8; height = 8 } (replicate 64 0)
 
-abbrev large : Framebuffer
-large = record { width = 9; height = 12; before = replicate 54 0 ++ replicate 54 7 }
+abbrev large : Ground
+large = on record { width = 9; height = 12 } (replicate 54 0 ++ replicate 54 7)
 
 abbrev dimensions : RenderedDimensions
 dimensions = record {
@@ -51,25 +48,25 @@ dimensions = record {
   «bounding_box» = Some record { «top_left» = record { x = pos 5; y = pos 0 }; size = record { width = 5; height = 3 } };
 }
 
-pub supposed : TwoDrawings T (T ++ added) request small large
+pub supposed : TwoDrawings T (T ++ added) asked small large
 unfolding T header headerOff signed8 table rowOf firstCharacter decodeFrom
-supposed = record { first-within = refl; second-within = refl; more = added; longer = refl; as-wide = omega arith; as-high = omega arith }
+supposed = record { first-within = refl; second-within = refl; no-skips = refl; more = added; longer = refl; as-wide = omega arith; as-high = omega arith }
 
-pub succeeds : drawn T request small ≡ success dimensions
+pub succeeds : drawn (u8g2 T) asked (Transparent 1) small ≡ success dimensions
 unfolding T header headerOff signed8 glyph fields search record8 chain readAt bits lowBits number table rowOf firstCharacter decodeFrom newlines joinAll layout afterPair runs glyphPixels draw
 succeeds = refl
 
 -- The drawing changes pixels: the left one of "-" in both, and that of "4" in the second.
 abbrev changed : List ℕ
 changed =
-    pixel small (after T request small) 5 0
-    ∷ pixel large (after (T ++ added) request large) 5 0
-    ∷ pixel large (after (T ++ added) request large) 8 1
+    pixel small (after (u8g2 T) asked (Transparent 1) small) 5 0
+    ∷ pixel large (after (u8g2 (T ++ added)) asked (Transparent 1) large) 5 0
+    ∷ pixel large (after (u8g2 (T ++ added)) asked (Transparent 1) large) 8 1
     ∷ []
 
 pub changes : changed ≡ 1 ∷ 1 ∷ 1 ∷ []
 unfolding T header headerOff signed8 glyph fields search record8 chain readAt bits lowBits number table rowOf firstCharacter decodeFrom newlines joinAll layout afterPair runs glyphPixels textPicture mapAt drawBuffer
 changes = refl
 
-pub claimed : Agree small large (results T (T ++ added) request small large) dimensions
-claimed = agreement T (T ++ added) request small large supposed dimensions succeeds
+pub claimed : Agree small large (results (u8g2 T) (u8g2 (T ++ added)) asked (Transparent 1) small large) dimensions
+claimed = agreement T (T ++ added) asked (Transparent 1) small large supposed dimensions succeeds

@@ -16,8 +16,8 @@ use Rattle.definitions.specs.Bits.{Read, got, ends, readAt}
 use Rattle.definitions.specs.Lookup.{Search, found, missing, short, search as lookup}
 use Rattle.definitions.specs.Glyph.{unlessEnds, fields, fromSearch, glyph}
 use Rattle.definitions.specs.Text.{Answer, shows, nothing, stops, answer, Layout, point, newline, place, layout, dimensionsOf}
-use Rattle.definitions.specs.Runs.{Pixels, pixels, cut, glyphPixels}
-use Rattle.definitions.specs.Calls.{withRuns, drawable, drawnAnswer}
+use Rattle.definitions.specs.Runs.{Pixels, pixels, cut}
+use Rattle.definitions.specs.Font.{Font, u8g2, withRuns, drawable, drawnAnswer}
 
 -- no number up to 6
 pub data Late {A : Type 0} : Outcome A → Type 0 where
@@ -51,9 +51,9 @@ late-glyph : (font : List ℕ) (c : ℕ) → Late (glyph font c)
 unfolding glyph
 late-glyph font c = late-search font c (lookup font c)
 
-late-drawable : (font : List ℕ) (c : ℕ) (o : Outcome GlyphReader) → Late o → Late (drawable font c o)
+late-drawable : (font : Font) (c : ℕ) (o : Outcome GlyphReader) → Late o → Late (drawable font c o)
 late-drawable font c (refused n d) h = h
-late-drawable font c (success g) h = by (glyphPixels font (header font) g)
+late-drawable font c (success g) h = by (font .pixels g)
   where
     by : (p : Pixels) → Late (withRuns c g p)
     by (pixels ps) = none
@@ -103,7 +103,9 @@ late-dimensions b (refused n c) (late h) = late h
 
 -- A drawn text's letters come to no number up to 6.
 pub late-drawn : (font : List ℕ) (skip : Bool) (lineHeight : ℕ) (origin advance : Point) (b : BoundingBox) (cs : List ℕ)
-    → Late (dimensionsOf b (layout (drawnAnswer font skip) lineHeight origin advance cs .advance))
+    → Late (dimensionsOf b (layout (drawnAnswer (u8g2 font) skip) lineHeight origin advance cs .advance))
 late-drawn font skip lineHeight origin advance b cs =
     late-dimensions b _
-    (late-layout (drawnAnswer font skip) (λ c. late-answer skip (drawable font c (glyph font c)) (late-drawable font c (glyph font c) (late-glyph font c))) lineHeight origin cs advance)
+    (late-layout (drawnAnswer (u8g2 font) skip)
+    (λ c. late-answer skip (drawable (u8g2 font) c (glyph font c)) (late-drawable (u8g2 font) c (glyph font c) (late-glyph font c)))
+    lineHeight origin cs advance)

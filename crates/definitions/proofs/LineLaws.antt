@@ -17,7 +17,8 @@ use Rattle.types.specs.declared.font_reader.FontReader.{FontReader}
 use Rattle.types.specs.declared.style.VerticalPosition.the-variants.{Baseline}
 use Rattle.definitions.specs.Refusals.{success, refused}
 use Rattle.definitions.specs.Text.{point}
-use Rattle.definitions.specs.Calls.{openFont, measure}
+use Rattle.definitions.specs.Font.{u8g2}
+use Rattle.definitions.specs.Calls.{openFont, plain, measure}
 use Rattle.definitions.specs.Line.{decimalFrom, decimal, signedDecimal, measuredByProgram}
 
 -- two choices by one test, alike where the test fails
@@ -114,6 +115,6 @@ module _ (font text : List ℕ) where
     unfolding measuredByProgram
     font-refused n c e = simp (le-ltb 65536 (length font) h, e)
 
-    pub font-opens : (head : FontReader) → openFont font ≡ success head → measuredByProgram font text ≡ measure font text (point (pos 0) (pos 0)) Baseline (head .«line_height») false
+    pub font-opens : (head : FontReader) → openFont font ≡ success head → measuredByProgram font text ≡ measure (u8g2 font) (plain text (point (pos 0) (pos 0)) Baseline (head .«line_height») false)
     unfolding measuredByProgram
     font-opens head e = simp (le-ltb 65536 (length font) h, e)

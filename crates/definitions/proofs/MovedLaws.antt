@@ -3,25 +3,24 @@ use mathlib.Core.Path.{_≡_, refl, sym, ap, _∙_}
 use mathlib.Core.Bool.{Bool, true, false, _||_}
 use mathlib.Core.List.{List, [], _∷_, map}
 use Prim.Native.Nat.{ℕ, _*_}
-use native.Mathlib.Omega.{arith}
 use lib.Dec.{eqb, ltb}
 use lib.IntN.{ℤ, pos, _+ℤ_}
 use Rattle.integers.specs.Integers.{pick}
 use Rattle.integers.proofs.Laws.{zarith, plus}
+use Rattle.integers.proofs.Choices.{impossible}
 use Rattle.types.specs.declared.geometry.BoundingBox.{BoundingBox}
 use Rattle.types.specs.declared.geometry.Point.{Point}
 use Rattle.types.specs.declared.geometry.RenderedDimensions.{RenderedDimensions}
-use Rattle.types.specs.declared.style.VerticalPosition.{VerticalPosition}
 use Rattle.definitions.specs.Refusals.{Outcome, success, refused, anyApplies}
 use Rattle.definitions.specs.Text.{Answer, shows, nothing, stops, joinAll, Layout, point, newline, place, layout, dimensionsOf, dimensions, moved}
 use Rattle.definitions.specs.TextSteps.{movedBox}
-use Rattle.definitions.specs.Header.{header}
 use Rattle.definitions.specs.VerticalOffset.{verticalOffset}
 use Rattle.definitions.specs.Utf8.{newlines}
-use Rattle.definitions.specs.Limits.{coordinateOff}
-use Rattle.definitions.specs.Calls.{measureCauses, characters, origin, measuredAnswer, measure}
+use Rattle.definitions.specs.Limits.{textCause, coordinateOff, positionCause}
+use Rattle.definitions.specs.Font.{Font, measuredAnswer}
+use Rattle.definitions.specs.Calls.{Request, request, characters, origin, laid, measureCauses, measuredText, measure}
 use Rattle.definitions.proofs.OpenedLaws.{or-false}
-use Rattle.definitions.proofs.RefusalLaws.{none-applies, succeeded, each-off, all-off}
+use Rattle.definitions.proofs.RefusalLaws.{none-applies, succeeded, NoneApplies, each-off, all-off, any-parts, parts-any}
 use Rattle.definitions.proofs.TextLaws.{join-all-moved}
 
 sum-moved : (x a b : ℤ) → (x +ℤ a) +ℤ b ≡ x +ℤ (a +ℤ b)
@@ -77,60 +76,67 @@ module _ (x y : ℤ) where
 
 -- ---- the calls
 
--- the letters of a text, at a place
-abbrev pub laidAt : List ℕ → List ℕ → VerticalPosition → ℕ → (ℕ → Answer) → Point → Layout
-laidAt font text v lineHeight answers position =
-    layout answers lineHeight (origin font text position v lineHeight) (point (pos 0) (pos 0)) (characters text)
+-- the same request at another place
+abbrev pub at : Point → Request → Request
+at position r = request (r .text) position (r .anchor) (r .align) (r .lineHeight) (r .skip)
 
-module _ (x y : ℤ) (font text : List ℕ) (position : Point) (v : VerticalPosition) (lineHeight : ℕ) where
-  origin-moved : origin font text (movedPoint x y position) v lineHeight ≡ movedPoint x y (origin font text position v lineHeight)
+module _ (x y : ℤ) (font : Font) (r : Request) where
+  abbrev pub movedRequest : Request
+  movedRequest = at (movedPoint x y (r .position)) r
+
+  origin-moved : origin font movedRequest ≡ movedPoint x y (origin font r)
   origin-moved =
-      rw (sum-moved y (position .y) (verticalOffset v (pos (newlines (characters text) * lineHeight)) (header font .ascent) (header font .descent)))
+      rw (sum-moved y (r .position .y) (verticalOffset (r .anchor) (pos (newlines (characters (r .text)) * r .lineHeight)) (font .ascent) (font .descent)))
 
-  pub text-moved : (answers : ℕ → Answer)
-      → laidAt font text v lineHeight answers (movedPoint x y position) ≡ movedLayout x y (laidAt font text v lineHeight answers position)
-  text-moved answers =
-      rw origin-moved
-      (layout-moved x y answers lineHeight (origin font text position v lineHeight) (characters text) (point (pos 0) (pos 0)))
+  pub text-moved : (answers : ℕ → Answer) → laid font movedRequest answers ≡ movedLayout x y (laid font r answers)
+  text-moved answers = rw origin-moved (layout-moved x y answers (r .lineHeight) (origin font r) (characters (r .text)) (point (pos 0) (pos 0)))
 
   -- Measuring at a place moved is measuring, moved, where both places are within the limits.
-  pub measure-moved : (skip : Bool)
-      → anyApplies (measureCauses font text position lineHeight) ≡ false
-      → anyApplies (measureCauses font text (movedPoint x y position) lineHeight) ≡ false
-      → measure font text (movedPoint x y position) v lineHeight skip ≡ movedDimensions x y (measure font text position v lineHeight skip)
+  pub measure-moved : anyApplies (measureCauses font r) ≡ false → anyApplies (measureCauses font movedRequest) ≡ false
+      → measure font movedRequest ≡ movedDimensions x y (measure font r)
   unfolding measure
-  measure-moved skip here there =
-      none-applies _ (measureCauses font text (movedPoint x y position) lineHeight) there
-      ∙ ap dimensions (text-moved (measuredAnswer font skip))
-      ∙ dimensions-moved x y (laidAt font text v lineHeight (measuredAnswer font skip) position)
-      ∙ ap (movedDimensions x y) (sym (none-applies _ (measureCauses font text position lineHeight) here))
+  measure-moved here there =
+      none-applies _ (measureCauses font movedRequest) there
+      ∙ ap dimensions (text-moved (measuredAnswer font (r .skip)))
+      ∙ dimensions-moved x y (measuredText font r)
+      ∙ ap (movedDimensions x y) (sym (none-applies _ (measureCauses font r) here))
 
 -- So a text that is measured somewhere is measured at (0, 0), and its box is that one moved.
-module _ (font text : List ℕ) (p : Point) (v : VerticalPosition) (lineHeight : ℕ) (skip : Bool) (d : RenderedDimensions) where
+module _ (font : Font) (r : Request) (d : RenderedDimensions) where
   abbrev zero : Point
   zero = point (pos 0) (pos 0)
 
-  there-is : movedPoint (p .x) (p .y) zero ≡ p
-  there-is = rw (plus-zero (p .x), plus-zero (p .y))
+  there-is : movedRequest (r .position .x) (r .position .y) font (at zero r) ≡ r
+  there-is = rw (plus-zero (r .position .x), plus-zero (r .position .y))
     where
       plus-zero : (z : ℤ) → z +ℤ pos 0 ≡ z
       plus-zero z = omega (zarith, plus z (pos 0))
 
   abbrev AtZero : Outcome RenderedDimensions → Type 0
-  AtZero o = (e : RenderedDimensions) × ((o ≡ success e) × (d .«bounding_box» ≡ movedBox (p .x) (p .y) (e .«bounding_box»)))
+  AtZero o =
+      (e : RenderedDimensions)
+      × ((o ≡ success e) × (d .«bounding_box» ≡ movedBox (r .position .x) (r .position .y) (e .«bounding_box»)))
 
-  unmoved : (o : Outcome RenderedDimensions) → success d ≡ movedDimensions (p .x) (p .y) o → AtZero o
+  unmoved : (o : Outcome RenderedDimensions) → success d ≡ movedDimensions (r .position .x) (r .position .y) o → AtZero o
   unmoved (success e) h =
-      let same : d ≡ record { advance = e .advance; «bounding_box» = movedBox (p .x) (p .y) (e .«bounding_box») } = cc in
+      let same : d ≡ record { advance = e .advance; «bounding_box» = movedBox (r .position .x) (r .position .y) (e .«bounding_box») } = cc in
       (e, (refl, ap (λ (z : RenderedDimensions). z .«bounding_box») same))
-  unmoved (refused n c) h = let z : _≡_ {A = ℕ} 0 1 = cc in absurd (omega arith)
+  unmoved (refused n c) h = impossible cc
 
-  pub measured-at-zero : measure font text p v lineHeight skip ≡ success d → AtZero (measure font text zero v lineHeight skip)
+  -- the causes at (0, 0), where none applies elsewhere
+  pub zero-off : anyApplies (measureCauses font r) ≡ false → anyApplies (measureCauses font (at zero r)) ≡ false
+  zero-off e =
+      let k = any-parts (font .causes) _ e in
+      let o = each-off (textCause (r .text) ∷ positionCause (r .position) (r .lineHeight) ∷ []) (k .1) in
+      let low = or-false (coordinateOff (r .position .x) || coordinateOff (r .position .y)) (ltb 65535 (r .lineHeight)) (o .1 .0) .1 in
+      let all : NoneApplies (textCause (r .text) ∷ positionCause zero (r .lineHeight) ∷ []) = (o .0, (low, tt)) in
+      parts-any (font .causes) _ (k .0) (all-off (textCause (r .text) ∷ positionCause zero (r .lineHeight) ∷ []) all)
+
+  pub measured-at-zero : measure font r ≡ success d → AtZero (measure font (at zero r))
   unfolding measure
   measured-at-zero h =
-      let s = succeeded (dimensions (laidAt font text v lineHeight (measuredAnswer font skip) p)) d (measureCauses font text p lineHeight) h in
-      let o = each-off (measureCauses font text p lineHeight) (s .0) in
-      let here = all-off (measureCauses font text zero lineHeight) (o .0, (o .1 .0, (o .1 .1 .0, (or-false (coordinateOff (p .x) || coordinateOff (p .y)) (ltb 65535 lineHeight) (o .1 .1 .1 .0) .1, tt)))) in
-      unmoved (measure font text zero v lineHeight skip)
-      (sym h ∙ ap (λ (q : Point). measure font text q v lineHeight skip) (sym there-is)
-      ∙ measure-moved (p .x) (p .y) font text zero v lineHeight skip here (ap (λ (q : Point). anyApplies (measureCauses font text q lineHeight)) there-is ∙ s .0))
+      let s = succeeded (dimensions (measuredText font r)) d (measureCauses font r) h in
+      unmoved (measure font (at zero r))
+      (sym h ∙ ap (measure font) (sym there-is)
+      ∙ measure-moved (r .position .x) (r .position .y) font (at zero r) (zero-off (s .0))
+      (ap (λ (q : Request). anyApplies (measureCauses font q)) there-is ∙ s .0))

@@ -12,7 +12,7 @@ use borrow.Author.Tests.{ltb-false, eqb-false}
 use Rattle.types.specs.declared.font_reader.FontReader.{FontReader}
 use Rattle.integers.specs.Integers.{pick}
 use Rattle.integers.proofs.Laws.{zarith}
-use Rattle.definitions.specs.Refusals.{Outcome, success, refused, unlessRefused}
+use Rattle.definitions.specs.Refusals.{Outcome, success, refused, unlessRefused, anyApplies}
 use Rattle.definitions.specs.Header.{byte, signedByte, header, lengthOff, headerOff, widthOff, signedWidthOff, negative, fontCauses, Opened}
 use Rattle.definitions.specs.Calls.{openFont}
 
@@ -56,6 +56,11 @@ module _ (font : List ℕ) where
         width = omega zarith;
         height = omega zarith;
       }
+
+  pub opened-by-causes : anyApplies (fontCauses font) ≡ false → Opened font (header font)
+  opened-by-causes e =
+      let l = or-false (lengthOff font) (headerOff font || false) e in
+      opened-limits (l .0) (or-false (headerOff font) false (l .1) .0)
 
   module _ {A : Type 0} (rest : Outcome A) where
     -- what the causes of the font leave, by whether each applies

@@ -8,11 +8,10 @@ use native.Mathlib.Omega.{arith}
 use lib.IntN.{ℤ, pos}
 use lib.ListN.{take, set}
 use Rattle.integers.specs.Integers.{signed8}
-use Rattle.types.specs.declared.geometry.Point.{Point}
+use Rattle.types.specs.declared.framebuffer.Framebuffer.{Framebuffer}
 use Rattle.types.specs.declared.geometry.RenderedDimensions.{RenderedDimensions}
 use Rattle.types.specs.declared.style.FontColor.{FontColor}
 use Rattle.types.specs.declared.style.FontColor.the-variants.{Transparent, WithBackground}
-use Rattle.types.specs.declared.style.FontStyle.{FontStyle}
 use Rattle.types.specs.declared.style.VerticalPosition.the-variants.{Baseline}
 use Rattle.definitions.specs.Refusals.{Outcome, success, refused, Cause, unlessRefused, anyApplies}
 use Rattle.definitions.specs.Header.{header, headerOff}
@@ -21,7 +20,8 @@ use Rattle.definitions.specs.Lookup.{record8, chain, search}
 use Rattle.definitions.specs.Glyph.{fields, glyph}
 use Rattle.definitions.specs.Utf8.{table, rowOf, firstCharacter, decodeFrom, newlines}
 use Rattle.definitions.specs.Text.{point, joinAll, layout}
-use Rattle.definitions.specs.Calls.{measure, drawCauses, draw, drawBuffer}
+use Rattle.definitions.specs.Calls.{Request, plain, measure, drawCauses, draw, drawBuffer}
+use Rattle.definitions.specs.Font.{Font, u8g2}
 use Rattle.definitions.specs.FontT.{T}
 use Rattle.definitions.proofs.OpenedLaws.{or-false}
 
@@ -39,14 +39,22 @@ module _ {A : Type 0} (rest : Outcome A) where
       by true k next = let z : _≡_ {A = ℕ} 0 1 = cc (rw k at e) in absurd (omega arith)
       by false k next = let h = next (rw k at e) in (rw k (h .0), h .1)
 
--- one cause more, tested last
-pub last-applies : (cs : List Cause) (c : Cause) → anyApplies (cs ++ c ∷ []) ≡ false → c .applies ≡ false
-last-applies [] c e = or-false (c .applies) false e .0
-last-applies (b ∷ cs) c e = last-applies cs c (or-false (b .applies) (anyApplies (cs ++ c ∷ [])) e .1)
+  -- causes none of which applies, tested before others
+  pub passed : (cs ds : List Cause) → anyApplies cs ≡ false → unlessRefused (cs ++ ds) rest ≡ unlessRefused ds rest
+  passed [] ds e = refl
+  passed (c ∷ cs) ds e = let h = or-false (c .applies) (anyApplies cs) e in rw (h .0) (passed cs ds (h .1))
 
-pub nor-last : (cs : List Cause) (c : Cause) → anyApplies cs ≡ false → c .applies ≡ false → anyApplies (cs ++ c ∷ []) ≡ false
-nor-last [] c e k = rw k
-nor-last (b ∷ cs) c e k = let h = or-false (b .applies) (anyApplies cs) e in rw (h .0) (nor-last cs c (h .1) k)
+-- both parts of a list of causes
+pub any-parts : (cs ds : List Cause) → anyApplies (cs ++ ds) ≡ false → (anyApplies cs ≡ false) × (anyApplies ds ≡ false)
+any-parts [] ds e = (refl, e)
+any-parts (c ∷ cs) ds e =
+    let h = or-false (c .applies) (anyApplies (cs ++ ds)) e in
+    let k = any-parts cs ds (h .1) in
+    (rw (h .0) (k .0), k .1)
+
+pub parts-any : (cs ds : List Cause) → anyApplies cs ≡ false → anyApplies ds ≡ false → anyApplies (cs ++ ds) ≡ false
+parts-any [] ds e k = k
+parts-any (c ∷ cs) ds e k = let h = or-false (c .applies) (anyApplies cs) e in rw (h .0) (parts-any cs ds (h .1) k)
 
 -- the same, cause by cause
 abbrev pub NoneApplies : List Cause → Type 0
@@ -66,7 +74,7 @@ all-off (c ∷ cs) h = rw (h .0) (all-off cs (h .1))
 -- A call with every cause, and the same with one after the other mended.
 module _ where
   abbrev drawnOf : List ℕ → List ℕ → ℤ → FontColor → List ℕ → Outcome RenderedDimensions
-  drawnOf font text x color buffer = draw font text (point x (pos 0)) record { color = color; «vertical_pos» = Baseline } 0 false 1 1 buffer
+  drawnOf font text x color buffer = draw (u8g2 font) (plain text (point x (pos 0)) Baseline 0 false) color record { width = 1; height = 1 } buffer
 
   abbrev background : FontColor
   background = WithBackground 1 0
@@ -85,7 +93,7 @@ module _ where
   draw-order = refl
 
   abbrev measuredOf : List ℕ → List ℕ → ℤ → Outcome RenderedDimensions
-  measuredOf font text x = measure font text (point x (pos 0)) Baseline 0 false
+  measuredOf font text x = measure (u8g2 font) (plain text (point x (pos 0)) Baseline 0 false)
 
   pub measure-order :
       (measuredOf (take 22 T) (255 ∷ []) (pos 1048577)
@@ -100,8 +108,7 @@ module _ where
 
 -- ---- the framebuffer of a refused call
 
-pub refused-keeps : (font text : List ℕ) (position : Point) (style : FontStyle) (lineHeight : ℕ) (skip : Bool) (width height : ℕ) (buffer : List ℕ)
-    → anyApplies (drawCauses font text position style lineHeight width height buffer) ≡ true
-    → drawBuffer font text position style lineHeight skip width height buffer ≡ buffer
+pub refused-keeps : (font : Font) (r : Request) (color : FontColor) (p : Framebuffer) (buffer : List ℕ)
+    → anyApplies (drawCauses font r color p buffer) ≡ true → drawBuffer font r color p buffer ≡ buffer
 unfolding drawBuffer
-refused-keeps font text position style lineHeight skip width height buffer e = rw e
+refused-keeps font r color p buffer e = rw e

@@ -28,26 +28,28 @@ use Rattle.definitions.specs.Glyph.{glyph}
 use Rattle.definitions.specs.Utf8.{decode, isUtf8}
 use Rattle.definitions.specs.Text.{Answer, answer, nothing, stops, boxAt, joinAll, Layout, point, newline, place, layout, dimensionsOf, dimensions}
 use Rattle.definitions.specs.TextSteps.{movedRectangle}
-use Rattle.definitions.specs.Runs.{Pixels, pixels, cut, glyphPixels}
+use Rattle.definitions.specs.Runs.{Pixels, pixels, cut}
+use Rattle.definitions.specs.Font.{Font, u8g2, measuredAnswer, withRuns, drawable, drawnAnswer}
 use Rattle.definitions.specs.Framebuffer.{sideOff, framebufferCause}
 use Rattle.definitions.specs.Limits.{coordinateOff, positionCause, backgroundCause}
-use Rattle.definitions.specs.Calls.{measureCauses, characters, measuredAnswer, measure, withRuns, drawable, drawnAnswer, draw}
-use Rattle.definitions.specs.Whole.{atZero, measuredAtZero, opposite, drawnWhole, inCorner, boxed, SeenWhole}
+use Rattle.definitions.specs.Calls.{Request, characters, origin, laid, measureCauses, measuredText, measure, draw}
+use Rattle.definitions.specs.Agreement.{limits, on}
+use Rattle.definitions.specs.Whole.{atZero, whole, measuredAtZero, opposite, sized, drawnWhole, inCorner, boxed, SeenWhole}
 use Rattle.definitions.proofs.OpenedLaws.{or-false, opened-limits}
-use Rattle.definitions.proofs.RefusalLaws.{succeeded, each-off, NoneApplies}
+use Rattle.definitions.proofs.RefusalLaws.{succeeded, passed, NoneApplies, each-off, all-off}
 use Rattle.definitions.proofs.JoinLaws.{HasCell, end, join-end}
 use Rattle.definitions.proofs.GlyphLaws.{InRange, glyph-range}
 use Rattle.definitions.proofs.BitsLaws.{SignedByte}
 use Rattle.definitions.proofs.Utf8Laws.{utf8-characters, character-count}
 use Rattle.definitions.proofs.Agreement.{dimensions-success}
-use Rattle.definitions.proofs.MovedLaws.{movedPoint, movedDimensions, dimensions-moved, laidAt, text-moved}
+use Rattle.definitions.proofs.MovedLaws.{movedPoint, movedDimensions, dimensions-moved, text-moved}
 
 -- ---- drawing lays a text out as measuring does, or stops at a glyph whose runs are cut off
 
 abbrev AlikeOrCut : Layout → Layout → Type 0
 AlikeOrCut drawn measured = (drawn ≡ measured) ⊎ ((c : ℕ) × (drawn .advance ≡ refused 8 c))
 
-module _ (font : List ℕ) (lineHeight : ℕ) (origin : Point) where
+module _ (font : Font) (lineHeight : ℕ) (origin : Point) where
   abbrev drawnFrom : Point → List ℕ → Layout
   drawnFrom advance cs = layout (drawnAnswer font false) lineHeight origin advance cs
 
@@ -72,7 +74,7 @@ module _ (font : List ℕ) (lineHeight : ℕ) (origin : Point) where
     with-pixels g cut = inr (c, refl)
 
     placed : (o : Outcome GlyphReader) → Placed (drawable font c o) o
-    placed (success g) = with-pixels g (glyphPixels font (header font) g)
+    placed (success g) = with-pixels g (font .pixels g)
     placed (refused n d) = inl refl
 
     next-char : (t : Bool)
@@ -80,7 +82,7 @@ module _ (font : List ℕ) (lineHeight : ℕ) (origin : Point) where
         (pick t (drawnFrom (newline lineHeight advance) cs) (place origin advance (drawnAnswer font false c) (λ next. drawnFrom next cs)))
         (pick t (measuredFrom (newline lineHeight advance) cs) (place origin advance (measuredAnswer font false c) (λ next. measuredFrom next cs)))
     next-char true = rest (newline lineHeight advance)
-    next-char false = placed (glyph font c)
+    next-char false = placed (font .glyph c)
 
   pub alike-or-cut : (cs : List ℕ) (advance : Point) → AlikeOrCut (drawnFrom advance cs) (measuredFrom advance cs)
   unfolding layout
@@ -192,7 +194,7 @@ module _ {n : ℕ} {advance : Point} (a : Advanced n advance) where
 
 module _ (font : List ℕ) (opened : Opened font (header font)) (lineHeight : ℕ) (low : lineHeight ≤ 128) where
   abbrev boxFrom : Point → List ℕ → BoundingBox
-  boxFrom advance cs = joinAll (layout (measuredAnswer font false) lineHeight (point (pos 0) (pos 0)) advance cs .glyphs)
+  boxFrom advance cs = joinAll (layout (measuredAnswer (u8g2 font) false) lineHeight (point (pos 0) (pos 0)) advance cs .glyphs)
 
   -- what is to be shown of a list of code points, from each advance
   abbrev Nears : List ℕ → Type 0
@@ -200,7 +202,7 @@ module _ (font : List ℕ) (opened : Opened font (header font)) (lineHeight : �
 
   near-answer : (c : ℕ) (cs : List ℕ) → Nears cs → (n : ℕ) (advance : Point) → n + length (c ∷ cs) ≤ 4096 → Advanced n advance
       → (o : Outcome GlyphReader) → glyph font c ≡ o
-      → NearBox (joinAll (place (point (pos 0) (pos 0)) advance (answer false o) (λ next. layout (measuredAnswer font false) lineHeight (point (pos 0) (pos 0)) next cs) .glyphs))
+      → NearBox (joinAll (place (point (pos 0) (pos 0)) advance (answer false o) (λ next. layout (measuredAnswer (u8g2 font) false) lineHeight (point (pos 0) (pos 0)) next cs) .glyphs))
   unfolding joinAll
   near-answer c cs rest n advance few a (success g) e =
       let range = glyph-range font (header font) c g opened e in
@@ -213,8 +215,8 @@ module _ (font : List ℕ) (opened : Opened font (header font)) (lineHeight : �
       → (t : Bool)
       → NearBox
       (joinAll
-      (pick t (layout (measuredAnswer font false) lineHeight (point (pos 0) (pos 0)) (newline lineHeight advance) cs)
-      (place (point (pos 0) (pos 0)) advance (measuredAnswer font false c) (λ next. layout (measuredAnswer font false) lineHeight (point (pos 0) (pos 0)) next cs))
+      (pick t (layout (measuredAnswer (u8g2 font) false) lineHeight (point (pos 0) (pos 0)) (newline lineHeight advance) cs)
+      (place (point (pos 0) (pos 0)) advance (measuredAnswer (u8g2 font) false c) (λ next. layout (measuredAnswer (u8g2 font) false) lineHeight (point (pos 0) (pos 0)) next cs))
       .glyphs))
   near-char c cs rest n advance few a true = rest (n + 1) (newline lineHeight advance) (omega arith) (after-newline a low)
   near-char c cs rest n advance few a false = near-answer c cs rest n advance few a (glyph font c) refl
@@ -243,43 +245,51 @@ side-in n l h =
     let b : ltb 256 n ≡ false = le-ltb 256 n h in
     rw (a, b)
 
-module _ (font text : List ℕ) (lineHeight : ℕ) (advance : Point) (r : Rectangle) (low : lineHeight ≤ 128) (measured : measuredAtZero font text lineHeight ≡ success (boxed advance r)) where
-  abbrev laid : (ℕ → Answer) → Point → Layout
-  laid answers position = laidAt font text Baseline lineHeight answers position
+module _ (font text : List ℕ) (lineHeight : ℕ) (advance : Point) (r : Rectangle) (low : lineHeight ≤ 128)
+    (measured : measuredAtZero font text lineHeight ≡ success (boxed advance r)) where
+  -- what is asked at (0, 0), and the layouts of what is asked
+  abbrev asked : Request
+  asked = whole text lineHeight atZero
 
-  at-zero : (anyApplies (measureCauses font text atZero lineHeight) ≡ false)
-      × (dimensions (laid (measuredAnswer font false) atZero) ≡ success (boxed advance r))
+  abbrev drawnAt : Point → Layout
+  drawnAt position = laid (u8g2 font) (whole text lineHeight position) (drawnAnswer (u8g2 font) false)
+
+  at-zero : (anyApplies (measureCauses (u8g2 font) asked) ≡ false) × (dimensions (measuredText (u8g2 font) asked) ≡ success (boxed advance r))
   unfolding measure
-  at-zero =
-      succeeded (dimensions (laid (measuredAnswer font false) atZero)) (boxed advance r) (measureCauses font text atZero lineHeight) measured
+  at-zero = succeeded (dimensions (measuredText (u8g2 font) asked)) (boxed advance r) (measureCauses (u8g2 font) asked) measured
 
-  off : NoneApplies (measureCauses font text atZero lineHeight)
-  off = each-off (measureCauses font text atZero lineHeight) (at-zero .0)
+  off : NoneApplies (measureCauses (u8g2 font) asked)
+  off = each-off (measureCauses (u8g2 font) asked) (at-zero .0)
 
   -- so its opposite is within the limits for places
   pub near : Near r
   near =
       let start : Advanced 0 atZero = record { left = omega zarith; right = omega zarith; top = omega zarith; bottom = omega zarith } in
-      let box = dimensions-success (joinAll (laid (measuredAnswer font false) atZero .glyphs)) (laid (measuredAnswer font false) atZero .advance) (boxed advance r) (at-zero .1) .1 in
+      let l = measuredText (u8g2 font) asked in
+      let box = dimensions-success (joinAll (l .glyphs)) (l .advance) (boxed advance r) (at-zero .1) .1 in
       subst NearBox box
       (near-text font (opened-limits font (off .0) (off .1 .0)) lineHeight low (characters text) 0 atZero (omega (arith, few-characters text (off .1 .1 .0))) start)
 
   stands : positionCause (opposite r) lineHeight .applies ≡ false
   stands =
-      rw (coordinate-in (left r) (near .left-low) (near .left-high), coordinate-in (top r) (near .top-low) (near .top-high), le-ltb 65535 lineHeight (omega arith))
+      rw (
+        coordinate-in (left r) (near .left-low) (near .left-high),
+        coordinate-in (top r) (near .top-low) (near .top-high),
+        le-ltb 65535 lineHeight (omega arith),
+      )
 
   -- what the letters come to, once they are drawn there
   abbrev answers : Outcome RenderedDimensions
-  answers = dimensions (laid (drawnAnswer font false) (opposite r))
+  answers = dimensions (drawnAt (opposite r))
 
-  moved-there : answers ≡ movedDimensions (pos 0 -ℤ left r) (pos 0 -ℤ top r) (dimensions (laid (drawnAnswer font false) atZero))
+  moved-there : answers ≡ movedDimensions (pos 0 -ℤ left r) (pos 0 -ℤ top r) (dimensions (drawnAt atZero))
   moved-there =
       let x : pos 0 -ℤ left r ≡ (pos 0 -ℤ left r) +ℤ pos 0 = omega (zarith, plus (pos 0 -ℤ left r) (pos 0)) in
       let y : pos 0 -ℤ top r ≡ (pos 0 -ℤ top r) +ℤ pos 0 = omega (zarith, plus (pos 0 -ℤ top r) (pos 0)) in
       let p : opposite r ≡ movedPoint (pos 0 -ℤ left r) (pos 0 -ℤ top r) atZero = cc (x, y) in
-      ap (λ (q : Point). dimensions (laid (drawnAnswer font false) q)) p
-      ∙ ap dimensions (text-moved (pos 0 -ℤ left r) (pos 0 -ℤ top r) font text atZero Baseline lineHeight (drawnAnswer font false))
-      ∙ dimensions-moved (pos 0 -ℤ left r) (pos 0 -ℤ top r) (laid (drawnAnswer font false) atZero)
+      ap (λ (q : Point). dimensions (drawnAt q)) p
+      ∙ ap dimensions (text-moved (pos 0 -ℤ left r) (pos 0 -ℤ top r) (u8g2 font) asked (drawnAnswer (u8g2 font) false))
+      ∙ dimensions-moved (pos 0 -ℤ left r) (pos 0 -ℤ top r) (drawnAt atZero)
 
   to-corner : movedRectangle (pos 0 -ℤ left r) (pos 0 -ℤ top r) r ≡ inCorner r
   to-corner =
@@ -288,17 +298,17 @@ module _ (font text : List ℕ) (lineHeight : ℕ) (advance : Point) (r : Rectan
       cc (x, y)
 
   seen-answer : SeenWhole advance r answers
-  seen-answer = subst (SeenWhole advance r) (sym moved-there) (by (alike-or-cut font lineHeight atZero (characters text) atZero))
+  seen-answer = subst (SeenWhole advance r) (sym moved-there) (by (alike-or-cut (u8g2 font) lineHeight (origin (u8g2 font) asked) (characters text) atZero))
     where
-      by : AlikeOrCut (laid (drawnAnswer font false) atZero) (laid (measuredAnswer font false) atZero)
-          → SeenWhole advance r (movedDimensions (pos 0 -ℤ left r) (pos 0 -ℤ top r) (dimensions (laid (drawnAnswer font false) atZero)))
+      by : AlikeOrCut (drawnAt atZero) (measuredText (u8g2 font) asked)
+          → SeenWhole advance r (movedDimensions (pos 0 -ℤ left r) (pos 0 -ℤ top r) (dimensions (drawnAt atZero)))
       by (inl e) = rw (e, at-zero .1) (ap (boxed advance) to-corner)
       by (inr e) = rw (e .1) (inr refl)
 
   -- on a framebuffer of the box's size
   module _ (color : FontColor) (pixels : List ℕ) (wide : r .size .width ≤ 256) (high : r .size .height ≤ 256) (area : length pixels ≡ r .size .width * r .size .height) where
-    sized : framebufferCause (r .size .width) (r .size .height) pixels .applies ≡ false
-    sized =
+    fits : framebufferCause (sized r) pixels .applies ≡ false
+    fits =
         rw (side-in (r .size .width) (near .some .wide) wide, side-in (r .size .height) (near .some .high) high, eq-eqb (length pixels) (r .size .width * r .size .height) area)
 
     by-background : (t : Bool) → SeenWhole advance r (pick t (refused 6 0) answers)
@@ -308,4 +318,9 @@ module _ (font text : List ℕ) (lineHeight : ℕ) (advance : Point) (r : Rectan
     -- All of the text is seen.
     pub seen-whole : SeenWhole advance r (drawnWhole font text lineHeight color r pixels)
     unfolding draw
-    seen-whole = rw (off .0, off .1 .0, off .1 .1 .0, sized, stands) (by-background (backgroundCause color font .applies))
+    seen-whole =
+        let limited : NoneApplies (limits (u8g2 font) (whole text lineHeight (opposite r)) (on (sized r) pixels)) =
+        (off .0, (off .1 .0, (fits, (off .1 .1 .0, (stands, tt))))) in
+        subst (SeenWhole advance r)
+        (sym (passed answers (limits (u8g2 font) (whole text lineHeight (opposite r)) (on (sized r) pixels)) _ (all-off _ limited)))
+        (by-background (backgroundCause color (header font .«supports_background_color») .applies))

@@ -7,60 +7,51 @@ use mathlib.Core.List.{List, [], _∷_, _++_}
 use Prim.Native.Nat.{ℕ, _+_, _*_, _≤_, _<_}
 use lib.IntN.{pos}
 use lib.ListN.{getD}
-use Rattle.types.specs.declared.geometry.Point.{Point}
+use Rattle.types.specs.declared.framebuffer.Framebuffer.{Framebuffer}
 use Rattle.types.specs.declared.geometry.RenderedDimensions.{RenderedDimensions}
-use Rattle.types.specs.declared.style.FontStyle.{FontStyle}
+use Rattle.types.specs.declared.style.FontColor.{FontColor}
 use Rattle.definitions.specs.Refusals.{Outcome, success, Cause, anyApplies}
-use Rattle.definitions.specs.Header.{fontCauses}
 use Rattle.definitions.specs.Geometry.{InsideBox}
+use Rattle.definitions.specs.Font.{Font, u8g2}
 use Rattle.definitions.specs.Framebuffer.{framebufferCause}
 use Rattle.definitions.specs.Limits.{textCause, positionCause}
-use Rattle.definitions.specs.Calls.{measure, draw, drawBuffer}
+use Rattle.definitions.specs.Calls.{Request, measure, draw, drawBuffer}
 
--- What the two drawings share: text, place, anchor, line height and ink.
-pub record Request : Type 0 where
-  pub text : List ℕ
-  pub position : Point
-  pub style : FontStyle
-  pub lineHeight : ℕ
-
-abbrev pub request : List ℕ → Point → FontStyle → ℕ → Request
-request text position style lineHeight = record { text = text; position = position; style = style; lineHeight = lineHeight }
-
--- A framebuffer, and what it held before.
-pub record Framebuffer : Type 0 where
-  pub width : ℕ
-  pub height : ℕ
+-- What is drawn on: a framebuffer, and what it held before.
+pub record Ground : Type 0 where
+  pub framebuffer : Framebuffer
   pub before : List ℕ
 
-abbrev pub framebufferOf : ℕ → ℕ → List ℕ → Framebuffer
-framebufferOf width height before = record { width = width; height = height; before = before }
+abbrev pub on : Framebuffer → List ℕ → Ground
+on p before = record { framebuffer = p; before = before }
 
 -- Causes 1 to 5 of drawing: the limits of fonts, framebuffers, texts, and of places and line heights.
-abbrev pub limits : List ℕ → Request → Framebuffer → List Cause
+abbrev pub limits : Font → Request → Ground → List Cause
 limits font r p =
-    fontCauses font
-    ++ framebufferCause (p .width) (p .height) (p .before)
+    font .causes
+    ++ framebufferCause (p .framebuffer) (p .before)
     ∷ textCause (r .text)
     ∷ positionCause (r .position) (r .lineHeight)
     ∷ []
 
-abbrev pub WithinLimits : List ℕ → Request → Framebuffer → Type 0
+abbrev pub WithinLimits : Font → Request → Ground → Type 0
 WithinLimits font r p = anyApplies (limits font r p) ≡ false
 
--- Unknown letters are not skipped, in drawing and in measuring.
-abbrev pub drawn : List ℕ → Request → Framebuffer → Outcome RenderedDimensions
-drawn font r p = draw font (r .text) (r .position) (r .style) (r .lineHeight) false (p .width) (p .height) (p .before)
+abbrev pub drawn : Font → Request → FontColor → Ground → Outcome RenderedDimensions
+drawn font r color p = draw font r color (p .framebuffer) (p .before)
 
-abbrev pub after : List ℕ → Request → Framebuffer → List ℕ
-after font r p = drawBuffer font (r .text) (r .position) (r .style) (r .lineHeight) false (p .width) (p .height) (p .before)
+abbrev pub after : Font → Request → FontColor → Ground → List ℕ
+after font r color p = drawBuffer font r color (p .framebuffer) (p .before)
 
-abbrev pub measured : List ℕ → Request → Outcome RenderedDimensions
-measured font r = measure font (r .text) (r .position) (r .style .«vertical_pos») (r .lineHeight) false
+-- the pixel (01's cell) of a framebuffer's bytes, and how many columns and rows there are
+abbrev pub pixel : Ground → List ℕ → ℕ → ℕ → ℕ
+pixel p bytes column row = getD bytes (row * p .framebuffer .width + column) 0
 
--- the pixel (01's cell) of a framebuffer's bytes
-abbrev pub pixel : Framebuffer → List ℕ → ℕ → ℕ → ℕ
-pixel p bytes column row = getD bytes (row * p .width + column) 0
+abbrev pub width : Ground → ℕ
+width p = p .framebuffer .width
+
+abbrev pub height : Ground → ℕ
+height p = p .framebuffer .height
 
 -- What the four calls come to: the answers, and what the two framebuffers then hold.
 pub record Results : Type 0 where
@@ -72,41 +63,42 @@ pub record Results : Type 0 where
   pub second-after : List ℕ
 
 -- by the definitions, for any two fonts and framebuffers
-abbrev pub results : List ℕ → List ℕ → Request → Framebuffer → Framebuffer → Results
-results firstFont secondFont r p q = record {
-  first = drawn firstFont r p;
-  second = drawn secondFont r q;
-  first-measured = measured firstFont r;
-  second-measured = measured secondFont r;
-  first-after = after firstFont r p;
-  second-after = after secondFont r q;
+abbrev pub results : Font → Font → Request → FontColor → Ground → Ground → Results
+results f g r color p q = record {
+  first = drawn f r color p;
+  second = drawn g r color q;
+  first-measured = measure f r;
+  second-measured = measure g r;
+  first-after = after f r color p;
+  second-after = after g r color q;
 }
 
--- Both drawings are within 01's limits; the second font is the first with any bytes, or none, added at its end; the second
--- framebuffer is at least as wide and high. What the framebuffers held before is not restricted.
-pub record TwoDrawings (firstFont secondFont : List ℕ) (r : Request) (p q : Framebuffer) : Type 0 where
-  pub first-within : WithinLimits firstFont r p
-  pub second-within : WithinLimits secondFont r q
+-- Both drawings are within 01's limits, and no letter is skipped; the second font is the first with any bytes, or none, added at its
+-- end; the second framebuffer is at least as wide and high. What the framebuffers held before is not restricted.
+pub record TwoDrawings (firstFont secondFont : List ℕ) (r : Request) (p q : Ground) : Type 0 where
+  pub first-within : WithinLimits (u8g2 firstFont) r p
+  pub second-within : WithinLimits (u8g2 secondFont) r q
+  pub no-skips : r .skip ≡ false
   pub more : List ℕ
   pub longer : secondFont ≡ firstFont ++ more
-  pub as-wide : p .width ≤ q .width
-  pub as-high : p .height ≤ q .height
+  pub as-wide : width p ≤ width q
+  pub as-high : height p ≤ height q
 
 -- No pixel outside the box changes, nor any where there is none: `InsideBox` of none never holds.
-abbrev pub KeptOutside : Framebuffer → List ℕ → RenderedDimensions → Type 0
+abbrev pub KeptOutside : Ground → List ℕ → RenderedDimensions → Type 0
 KeptOutside p bytes d =
-    (column row : ℕ) → column < p .width → row < p .height
+    (column row : ℕ) → column < width p → row < height p
     → (InsideBox (pos column) (pos row) (d .«bounding_box») → ⊥)
     → pixel p bytes column row ≡ pixel p (p .before) column row
 
-pub record Agree (p q : Framebuffer) (c : Results) (d : RenderedDimensions) : Type 0 where
+pub record Agree (p q : Ground) (c : Results) (d : RenderedDimensions) : Type 0 where
   -- the second succeeds, with the same advance and the same box or none
   pub second-succeeds : c .second ≡ success d
   -- measuring succeeds with either font, with exactly that
   pub first-measures : c .first-measured ≡ success d
   pub second-measures : c .second-measured ≡ success d
   -- every pixel that lies in both, as each of the first does, and began alike ends alike
-  pub alike : (column row : ℕ) → column < p .width → row < p .height
+  pub alike : (column row : ℕ) → column < width p → row < height p
       → pixel p (p .before) column row ≡ pixel q (q .before) column row
       → pixel p (c .first-after) column row ≡ pixel q (c .second-after) column row
   -- no pixel outside the box changes in either
@@ -114,6 +106,6 @@ pub record Agree (p q : Framebuffer) (c : Results) (d : RenderedDimensions) : Ty
   pub second-kept : KeptOutside q (c .second-after) d
 
 -- If the first drawing succeeds, with an advance and a box or none, all of them agree on that.
-abbrev pub ThirdDemand : List ℕ → List ℕ → Request → Framebuffer → Framebuffer → Results → Type 0
+abbrev pub ThirdDemand : List ℕ → List ℕ → Request → Ground → Ground → Results → Type 0
 ThirdDemand firstFont secondFont r p q c =
     TwoDrawings firstFont secondFont r p q → (d : RenderedDimensions) → c .first ≡ success d → Agree p q c d

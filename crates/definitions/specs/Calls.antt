@@ -5,11 +5,11 @@ use Prim.Native.Nat.{ℕ, _*_}
 use lib.IntN.{pos, natAbs, _+ℤ_, _-ℤ_}
 use Rattle.integers.specs.Integers.{pick}
 use Rattle.types.specs.declared.font_reader.FontReader.{FontReader}
+use Rattle.types.specs.declared.framebuffer.Framebuffer.{Framebuffer}
 use Rattle.types.specs.declared.geometry.BoundingBox.{BoundingBox}
 use Rattle.types.specs.declared.geometry.Point.{Point}
 use Rattle.types.specs.declared.geometry.Rectangle.{Rectangle}
 use Rattle.types.specs.declared.geometry.RenderedDimensions.{RenderedDimensions}
-use Rattle.types.specs.declared.glyph_reader.GlyphReader.{GlyphReader}
 use Rattle.types.specs.declared.results.BoundingBoxResult.{BoundingBoxResult}
 use Rattle.types.specs.declared.results.BoundingBoxResult.the-variants.{Ok as BoundingBox·Ok, Err as BoundingBox·Err}
 use Rattle.types.specs.declared.results.DimensionsResult.{DimensionsResult}
@@ -18,16 +18,16 @@ use Rattle.types.specs.declared.results.FontReaderResult.{FontReaderResult}
 use Rattle.types.specs.declared.results.FontReaderResult.the-variants.{Ok as FontReader·Ok, Err as FontReader·Err}
 use Rattle.types.specs.declared.results.RectangleResult.{RectangleResult}
 use Rattle.types.specs.declared.results.RectangleResult.the-variants.{Ok as Rectangle·Ok, Err as Rectangle·Err}
-use Rattle.types.specs.declared.style.FontStyle.{FontStyle}
+use Rattle.types.specs.declared.style.FontColor.{FontColor}
 use Rattle.types.specs.declared.style.HorizontalAlignment.{HorizontalAlignment}
+use Rattle.types.specs.declared.style.HorizontalAlignment.the-variants.{Left}
 use Rattle.types.specs.declared.style.VerticalPosition.{VerticalPosition}
 use Rattle.definitions.specs.Refusals.{Outcome, success, refused, refusal, Cause, unlessRefused, anyApplies}
 use Rattle.definitions.specs.Header.{header, fontCauses}
 use Rattle.definitions.specs.VerticalOffset.{verticalOffset}
-use Rattle.definitions.specs.Glyph.{glyph}
 use Rattle.definitions.specs.Utf8.{decode, codePoints, newlines}
-use Rattle.definitions.specs.Text.{Answer, answer, Layout, point, layout, joinAll, dimensions, aligned, emptyLine}
-use Rattle.definitions.specs.Runs.{Pixels, pixels, cut, glyphPixels}
+use Rattle.definitions.specs.Text.{Answer, Layout, point, layout, joinAll, dimensions, aligned, emptyLine}
+use Rattle.definitions.specs.Font.{Font, measuredAnswer, drawnAnswer, pixelsOf}
 use Rattle.definitions.specs.Picture.{textPicture}
 use Rattle.definitions.specs.Framebuffer.{shown, framebufferCause}
 use Rattle.definitions.specs.Limits.{textCause, positionCause, backgroundCause}
@@ -62,32 +62,57 @@ abbrev pub rectangleOutcome : RectangleResult → Outcome Rectangle
 rectangleOutcome (Rectangle·Ok r) = success r
 rectangleOutcome (Rectangle·Err e) = refusal e
 
--- ---- measuring
+-- ---- a text
 
--- The causes of measuring, in order.
-abbrev pub measureCauses : List ℕ → List ℕ → Point → ℕ → List Cause
-measureCauses font text position lineHeight = fontCauses font ++ textCause text ∷ positionCause position lineHeight ∷ []
+-- What every call on a text is asked. Measuring looks at no colour.
+pub record Request : Type 0 where
+  pub text : List ℕ
+  pub position : Point
+  pub anchor : VerticalPosition
+  pub align : HorizontalAlignment
+  pub lineHeight : ℕ
+  pub skip : Bool
+
+abbrev pub request : List ℕ → Point → VerticalPosition → HorizontalAlignment → ℕ → Bool → Request
+request text position anchor align lineHeight skip = record {
+  text = text;
+  position = position;
+  anchor = anchor;
+  align = align;
+  lineHeight = lineHeight;
+  skip = skip;
+}
+
+-- .. of a plain call
+abbrev pub plain : List ℕ → Point → VerticalPosition → ℕ → Bool → Request
+plain text position anchor lineHeight skip = request text position anchor Left lineHeight skip
 
 -- The letters of a text.
 abbrev pub characters : List ℕ → List ℕ
 characters text = codePoints (decode text)
 
 -- The place moved by the anchor, t being the newlines times the line height.
-abbrev pub origin : List ℕ → List ℕ → Point → VerticalPosition → ℕ → Point
-origin font text position v lineHeight =
+abbrev pub origin : Font → Request → Point
+origin font r =
     point
-    (position .x)
-    (position .y +ℤ verticalOffset v (pos (newlines (characters text) * lineHeight)) (header font .ascent) (header font .descent))
+    (r .position .x)
+    (r .position .y +ℤ verticalOffset (r .anchor) (pos (newlines (characters (r .text)) * r .lineHeight)) (font .ascent) (font .descent))
 
--- What a letter shows in measuring, which reads no runs.
-abbrev pub measuredAnswer : List ℕ → Bool → ℕ → Answer
-measuredAnswer font skip c = answer skip (glyph font c)
+-- its letters from there on, by what each of them shows
+abbrev pub laid : Font → Request → (ℕ → Answer) → Layout
+laid font r answers = layout answers (r .lineHeight) (origin font r) (point (pos 0) (pos 0)) (characters (r .text))
 
-unfoldable pub measure : List ℕ → List ℕ → Point → VerticalPosition → ℕ → Bool → Outcome RenderedDimensions
-measure font text position v lineHeight skip =
-    unlessRefused (measureCauses font text position lineHeight)
-    (dimensions
-    (layout (measuredAnswer font skip) lineHeight (origin font text position v lineHeight) (point (pos 0) (pos 0)) (characters text)))
+-- ---- measuring
+
+-- The causes of measuring, in order.
+abbrev pub measureCauses : Font → Request → List Cause
+measureCauses font r = font .causes ++ textCause (r .text) ∷ positionCause (r .position) (r .lineHeight) ∷ []
+
+abbrev pub measuredText : Font → Request → Layout
+measuredText font r = laid font r (measuredAnswer font (r .skip))
+
+unfoldable pub measure : Font → Request → Outcome RenderedDimensions
+measure font r = unlessRefused (measureCauses font r) (dimensions (measuredText font r))
 
 abbrev pub dimensionsOutcome : DimensionsResult → Outcome RenderedDimensions
 dimensionsOutcome (Dimensions·Ok d) = success d
@@ -99,11 +124,12 @@ abbrev pub boxOfLayout : Layout → Outcome Point → Outcome BoundingBox
 boxOfLayout l (success a) = success (joinAll (l .glyphs))
 boxOfLayout l (refused n c) = refused n c
 
-unfoldable pub measureAligned : List ℕ → List ℕ → Point → VerticalPosition → HorizontalAlignment → ℕ → Bool → Outcome BoundingBox
-measureAligned font text position v a lineHeight skip =
-    unlessRefused (measureCauses font text position lineHeight)
-    (let l = aligned (measuredAnswer font skip) lineHeight a (origin font text position v lineHeight) (pos 0) emptyLine (characters text) in
-    boxOfLayout l (l .advance))
+abbrev pub alignedText : Font → Request → Layout
+alignedText font r =
+    aligned (measuredAnswer font (r .skip)) (r .lineHeight) (r .align) (origin font r) (pos 0) emptyLine (characters (r .text))
+
+unfoldable pub measureAligned : Font → Request → Outcome BoundingBox
+measureAligned font r = unlessRefused (measureCauses font r) (let l = alignedText font r in boxOfLayout l (l .advance))
 
 abbrev pub boundingBoxOutcome : BoundingBoxResult → Outcome BoundingBox
 boundingBoxOutcome (BoundingBox·Ok b) = success b
@@ -111,49 +137,24 @@ boundingBoxOutcome (BoundingBox·Err e) = refusal e
 
 -- ---- drawing
 
-abbrev pub drawCauses : List ℕ → List ℕ → Point → FontStyle → ℕ → ℕ → ℕ → List ℕ → List Cause
-drawCauses font text position style lineHeight width height buffer =
-    fontCauses font
-    ++ framebufferCause width height buffer
-    ∷ textCause text
-    ∷ positionCause position lineHeight
-    ∷ backgroundCause (style .color) font
+abbrev pub drawCauses : Font → Request → FontColor → Framebuffer → List ℕ → List Cause
+drawCauses font r color p buffer =
+    font .causes
+    ++ framebufferCause p buffer
+    ∷ textCause (r .text)
+    ∷ positionCause (r .position) (r .lineHeight)
+    ∷ backgroundCause color (font .background)
     ∷ []
 
--- A glyph whose runs are cut off by the font's end is number 8.
-abbrev pub withRuns : ℕ → GlyphReader → Pixels → Outcome GlyphReader
-withRuns c g (pixels ps) = success g
-withRuns c g cut = refused 8 c
-
-abbrev pub drawable : List ℕ → ℕ → Outcome GlyphReader → Outcome GlyphReader
-drawable font c (success g) = withRuns c g (glyphPixels font (header font) g)
-drawable font c (refused n d) = refused n d
-
-abbrev pub drawnAnswer : List ℕ → Bool → ℕ → Answer
-drawnAnswer font skip c = answer skip (drawable font c (glyph font c))
-
-abbrev pub pixelList : Pixels → List ℕ
-pixelList (pixels ps) = ps
-pixelList cut = []
-
--- the pixels of a glyph of the font
-abbrev pub pixelsOf : List ℕ → GlyphReader → List ℕ
-pixelsOf font g = pixelList (glyphPixels font (header font) g)
-
-abbrev pub drawnText : List ℕ → List ℕ → Point → VerticalPosition → ℕ → Bool → Layout
-drawnText font text position v lineHeight skip =
-    layout (drawnAnswer font skip) lineHeight (origin font text position v lineHeight) (point (pos 0) (pos 0)) (characters text)
+abbrev pub drawnText : Font → Request → Layout
+drawnText font r = laid font r (drawnAnswer font (r .skip))
 
 -- What drawing answers ..
-unfoldable pub draw : List ℕ → List ℕ → Point → FontStyle → ℕ → Bool → ℕ → ℕ → List ℕ → Outcome RenderedDimensions
-draw font text position style lineHeight skip width height buffer =
-    unlessRefused (drawCauses font text position style lineHeight width height buffer)
-    (dimensions (drawnText font text position (style .«vertical_pos») lineHeight skip))
+unfoldable pub draw : Font → Request → FontColor → Framebuffer → List ℕ → Outcome RenderedDimensions
+draw font r color p buffer = unlessRefused (drawCauses font r color p buffer) (dimensions (drawnText font r))
 
 -- .. and what the framebuffer then holds. A refused letter draws nothing, and earlier letters stay.
-unfoldable pub drawBuffer : List ℕ → List ℕ → Point → FontStyle → ℕ → Bool → ℕ → ℕ → List ℕ → List ℕ
-drawBuffer font text position style lineHeight skip width height buffer =
-    pick (anyApplies (drawCauses font text position style lineHeight width height buffer)) buffer
-    (shown width
-    (textPicture (style .color) (pixelsOf font) (drawnText font text position (style .«vertical_pos») lineHeight skip .glyphs))
-    buffer)
+unfoldable pub drawBuffer : Font → Request → FontColor → Framebuffer → List ℕ → List ℕ
+drawBuffer font r color p buffer =
+    pick (anyApplies (drawCauses font r color p buffer)) buffer
+    (shown (p .width) (textPicture color (pixelsOf font) (drawnText font r .glyphs)) buffer)

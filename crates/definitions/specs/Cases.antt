@@ -7,6 +7,7 @@ use Prim.Native.Nat.{ℕ, _+_, _*_}
 use lib.IntN.{ℤ, pos, negℤ}
 use lib.ListN.{take, set, replicate}
 use Rattle.types.specs.declared.font_reader.FontReader.{FontReader}
+use Rattle.types.specs.declared.framebuffer.Framebuffer.{Framebuffer}
 use Rattle.types.specs.declared.geometry.BoundingBox.{BoundingBox}
 use Rattle.types.specs.declared.geometry.BoundingBox.the-variants.{None, Some}
 use Rattle.types.specs.declared.geometry.Point.{Point}
@@ -15,7 +16,6 @@ use Rattle.types.specs.declared.geometry.RenderedDimensions.{RenderedDimensions
 use Rattle.types.specs.declared.glyph_reader.GlyphReader.{GlyphReader}
 use Rattle.types.specs.declared.style.FontColor.{FontColor}
 use Rattle.types.specs.declared.style.FontColor.the-variants.{Transparent, WithBackground}
-use Rattle.types.specs.declared.style.FontStyle.{FontStyle}
 use Rattle.types.specs.declared.style.HorizontalAlignment.{HorizontalAlignment}
 use Rattle.types.specs.declared.style.HorizontalAlignment.the-variants.{Center as Alignment·Center, Right as Alignment·Right}
 use Rattle.types.specs.declared.style.VerticalPosition.the-variants.{Baseline, Top, Center, Bottom}
@@ -31,7 +31,8 @@ use Rattle.definitions.specs.Text.{point, joinAll, layout, aligned}
 use Rattle.definitions.specs.Runs.{afterPair, runs, glyphPixels}
 use Rattle.definitions.specs.Picture.{textPicture}
 use Rattle.definitions.specs.Framebuffer.{mapAt}
-use Rattle.definitions.specs.Calls.{openFont, fontBoundingBox, measure, measureAligned, draw, drawBuffer}
+use Rattle.definitions.specs.Font.{u8g2}
+use Rattle.definitions.specs.Calls.{request, plain, openFont, fontBoundingBox, measure, measureAligned, draw, drawBuffer}
 use Rattle.definitions.specs.FontT.{T}
 
 -- what a case is about
@@ -59,21 +60,20 @@ metrics w h x y d at = record { «glyph_width» = w; «glyph_height» = h; «off
 
 -- a text at (10, 20) on the baseline, with T's line height: measured, skipping unknown letters or not ..
 abbrev measuredWith : Bool → List ℕ → List ℕ → Result
-measuredWith skip font text = measured (measure font text (point (pos 10) (pos 20)) Baseline 4 skip)
+measuredWith skip font text = measured (measure (u8g2 font) (plain text (point (pos 10) (pos 20)) Baseline 4 skip))
 
 abbrev measuredAt : List ℕ → List ℕ → Result
 measuredAt = measuredWith false
 
 abbrev alignedAt : HorizontalAlignment → List ℕ → List ℕ → Result
-alignedAt a font text = boxed (measureAligned font text (point (pos 10) (pos 20)) Baseline a 4 false)
+alignedAt a font text = boxed (measureAligned (u8g2 font) (request text (point (pos 10) (pos 20)) Baseline a 4 false))
 
 -- .. and drawn on 15 × 24 pixels of 0, in the colour 1 unless another is given
 abbrev drawnWith : FontColor → Bool → List ℕ → List ℕ → Result
 drawnWith color skip font text =
-    let style : FontStyle = record { color = color; «vertical_pos» = Baseline } in
-    drawn
-    (draw font text (point (pos 10) (pos 20)) style 4 skip 15 24 (replicate 360 0))
-    (drawBuffer font text (point (pos 10) (pos 20)) style 4 skip 15 24 (replicate 360 0))
+    let r = plain text (point (pos 10) (pos 20)) Baseline 4 skip in
+    let p : Framebuffer = record { width = 15; height = 24 } in
+    drawn (draw (u8g2 font) r color p (replicate 360 0)) (drawBuffer (u8g2 font) r color p (replicate 360 0))
 
 abbrev drawnAt : List ℕ → List ℕ → Result
 drawnAt = drawnWith (Transparent 1) false

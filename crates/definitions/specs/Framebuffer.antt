@@ -5,6 +5,7 @@ use Prim.Native.Nat.{ℕ, suc, _*_, _/_, _%_}
 use lib.Dec.{ltb, eqb}
 use lib.IntN.{pos}
 use lib.ListN.{length}
+use Rattle.types.specs.declared.framebuffer.Framebuffer.{Framebuffer}
 use Rattle.definitions.specs.Refusals.{Cause}
 use Rattle.definitions.specs.Picture.{Paint, keep, put, Picture}
 
@@ -25,6 +26,6 @@ shown width picture buffer = mapAt (λ i old. over (picture (pos (i % width)) (p
 abbrev pub sideOff : ℕ → Bool
 sideOff n = eqb n 0 || ltb 256 n
 
-abbrev pub framebufferCause : ℕ → ℕ → List ℕ → Cause
-framebufferCause width height buffer =
-    record { number = 3; applies = sideOff width || sideOff height || not (eqb (length buffer) (width * height)) }
+abbrev pub framebufferCause : Framebuffer → List ℕ → Cause
+framebufferCause p buffer =
+    record { number = 3; applies = sideOff (p .width) || sideOff (p .height) || not (eqb (length buffer) (p .width * p .height)) }

@@ -9,6 +9,7 @@ pub mod Glyph
 pub mod Utf8
 pub mod Text
 pub mod Runs
+pub mod Font
 pub mod Picture
 pub mod Framebuffer
 pub mod TextSteps

@@ -3,7 +3,7 @@
 use mathlib.Core.Bool.{Bool, false, _||_, not}
 use mathlib.Core.List.{List}
 use Prim.Native.Nat.{ℕ}
-use lib.Dec.{ltb, eqb}
+use lib.Dec.{ltb}
 use lib.IntN.{ℤ, pos, negsuc}
 use lib.ListN.{length}
 use lib.Signed.{ltZ}
@@ -11,7 +11,6 @@ use Rattle.types.specs.declared.geometry.Point.{Point}
 use Rattle.types.specs.declared.style.FontColor.{FontColor}
 use Rattle.types.specs.declared.style.FontColor.the-variants.{Transparent, WithBackground}
 use Rattle.definitions.specs.Refusals.{Cause}
-use Rattle.definitions.specs.Header.{byte}
 use Rattle.definitions.specs.Utf8.{decode, isUtf8}
 
 -- Cause 4: a text has 0 to 4,096 bytes of UTF-8.
@@ -27,10 +26,10 @@ abbrev pub positionCause : Point → ℕ → Cause
 positionCause position lineHeight =
     record { number = 5; applies = coordinateOff (position .x) || coordinateOff (position .y) || ltb 65535 lineHeight }
 
--- Cause 6: a background colour is wanted, and header byte 1 is 0.
-abbrev pub backgroundOff : FontColor → List ℕ → Bool
-backgroundOff (Transparent c) font = false
-backgroundOff (WithBackground fg bg) font = eqb (byte font 1) 0
+-- Cause 6: a background colour is wanted, and the font does not allow it.
+abbrev pub backgroundOff : FontColor → Bool → Bool
+backgroundOff (Transparent c) allowed = false
+backgroundOff (WithBackground fg bg) allowed = not allowed
 
-abbrev pub backgroundCause : FontColor → List ℕ → Cause
-backgroundCause color font = record { number = 6; applies = backgroundOff color font }
+abbrev pub backgroundCause : FontColor → Bool → Cause
+backgroundCause color allowed = record { number = 6; applies = backgroundOff color allowed }

@@ -6,39 +6,45 @@ use mathlib.Core.List.{List}
 use mathlib.Core.Logic.{_⊎_}
 use Prim.Native.Nat.{ℕ}
 use lib.IntN.{pos, _-ℤ_}
+use Rattle.types.specs.declared.framebuffer.Framebuffer.{Framebuffer}
 use Rattle.types.specs.declared.geometry.BoundingBox.the-variants.{Some}
 use Rattle.types.specs.declared.geometry.Point.{Point}
 use Rattle.types.specs.declared.geometry.Rectangle.{Rectangle}
 use Rattle.types.specs.declared.geometry.RenderedDimensions.{RenderedDimensions}
 use Rattle.types.specs.declared.style.FontColor.{FontColor}
-use Rattle.types.specs.declared.style.FontStyle.{FontStyle}
 use Rattle.types.specs.declared.style.VerticalPosition.the-variants.{Baseline}
 use Rattle.definitions.specs.Refusals.{Outcome, success, refused}
 use Rattle.definitions.specs.Geometry.{left, top}
 use Rattle.definitions.specs.Text.{point}
-use Rattle.definitions.specs.Calls.{measure, draw, drawBuffer}
+use Rattle.definitions.specs.Font.{u8g2}
+use Rattle.definitions.specs.Calls.{Request, plain, measure, draw, drawBuffer}
 
 abbrev pub atZero : Point
 atZero = point (pos 0) (pos 0)
 
+-- what is asked, for that place
+abbrev pub whole : List ℕ → ℕ → Point → Request
+whole text lineHeight position = plain text position Baseline lineHeight false
+
 abbrev pub measuredAtZero : List ℕ → List ℕ → ℕ → Outcome RenderedDimensions
-measuredAtZero font text lineHeight = measure font text atZero Baseline lineHeight false
+measuredAtZero font text lineHeight = measure (u8g2 font) (whole text lineHeight atZero)
 
 -- where a text with that box at (0, 0) is drawn
 abbrev pub opposite : Rectangle → Point
 opposite r = point (pos 0 -ℤ left r) (pos 0 -ℤ top r)
 
-abbrev pub onBaseline : FontColor → FontStyle
-onBaseline color = record { color = color; «vertical_pos» = Baseline }
+-- a framebuffer of that size
+abbrev pub sized : Rectangle → Framebuffer
+sized r = record { width = r .size .width; height = r .size .height }
 
 -- what drawing there answers, and what the framebuffer, which held `pixels`, then holds
 abbrev pub drawnWhole : List ℕ → List ℕ → ℕ → FontColor → Rectangle → List ℕ → Outcome RenderedDimensions
 drawnWhole font text lineHeight color r pixels =
-    draw font text (opposite r) (onBaseline color) lineHeight false (r .size .width) (r .size .height) pixels
+    draw (u8g2 font) (whole text lineHeight (opposite r)) color (sized r) pixels
 
 abbrev pub shownWhole : List ℕ → List ℕ → ℕ → FontColor → Rectangle → List ℕ → List ℕ
 shownWhole font text lineHeight color r pixels =
-    drawBuffer font text (opposite r) (onBaseline color) lineHeight false (r .size .width) (r .size .height) pixels
+    drawBuffer (u8g2 font) (whole text lineHeight (opposite r)) color (sized r) pixels
 
 abbrev pub boxed : Point → Rectangle → RenderedDimensions
 boxed advance r = record { advance = advance; «bounding_box» = Some r }

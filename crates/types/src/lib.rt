@@ -2,6 +2,7 @@
 // Rust library u8g2-fonts where it has a counterpart. There is no code here.
 pub mod error;
 pub mod font_reader;
+pub mod framebuffer;
 pub mod geometry;
 pub mod glyph_reader;
 pub mod results;
