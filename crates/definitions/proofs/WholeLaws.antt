@@ -34,7 +34,7 @@ use Rattle.definitions.specs.Framebuffer.{sideOff, framebufferCause}
 use Rattle.definitions.specs.Limits.{coordinateOff, positionCause, backgroundCause}
 use Rattle.definitions.specs.Calls.{Request, characters, origin, laid, measureCauses, measuredText, measure, draw}
 use Rattle.definitions.specs.Agreement.{limits, on}
-use Rattle.definitions.specs.Whole.{atZero, whole, measuredAtZero, opposite, sized, drawnWhole, inCorner, boxed, SeenWhole}
+use Rattle.definitions.specs.Whole.{atZero, whole, measuredAtZero, opposite, roomFor, drawnWhole, inCorner, boxed, SeenWhole}
 use Rattle.definitions.proofs.OpenedLaws.{or-false, opened-limits}
 use Rattle.definitions.proofs.RefusalLaws.{succeeded, passed, NoneApplies, each-off, all-off}
 use Rattle.definitions.proofs.JoinLaws.{HasCell, end, join-end}
@@ -307,7 +307,7 @@ module _ (font text : List ℕ) (lineHeight : ℕ) (advance : Point) (r : Rectan
 
   -- on a framebuffer of the box's size
   module _ (color : FontColor) (pixels : List ℕ) (wide : r .size .width ≤ 256) (high : r .size .height ≤ 256) (area : length pixels ≡ r .size .width * r .size .height) where
-    fits : framebufferCause (sized r) pixels .applies ≡ false
+    fits : framebufferCause (roomFor r) pixels .applies ≡ false
     fits =
         rw (side-in (r .size .width) (near .some .wide) wide, side-in (r .size .height) (near .some .high) high, eq-eqb (length pixels) (r .size .width * r .size .height) area)
 
@@ -319,8 +319,7 @@ module _ (font text : List ℕ) (lineHeight : ℕ) (advance : Point) (r : Rectan
     pub seen-whole : SeenWhole advance r (drawnWhole font text lineHeight color r pixels)
     unfolding draw
     seen-whole =
-        let limited : NoneApplies (limits (u8g2 font) (whole text lineHeight (opposite r)) (on (sized r) pixels)) =
-        (off .0, (off .1 .0, (fits, (off .1 .1 .0, (stands, tt))))) in
-        subst (SeenWhole advance r)
-        (sym (passed answers (limits (u8g2 font) (whole text lineHeight (opposite r)) (on (sized r) pixels)) _ (all-off _ limited)))
-        (by-background (backgroundCause color (header font .«supports_background_color») .applies))
+        let asked-there = limits (u8g2 font) (whole text lineHeight (opposite r)) (on (roomFor r) pixels) in
+        let background = backgroundCause color (header font .«supports_background_color») in
+        let limited : NoneApplies asked-there = (off .0, (off .1 .0, (fits, (off .1 .1 .0, (stands, tt))))) in
+        subst (SeenWhole advance r) (sym (passed answers asked-there (background ∷ []) (all-off asked-there limited))) (by-background (background .applies))

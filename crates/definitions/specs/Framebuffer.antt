@@ -22,6 +22,9 @@ mapAt f i (x ∷ xs) = f i x ∷ mapAt f (suc i) xs
 abbrev pub shown : ℕ → Picture → List ℕ → List ℕ
 shown width picture buffer = mapAt (λ i old. over (picture (pos (i % width)) (pos (i / width))) old) 0 buffer
 
+abbrev pub sized : ℕ → ℕ → Framebuffer
+sized width height = record { width = width; height = height }
+
 -- Cause 3: it is 1 to 256 pixels wide and high, and its buffer has exactly width × height bytes.
 abbrev pub sideOff : ℕ → Bool
 sideOff n = eqb n 0 || ltb 256 n

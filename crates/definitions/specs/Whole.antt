@@ -17,6 +17,7 @@ use Rattle.definitions.specs.Refusals.{Outcome, success, refused}
 use Rattle.definitions.specs.Geometry.{left, top}
 use Rattle.definitions.specs.Text.{point}
 use Rattle.definitions.specs.Font.{u8g2}
+use Rattle.definitions.specs.Framebuffer.{sized}
 use Rattle.definitions.specs.Calls.{Request, plain, measure, draw, drawBuffer}
 
 abbrev pub atZero : Point
@@ -34,17 +35,17 @@ abbrev pub opposite : Rectangle → Point
 opposite r = point (pos 0 -ℤ left r) (pos 0 -ℤ top r)
 
 -- a framebuffer of that size
-abbrev pub sized : Rectangle → Framebuffer
-sized r = record { width = r .size .width; height = r .size .height }
+abbrev pub roomFor : Rectangle → Framebuffer
+roomFor r = sized (r .size .width) (r .size .height)
 
 -- what drawing there answers, and what the framebuffer, which held `pixels`, then holds
 abbrev pub drawnWhole : List ℕ → List ℕ → ℕ → FontColor → Rectangle → List ℕ → Outcome RenderedDimensions
 drawnWhole font text lineHeight color r pixels =
-    draw (u8g2 font) (whole text lineHeight (opposite r)) color (sized r) pixels
+    draw (u8g2 font) (whole text lineHeight (opposite r)) color (roomFor r) pixels
 
 abbrev pub shownWhole : List ℕ → List ℕ → ℕ → FontColor → Rectangle → List ℕ → List ℕ
 shownWhole font text lineHeight color r pixels =
-    drawBuffer (u8g2 font) (whole text lineHeight (opposite r)) color (sized r) pixels
+    drawBuffer (u8g2 font) (whole text lineHeight (opposite r)) color (roomFor r) pixels
 
 abbrev pub boxed : Point → Rectangle → RenderedDimensions
 boxed advance r = record { advance = advance; «bounding_box» = Some r }

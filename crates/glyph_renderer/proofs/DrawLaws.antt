@@ -21,7 +21,7 @@ use Rattle.types.specs.declared.style.FontColor.{FontColor}
 use Rattle.definitions.specs.Geometry.{left, top}
 use Rattle.definitions.specs.Picture.{rectanglePicture}
 use Rattle.definitions.specs.Framebuffer.{shown}
-use Rattle.definitions.specs.Calls.{pixelsOf}
+use Rattle.definitions.specs.Font.{u8g2, pixelsOf}
 use Rattle.framebuffer.specs.Rows.{rowPicture, firstRows, RowInReach}
 use Rattle.framebuffer.proofs.RowLaws.{next-row-shown}
 use Rattle.glyph_renderer.specs.declared.geometry.Rows.{Rows}
@@ -37,8 +37,8 @@ use Rattle.glyph_renderer.proofs.StandsLaws.{stands-pixel, stands-on, n
 -- The rows before `row` are drawn on `old`, and of this one so many columns are collected.
 pub record Drawn (font : List ℕ) (head : FontReader) (g : GlyphReader) (area : Rectangle) (color : FontColor) (width : ℕ) (old new bits : List ℕ)
     (runs : Runs) (offset column row : ℕ) : Type 0 where
-  pub buffer : new ≡ shown width (rectanglePicture color (pixelsOf font g) (firstRows row area)) old
-  pub collected : (j : ℕ) → j < column → getD bits j 0 ≡ getD (pixelsOf font g) (row * g .«glyph_width» + j) 0
+  pub buffer : new ≡ shown width (rectanglePicture color (pixelsOf (u8g2 font) g) (firstRows row area)) old
+  pub collected : (j : ℕ) → j < column → getD bits j 0 ≡ getD (pixelsOf (u8g2 font) g) (row * g .«glyph_width» + j) 0
   pub stands : StandsAt font head g runs offset (row * g .«glyph_width» + column)
   pub in-pair : offset ≤ runs .zeros + runs .ones
   pub in-row : column < g .«glyph_width»
@@ -109,7 +109,7 @@ module _ {font : List ℕ} {head : FontReader} {g : GlyphReader} {start : Place}
 
     module _ (inside : offset < runs .zeros + runs .ones) (v : ℕ) (e : v ≡ pick (ltb offset (runs .zeros)) 0 1) (h : g .«glyph_width» ≤ 255) where
       -- one more column is collected
-      one-more : (j : ℕ) → j < column + 1 → getD (set bits column v) j 0 ≡ getD (pixelsOf font g) (row * g .«glyph_width» + j) 0
+      one-more : (j : ℕ) → j < column + 1 → getD (set bits column v) j 0 ≡ getD (pixelsOf (u8g2 font) g) (row * g .«glyph_width» + j) 0
       one-more =
           below-more _ _
           (λ j k. getD-set-other bits column j v 0 (λ q. omega arith) ∙ d .collected j k)
@@ -136,12 +136,12 @@ module _ {font : List ℕ} {head : FontReader} {g : GlyphReader} {start : Place}
         buffer =
             let cells : List ℕ = take (g .«glyph_width») (set bits column v) in
             let l : length cells ≡ area .size .width = row-length v h ∙ sym (p .glyph .width) in
-            let same : (j : ℕ) → j < area .size .width → getD cells j 0 ≡ getD (pixelsOf font g) (row * area .size .width + j) 0 =
+            let same : (j : ℕ) → j < area .size .width → getD cells j 0 ≡ getD (pixelsOf (u8g2 font) g) (row * area .size .width + j) 0 =
             rw (p .glyph .width) (λ j k. getD-take (g .«glyph_width») (set bits column v) j 0 k ∙ one-more j (omega arith))
             in
             w
             ∙ ap (shown width (rowPicture color cells (left area) (top area +ℤ pos row))) (d .buffer)
-            ∙ next-row-shown (p .window .some) color (pixelsOf font g) area old cells row l same;
+            ∙ next-row-shown (p .window .some) color (pixelsOf (u8g2 font) g) area old cells row l same;
         collected = λ j k. absurd (omega arith);
         stands =
             let q : row * g .«glyph_width» + column + 1 ≡ (row + 1) * g .«glyph_width» + 0 = omega arith in

@@ -13,7 +13,7 @@ use Rattle.types.specs.declared.glyph_reader.GlyphReader.{GlyphReader}
 use Rattle.definitions.specs.Bits.{Read, got, ends, bits, readAt}
 use Rattle.definitions.specs.Runs.{Pixels, pixels, cut, prepend, unlessCut, runs, glyphPixels, pixelsAfter, pixelsFrom}
 use Rattle.definitions.specs.Refusals.{success, refused}
-use Rattle.definitions.specs.Calls.{withRuns}
+use Rattle.definitions.specs.Font.{withRuns}
 use Rattle.definitions.proofs.BitsLaws.{read-inside}
 use Rattle.definitions.proofs.RunsLaws.{pairPixels, NewPair, runs-reads, after-reads}
 use Rattle.glyph_renderer.specs.declared.runs.Runs.{Runs}

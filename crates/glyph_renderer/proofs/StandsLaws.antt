@@ -14,7 +14,7 @@ use Rattle.types.specs.declared.font_reader.FontReader.{FontReader}
 use Rattle.types.specs.declared.glyph_reader.GlyphReader.{GlyphReader}
 use Rattle.definitions.specs.Header.{header}
 use Rattle.definitions.specs.Runs.{Pixels, pixels, cut, glyphPixels}
-use Rattle.definitions.specs.Calls.{pixelList, pixelsOf}
+use Rattle.definitions.specs.Font.{u8g2, pixelList, pixelsOf}
 use Rattle.definitions.proofs.RunsLaws.{pixel-in-pair, pixels-after-pair}
 use Rattle.glyph_renderer.specs.declared.runs.Runs.{Runs}
 use Rattle.glyph_renderer.specs.declared.runs.RunsRead.{RunsRead}
@@ -77,7 +77,7 @@ whole (pixels ps) e = refl
 whole cut e = let z : _≡_ {A = ℕ} 0 1 = cc in absurd (omega arith)
 
 module _ (font : List ℕ) (head : FontReader) (g : GlyphReader) (e : head ≡ header font) (w : isWhole (glyphPixels font head g) ≡ true) where
-  pub whole-pixels : glyphPixels font head g ≡ pixels (pixelsOf font g)
+  pub whole-pixels : glyphPixels font head g ≡ pixels (pixelsOf (u8g2 font) g)
   whole-pixels = rw (← e) (whole (glyphPixels font head g) w)
 
   -- There is a first pair, and counted from it a pixel is where it is among all.
@@ -85,7 +85,7 @@ module _ (font : List ℕ) (head : FontReader) (g : GlyphReader) (e : head ≡ h
       → (q : Runs) × ((pairAt font (head .m0) (head .m1) (g .«bit_pos») ≡ Pair q) × StandsAt font head g q i i)
   first i h =
       let n = g .«glyph_width» * g .«glyph_height» in
-      let p = paired (pairAt font (head .m0) (head .m1) (g .«bit_pos»)) _ (pixelsOf font g) (sym (glyph-gives font head g (λ z. omega arith)) ∙ whole-pixels) in (
+      let p = paired (pairAt font (head .m0) (head .m1) (g .«bit_pos»)) _ (pixelsOf (u8g2 font) g) (sym (glyph-gives font head g (λ z. omega arith)) ∙ whole-pixels) in (
         p .0,
         (
           p .1 .0,

@@ -13,7 +13,7 @@ use Rattle.definitions.specs.Geometry.{left, top, InReach}
 use Rattle.definitions.specs.Text.{boxAt}
 use Rattle.definitions.specs.Picture.{rectanglePicture}
 use Rattle.definitions.specs.Framebuffer.{shown}
-use Rattle.definitions.specs.Calls.{pixelsOf}
+use Rattle.definitions.specs.Font.{u8g2, pixelsOf}
 use Rattle.framebuffer.specs.Rows.{firstRows}
 use Rattle.glyph_renderer.specs.declared.geometry.Rows.{Rows}
 use Rattle.glyph_renderer.specs.declared.runs.Place.{Place}
@@ -53,4 +53,4 @@ pub record RowsFit (font : List ℕ) (head : FontReader) (g : GlyphReader) (star
   pub within : rows .past ≤ g .«glyph_height»
   pub order : rows .first ≤ rows .past
   pub window : BufferFits (length buffer) width height
-  pub above : shown width (rectanglePicture color (pixelsOf font g) (firstRows (rows .first) area)) buffer ≡ buffer
+  pub above : shown width (rectanglePicture color (pixelsOf (u8g2 font) g) (firstRows (rows .first) area)) buffer ≡ buffer

@@ -8,7 +8,7 @@ use Rattle.types.specs.declared.font_reader.FontReader.{FontReader}
 use Rattle.types.specs.declared.glyph_reader.GlyphReader.{GlyphReader}
 use Rattle.definitions.specs.Header.{Opened}
 use Rattle.definitions.specs.Runs.{pixels, glyphPixels, pixelsFrom}
-use Rattle.definitions.specs.Calls.{pixelsOf}
+use Rattle.definitions.specs.Font.{u8g2, pixelsOf}
 use Rattle.glyph_renderer.specs.declared.runs.Runs.{Runs}
 use Rattle.glyph_renderer.specs.RunReads.{isWhole}
 
@@ -21,7 +21,7 @@ pub record Stands (font : List ℕ) (m0 m1 n : ℕ) (ps : List ℕ) (runs : Runs
 
 -- The same of a glyph of a font.
 abbrev pub StandsAt : List ℕ → FontReader → GlyphReader → Runs → ℕ → ℕ → Type 0
-StandsAt font head g runs offset i = Stands font (head .m0) (head .m1) (g .«glyph_width» * g .«glyph_height») (pixelsOf font g) runs offset i
+StandsAt font head g runs offset i = Stands font (head .m0) (head .m1) (g .«glyph_width» * g .«glyph_height») (pixelsOf (u8g2 font) g) runs offset i
 
 -- What the drawing may count on: the runs were checked.
 pub record CheckedGlyph (font : List ℕ) (head : FontReader) (g : GlyphReader) : Type 0 where

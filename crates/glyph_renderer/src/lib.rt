@@ -7,7 +7,7 @@ mod runs;
 ghost use mathlib.Core.Path.{_≡_};
 ghost use Prim.Native.Nat.{_*_, _≤_};
 ghost use lib.ListN.{length};
-ghost use Rattle.definitions.specs.Calls.{pixelsOf};
+ghost use Rattle.definitions.specs.Font.{u8g2, pixelsOf};
 ghost use Rattle.definitions.specs.Framebuffer.{shown};
 ghost use Rattle.definitions.specs.Header.{Opened};
 ghost use Rattle.definitions.specs.Picture.{boxPicture};
@@ -63,7 +63,7 @@ pub fn render_glyph(
     height: usize,
 )
     requires { ⌜ CheckedGlyph (now font) head glyph × (GlyphBox glyph «bounding_box» × BufferFits (length (now buffer)) width height) ⌝ }
-    ensures { λ r. ⌜ now (buffer .exit) ≡ shown width (boxPicture color (pixelsOf (now (font .entry)) glyph) «bounding_box») (now (buffer .entry)) ⌝ }
+    ensures { λ r. ⌜ now (buffer .exit) ≡ shown width (boxPicture color (pixelsOf (u8g2 (now (font .entry))) glyph) «bounding_box») (now (buffer .entry)) ⌝ }
 {
     let BoundingBox::Some(area) = bounding_box else {
         return;

@@ -1,6 +1,6 @@
 // The rows of a glyph, drawn on the framebuffer.
 ghost use mathlib.Core.Path.{_≡_};
-ghost use Rattle.definitions.specs.Calls.{pixelsOf};
+ghost use Rattle.definitions.specs.Font.{u8g2, pixelsOf};
 ghost use Rattle.definitions.specs.Framebuffer.{shown};
 ghost use Rattle.definitions.specs.Picture.{rectanglePicture};
 ghost use Rattle.framebuffer.specs.Rows.{firstRows};
@@ -30,7 +30,7 @@ pub fn draw_rows(
     height: usize,
 )
     requires { ⌜ RowsFit (now font) head glyph start area rows (now buffer) color width height ⌝ }
-    ensures { λ r. ⌜ now (buffer .exit) ≡ shown width (rectanglePicture color (pixelsOf (now (font .entry)) glyph) (firstRows (rows .past) area)) (now (buffer .entry)) ⌝ }
+    ensures { λ r. ⌜ now (buffer .exit) ≡ shown width (rectanglePicture color (pixelsOf (u8g2 (now (font .entry))) glyph) (firstRows (rows .past) area)) (now (buffer .entry)) ⌝ }
 {
     let mut bits = [0u8; 256];
     let mut runs = start.runs;

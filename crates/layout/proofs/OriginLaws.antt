@@ -13,6 +13,7 @@ use mir.Val.{SFits}
 use borrow.Author.Tests.{ltb-false}
 use Rattle.integers.specs.Integers.{pick}
 use Rattle.integers.proofs.Laws.{zarith, plus}
+use Rattle.integers.proofs.Choices.{impossible}
 use Rattle.types.specs.declared.font_reader.FontReader.{FontReader}
 use Rattle.types.specs.declared.geometry.Point.{Point}
 use Rattle.types.specs.declared.style.VerticalPosition.{VerticalPosition}
@@ -20,7 +21,8 @@ use Rattle.definitions.specs.Refusals.{Outcome, success, refused, unlessRefused
 use Rattle.definitions.specs.Utf8.{decode, isUtf8, newlines}
 use Rattle.definitions.specs.VerticalOffset.{verticalOffset}
 use Rattle.definitions.specs.Limits.{textCause, coordinateOff, positionCause}
-use Rattle.definitions.specs.Calls.{openFont, measureCauses, characters, origin}
+use Rattle.definitions.specs.Font.{u8g2}
+use Rattle.definitions.specs.Calls.{openFont, Request, measureCauses, characters, origin}
 use Rattle.definitions.proofs.OpenedLaws.{or-false, opened, open-goes-on}
 use Rattle.definitions.proofs.Utf8Laws.{utf8-characters, character-count}
 use Rattle.definitions.proofs.VerticalOffsetLaws.{offset-limits}
@@ -32,7 +34,7 @@ use Rattle.layout.proofs.RangeLaws.{newlines-length, newlines-most}
 
 pub not-false : (t : Bool) → not t ≡ false → t ≡ true
 not-false true e = refl
-not-false false e = let z : _≡_ {A = ℕ} 0 1 = cc in absurd (omega arith)
+not-false false e = impossible cc
 
 pub record TextLimits (text : List ℕ) : Type 0 where
   pub short : length text ≤ 4096
@@ -103,8 +105,8 @@ module _ (ascent descent : ℤ) (text : List ℕ) (position : Point) (v : Vertic
 
   passed-by : (s t : Bool) → textCause text .applies ≡ s → positionCause position lineHeight .applies ≡ t → (o : Point)
       → after (success (originBy ascent descent text position v lineHeight)) s t ≡ success o → Passed o
-  passed-by true t p q o e = let z : _≡_ {A = ℕ} 0 1 = cc in absurd (omega arith)
-  passed-by false true p q o e = let z : _≡_ {A = ℕ} 0 1 = cc in absurd (omega arith)
+  passed-by true t p q o e = impossible cc
+  passed-by false true p q o e = impossible cc
   passed-by false false p q o e = record { text-in = text-limits text p; place-off = q; place-in = position-limits position lineHeight q; is = cc }
 
   pub passed : (o : Point) → checkedOrigin ascent descent text position v lineHeight ≡ success o → Passed o
@@ -117,15 +119,15 @@ module _ (ascent descent : ℤ) (text : List ℕ) (position : Point) (v : Vertic
     refused-by : (s t : Bool) (n c : ℕ) → after (success (originBy ascent descent text position v lineHeight)) s t ≡ refused n c → after rest s t ≡ refused n c
     refused-by true t n c e = cc
     refused-by false true n c e = cc
-    refused-by false false n c e = let z : _≡_ {A = ℕ} 0 1 = cc in absurd (omega arith)
+    refused-by false false n c e = impossible cc
 
     pub origin-refused : (n c : ℕ) → checkedOrigin ascent descent text position v lineHeight ≡ refused n c
         → unlessRefused (textCause text ∷ positionCause position lineHeight ∷ []) rest ≡ refused n c
     origin-refused n c e = refused-by (textCause text .applies) (positionCause position lineHeight .applies) n c e
 
     goes-on-by : (s t : Bool) (o : Point) → after (success (originBy ascent descent text position v lineHeight)) s t ≡ success o → after rest s t ≡ rest
-    goes-on-by true t o e = let z : _≡_ {A = ℕ} 0 1 = cc in absurd (omega arith)
-    goes-on-by false true o e = let z : _≡_ {A = ℕ} 0 1 = cc in absurd (omega arith)
+    goes-on-by true t o e = impossible cc
+    goes-on-by false true o e = impossible cc
     goes-on-by false false o e = refl
 
     pub origin-goes-on : (o : Point) → checkedOrigin ascent descent text position v lineHeight ≡ success o
@@ -134,15 +136,28 @@ module _ (ascent descent : ℤ) (text : List ℕ) (position : Point) (v : Vertic
 
 -- ---- a call that measures, on a font that opens
 
-module _ (font : List ℕ) {head : FontReader} (opens : openFont font ≡ success head) (text : List ℕ) (position : Point) (v : VerticalPosition) (lineHeight : ℕ) where
-  pub origin-is : {o : Point} → checkedOrigin (head .ascent) (head .descent) text position v lineHeight ≡ success o → origin font text position v lineHeight ≡ o
+module _ (font : List ℕ) {head : FontReader} (opens : openFont font ≡ success head) (r : Request) where
+  -- the text and its place, tested with the header that was read
+  abbrev pub tested : Outcome Point
+  tested = checkedOrigin (head .ascent) (head .descent) (r .text) (r .position) (r .anchor) (r .lineHeight)
+
+  pub origin-is : {o : Point} → tested ≡ success o → origin (u8g2 font) r ≡ o
   origin-is {o} e =
-      ap (λ (h : FontReader). originBy (h .ascent) (h .descent) text position v lineHeight) (sym (opened font head opens .read))
-      ∙ passed (head .ascent) (head .descent) text position v lineHeight o e .is
+      ap (λ (h : FontReader). originBy (h .ascent) (h .descent) (r .text) (r .position) (r .anchor) (r .lineHeight)) (sym (opened font head opens .read))
+      ∙ passed (head .ascent) (head .descent) (r .text) (r .position) (r .anchor) (r .lineHeight) o e .is
+
+  pub request-checked : {o : Point} → SFits w8 (head .ascent) → SFits w8 (head .descent) → tested ≡ success o → Checked (r .text) o (r .lineHeight)
+  request-checked {o} f g e =
+      passed-checked (head .ascent) (head .descent) (r .text) (r .position) (r .anchor) (r .lineHeight) f g
+      (passed (head .ascent) (head .descent) (r .text) (r .position) (r .anchor) (r .lineHeight) o e)
 
   module _ {A : Type 0} (rest : Outcome A) where
-    pub call-refused : {n c : ℕ} → checkedOrigin (head .ascent) (head .descent) text position v lineHeight ≡ refused n c → unlessRefused (measureCauses font text position lineHeight) rest ≡ refused n c
-    call-refused {n} {c} e = open-goes-on font _ head opens ∙ origin-refused (head .ascent) (head .descent) text position v lineHeight rest n c e
+    pub call-refused : {n c : ℕ} → tested ≡ refused n c → unlessRefused (measureCauses (u8g2 font) r) rest ≡ refused n c
+    call-refused {n} {c} e =
+        open-goes-on font _ head opens
+        ∙ origin-refused (head .ascent) (head .descent) (r .text) (r .position) (r .anchor) (r .lineHeight) rest n c e
 
-    pub call-goes-on : {o : Point} → checkedOrigin (head .ascent) (head .descent) text position v lineHeight ≡ success o → unlessRefused (measureCauses font text position lineHeight) rest ≡ rest
-    call-goes-on {o} e = open-goes-on font _ head opens ∙ origin-goes-on (head .ascent) (head .descent) text position v lineHeight rest o e
+    pub call-goes-on : {o : Point} → tested ≡ success o → unlessRefused (measureCauses (u8g2 font) r) rest ≡ rest
+    call-goes-on {o} e =
+        open-goes-on font _ head opens
+        ∙ origin-goes-on (head .ascent) (head .descent) (r .text) (r .position) (r .anchor) (r .lineHeight) rest o e

@@ -1,8 +1,8 @@
 // The limits of framebuffers, texts, places, line heights and colours: 01's causes 3 to 6.
 ghost use mathlib.Core.Path.{_≡_};
 ghost use Rattle.definitions.specs.Framebuffer.{sideOff};
-ghost use Rattle.definitions.specs.Limits.{textCause, coordinateOff, positionCause};
-ghost use Rattle.layout.specs.Sizes.{sizeOff, colorOff};
+ghost use Rattle.definitions.specs.Limits.{textCause, coordinateOff, positionCause, backgroundOff};
+ghost use Rattle.layout.specs.Sizes.{sizeOff};
 use content::text::is_utf8;
 use types::geometry::Point;
 use types::style::FontColor;
@@ -61,7 +61,7 @@ pub fn has_bad_position(position: Point, line_height: u32) -> bool
 
 // Cause 6: a background colour is wanted, and the font has none.
 pub fn has_bad_color(color: FontColor, supports_background_color: bool) -> bool
-    ensures { λ r. ⌜ r ≡ colorOff color «supports_background_color» ⌝ }
+    ensures { λ r. ⌜ r ≡ backgroundOff color «supports_background_color» ⌝ }
 {
     match color {
         FontColor::Transparent(_) => false,

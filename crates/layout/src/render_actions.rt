@@ -5,7 +5,7 @@ ghost use Rattle.definitions.specs.Refusals.{refusal};
 ghost use Rattle.definitions.specs.Header.{Opened};
 ghost use Rattle.definitions.specs.Glyph.{glyphOutcome};
 ghost use Rattle.definitions.specs.Text.{answer, boxAt, horizontalOffset};
-ghost use Rattle.definitions.specs.Calls.{measuredAnswer};
+ghost use Rattle.definitions.specs.Font.{u8g2, measuredAnswer};
 ghost use Rattle.layout.specs.CharAnswers.{asAnswer, centerOffset};
 ghost use Rattle.layout.specs.Ranges.{Near, LineInReach};
 use font_reader::retrieve_glyph_data;
@@ -57,7 +57,7 @@ pub fn try_retrieve_glyph_data(
     ignore_unknown_chars: bool,
 ) -> Answer
     requires { ⌜ Opened (now font) head ⌝ }
-    ensures { λ r. ⌜ asAnswer r ≡ measuredAnswer (now (font .entry)) «ignore_unknown_chars» ch ⌝ }
+    ensures { λ r. ⌜ asAnswer r ≡ measuredAnswer (u8g2 (now (font .entry))) «ignore_unknown_chars» ch ⌝ }
 {
     let lookup = retrieve_glyph_data(font, head, ch);
     let GlyphResult::Ok(glyph) = lookup else {

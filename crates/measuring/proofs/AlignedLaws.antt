@@ -4,7 +4,6 @@ use mathlib.Core.Bool.{Bool, true, false}
 use mathlib.Core.List.{List, [], _∷_}
 use Prim.Native.Nat.{ℕ, _+_, _≤_}
 use native.Mathlib.Omega.{arith}
-use lib.IntN.{pos}
 use lib.ListN.{length, drop}
 use Rattle.integers.specs.Integers.{pick}
 use Rattle.types.specs.declared.font_reader.FontReader.{FontReader}
@@ -12,19 +11,17 @@ use Rattle.types.specs.declared.geometry.Point.{Point}
 use Rattle.types.specs.declared.geometry.RenderedDimensions.{RenderedDimensions}
 use Rattle.types.specs.declared.glyph_reader.GlyphReader.{GlyphReader}
 use Rattle.types.specs.declared.style.HorizontalAlignment.{HorizontalAlignment}
-use Rattle.types.specs.declared.style.HorizontalAlignment.the-variants.{Left}
-use Rattle.types.specs.declared.style.VerticalPosition.{VerticalPosition}
 use Rattle.definitions.specs.Refusals.{Outcome, success, refused, Cause, unlessRefused}
 use Rattle.definitions.specs.Utf8.{character, firstCharacter, decode, codePoints}
-use Rattle.definitions.specs.Text.{Answer, shows, dimensions, emptyLine, aligned}
+use Rattle.definitions.specs.Text.{Answer, shows, dimensions}
 use Rattle.definitions.specs.TextSteps.{LineState, lineStep, measureLinesFrom, startLines, linesDimensions, measureLines}
-use Rattle.definitions.specs.Calls.{openFont, measureCauses, characters, origin, measuredAnswer, measure, measureAligned}
+use Rattle.definitions.specs.Font.{Font, u8g2, measuredAnswer}
+use Rattle.definitions.specs.Calls.{openFont, Request, plain, characters, origin, measureCauses, measure, alignedText, measureAligned}
 use Rattle.definitions.proofs.TextLaws.{measure-lines, boxAlone, box-of-layout, left-dimensions, lines-next, lines-stop}
 use Rattle.definitions.proofs.Utf8Laws.{position, character-count}
-use Rattle.layout.specs.Origins.{checkedOrigin}
 use Rattle.layout.specs.Ranges.{Checked, LineHasRoom}
 use Rattle.layout.proofs.RangeLaws.{Small, advanced-start}
-use Rattle.layout.proofs.OriginLaws.{origin-is, call-refused, call-goes-on}
+use Rattle.layout.proofs.OriginLaws.{tested, origin-is, call-refused, call-goes-on}
 use Rattle.measuring.specs.Lines.{alignedDimensions}
 use Rattle.measuring.proofs.LineLaws.{InLines, line-has-room, in-lines-next}
 use Rattle.measuring.proofs.LoopLaws.{Reached, reached-start, reached-end, reached-next, reached-stops}
@@ -70,18 +67,18 @@ module _ {answers : ℕ → Answer} {a : HorizontalAlignment} {lineHeight : ℕ}
 
 -- ---- what the calls share
 
-module _ (font : List ℕ) {head : FontReader} (opens : openFont font ≡ success head) (text : List ℕ) (position : Point) (v : VerticalPosition) (a : HorizontalAlignment) (lineHeight : ℕ) (skip : Bool) where
-  pub aligned-is : {o : Point} → checkedOrigin (head .ascent) (head .descent) text position v lineHeight ≡ success o
-      → measureLines (measuredAnswer font skip) a lineHeight o (codePoints (decode text)) ≡ alignedDimensions font text position v a lineHeight skip
+module _ (font : List ℕ) {head : FontReader} (opens : openFont font ≡ success head) (r : Request) where
+  pub aligned-is : {o : Point} → tested font opens r ≡ success o
+      → measureLines (measuredAnswer (u8g2 font) (r .skip)) (r .align) (r .lineHeight) o (characters (r .text)) ≡ alignedDimensions (u8g2 font) r
   unfolding alignedDimensions
   aligned-is {o} e =
-      ap (λ (p : Point). measureLines (measuredAnswer font skip) a lineHeight p (codePoints (decode text))) (sym (origin-is font opens text position v lineHeight e))
-      ∙ measure-lines (measuredAnswer font skip) a lineHeight (origin font text position v lineHeight) (codePoints (decode text))
-      ∙ sym (call-goes-on font opens text position v lineHeight _ e)
+      ap (λ (p : Point). measureLines (measuredAnswer (u8g2 font) (r .skip)) (r .align) (r .lineHeight) p (characters (r .text))) (sym (origin-is font opens r e))
+      ∙ measure-lines (measuredAnswer (u8g2 font) (r .skip)) (r .align) (r .lineHeight) (origin (u8g2 font) r) (characters (r .text))
+      ∙ sym (call-goes-on font opens r _ e)
 
-  pub aligned-refused : {n c : ℕ} → checkedOrigin (head .ascent) (head .descent) text position v lineHeight ≡ refused n c → refused n c ≡ alignedDimensions font text position v a lineHeight skip
+  pub aligned-refused : {n c : ℕ} → tested font opens r ≡ refused n c → refused n c ≡ alignedDimensions (u8g2 font) r
   unfolding alignedDimensions
-  aligned-refused e = sym (call-refused font opens text position v lineHeight _ e)
+  aligned-refused e = sym (call-refused font opens r _ e)
 
 -- ---- and what each reads off
 
@@ -94,18 +91,17 @@ box-unless (c ∷ cs) o = by (c .applies) (box-unless cs o)
     by true e = refl
     by false e = e
 
-module _ (font text : List ℕ) (position : Point) (v : VerticalPosition) where
+module _ (font : Font) (r : Request) where
   -- plain measuring is the alignment Left
-  pub plain-is-left : (lineHeight : ℕ) (skip : Bool) → alignedDimensions font text position v Left lineHeight skip ≡ measure font text position v lineHeight skip
+  pub plain-is-left : alignedDimensions font (plain (r .text) (r .position) (r .anchor) (r .lineHeight) (r .skip)) ≡ measure font r
   unfolding alignedDimensions measure
-  plain-is-left lineHeight skip =
-      ap (unlessRefused (measureCauses font text position lineHeight))
-      (left-dimensions (measuredAnswer font skip) lineHeight (origin font text position v lineHeight) (characters text))
+  plain-is-left =
+      ap (unlessRefused (measureCauses font r))
+      (left-dimensions (measuredAnswer font (r .skip)) (r .lineHeight) (origin font r) (characters (r .text)))
 
   -- aligned measuring answers with the box
-  pub aligned-box : (a : HorizontalAlignment) (lineHeight : ℕ) (skip : Bool)
-      → boxAlone (alignedDimensions font text position v a lineHeight skip) ≡ measureAligned font text position v a lineHeight skip
+  pub aligned-box : boxAlone (alignedDimensions font r) ≡ measureAligned font r
   unfolding alignedDimensions measureAligned
-  aligned-box a lineHeight skip =
-      let l = aligned (measuredAnswer font skip) lineHeight a (origin font text position v lineHeight) (pos 0) emptyLine (characters text) in
-      sym (ap (unlessRefused (measureCauses font text position lineHeight)) (box-of-layout l) ∙ box-unless (measureCauses font text position lineHeight) (dimensions l))
+  aligned-box =
+      let l = alignedText font r in
+      sym (ap (unlessRefused (measureCauses font r)) (box-of-layout l) ∙ box-unless (measureCauses font r) (dimensions l))

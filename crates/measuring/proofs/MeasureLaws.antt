@@ -18,7 +18,7 @@ use Rattle.definitions.specs.Glyph.{glyph}
 use Rattle.definitions.specs.Utf8.{character, firstCharacter, characters, decode, codePoints}
 use Rattle.definitions.specs.Text.{Answer, shows, nothing, stops, answer}
 use Rattle.definitions.specs.TextSteps.{step, measureFrom, start}
-use Rattle.definitions.specs.Calls.{measuredAnswer}
+use Rattle.definitions.specs.Font.{u8g2, measuredAnswer}
 use Rattle.definitions.proofs.GlyphLaws.{glyph-range}
 use Rattle.definitions.proofs.TextLaws.{measure-next, measure-stops}
 use Rattle.definitions.proofs.Utf8Laws.{position, utf8-characters, character-count}
@@ -35,7 +35,7 @@ shown-glyph skip (refused n c) g e = by (skip && eqb n 7) e
     by true e = let z : _≡_ {A = ℕ} 0 1 = cc in absurd (omega arith)
     by false e = let z : _≡_ {A = ℕ} 0 1 = cc in absurd (omega arith)
 
-pub measured-small : {font : List ℕ} {head : FontReader} → Opened font head → (skip : Bool) (c : ℕ) (g : GlyphReader) → measuredAnswer font skip c ≡ shows g → Small g
+pub measured-small : {font : List ℕ} {head : FontReader} → Opened font head → (skip : Bool) (c : ℕ) (g : GlyphReader) → measuredAnswer (u8g2 font) skip c ≡ shows g → Small g
 measured-small {font} {head} o skip c g e = in-range-small (glyph-range font head c g o (shown-glyph skip (glyph font c) g e))
 
 -- the code points of a checked text

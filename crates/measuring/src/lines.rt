@@ -3,7 +3,8 @@ ghost use mathlib.Core.Path.{_≡_};
 ghost use Prim.Native.Nat.{_≤_};
 ghost use Rattle.definitions.specs.Header.{Opened};
 ghost use Rattle.definitions.specs.TextSteps.{start, movedBox, withLine, nextLine, lineStep, linesDimensions, measureLines};
-ghost use Rattle.definitions.specs.Calls.{characters, measuredAnswer, dimensionsOutcome};
+ghost use Rattle.definitions.specs.Font.{u8g2, measuredAnswer};
+ghost use Rattle.definitions.specs.Calls.{request, characters, dimensionsOutcome};
 ghost use Rattle.measuring.specs.Lines.{asState, stateOutcome, alignedDimensions};
 ghost use Rattle.layout.specs.Ranges.{Near, LineInReach, LineHasRoom, Checked};
 use crate::steps::NEWLINE;
@@ -108,7 +109,7 @@ fn add_char(
     ignore_unknown_chars: bool,
 ) -> LineResult
     requires { ⌜ Opened (now font) head × (LineHasRoom origin (asState state) × («line_height» ≤ 65535)) ⌝ }
-    ensures { λ r. ⌜ stateOutcome r ≡ lineStep (measuredAnswer (now (font .entry)) «ignore_unknown_chars») «horizontal_align» «line_height» origin (asState state) ch ⌝ }
+    ensures { λ r. ⌜ stateOutcome r ≡ lineStep (measuredAnswer (u8g2 (now (font .entry))) «ignore_unknown_chars») «horizontal_align» «line_height» origin (asState state) ch ⌝ }
 {
     if ch == NEWLINE {
         return LineResult::Ok(add_newline(state, horizontal_align, line_height, origin));
@@ -159,7 +160,7 @@ fn measure_lines(
     ignore_unknown_chars: bool,
 ) -> DimensionsResult
     requires { ⌜ Opened (now font) head × Checked (now text) origin «line_height» ⌝ }
-    ensures { λ r. ⌜ dimensionsOutcome r ≡ measureLines (measuredAnswer (now (font .entry)) «ignore_unknown_chars») «horizontal_align» «line_height» origin (characters (now (text .entry))) ⌝ }
+    ensures { λ r. ⌜ dimensionsOutcome r ≡ measureLines (measuredAnswer (u8g2 (now (font .entry))) «ignore_unknown_chars») «horizontal_align» «line_height» origin (characters (now (text .entry))) ⌝ }
 {
     let mut state = LineState {
         line: empty_line(),
@@ -205,7 +206,7 @@ pub fn aligned_dimensions(
     line_height: u32,
     ignore_unknown_chars: bool,
 ) -> DimensionsResult
-    ensures { λ r. ⌜ dimensionsOutcome r ≡ alignedDimensions (now (font .entry)) (now (text .entry)) position «vertical_pos» «horizontal_align» «line_height» «ignore_unknown_chars» ⌝ }
+    ensures { λ r. ⌜ dimensionsOutcome r ≡ alignedDimensions (u8g2 (now (font .entry))) (request (now (text .entry)) position «vertical_pos» «horizontal_align» «line_height» «ignore_unknown_chars») ⌝ }
 {
     match new_from_raw_data(font) {
         FontReaderResult::Err(error) => DimensionsResult::Err(error),

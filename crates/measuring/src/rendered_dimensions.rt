@@ -1,6 +1,7 @@
 // The dimensions that a text has when it is drawn.
 ghost use mathlib.Core.Path.{_≡_};
-ghost use Rattle.definitions.specs.Calls.{measure, dimensionsOutcome};
+ghost use Rattle.definitions.specs.Font.{u8g2};
+ghost use Rattle.definitions.specs.Calls.{plain, measure, dimensionsOutcome};
 use crate::lines::aligned_dimensions;
 use types::geometry::Point;
 use types::results::DimensionsResult;
@@ -16,7 +17,7 @@ pub fn get_rendered_dimensions(
     line_height: u32,
     ignore_unknown_chars: bool,
 ) -> DimensionsResult
-    ensures { λ r. ⌜ dimensionsOutcome r ≡ measure (now (font .entry)) (now (text .entry)) position «vertical_pos» «line_height» «ignore_unknown_chars» ⌝ }
+    ensures { λ r. ⌜ dimensionsOutcome r ≡ measure (u8g2 (now (font .entry))) (plain (now (text .entry)) position «vertical_pos» «line_height» «ignore_unknown_chars») ⌝ }
 {
     aligned_dimensions(
         font,

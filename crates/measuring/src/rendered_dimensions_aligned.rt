@@ -1,6 +1,7 @@
 // The bounding box that a text has when each of its lines is aligned.
 ghost use mathlib.Core.Path.{_≡_};
-ghost use Rattle.definitions.specs.Calls.{measureAligned, boundingBoxOutcome};
+ghost use Rattle.definitions.specs.Font.{u8g2};
+ghost use Rattle.definitions.specs.Calls.{request, measureAligned, boundingBoxOutcome};
 use crate::lines::aligned_dimensions;
 use types::geometry::Point;
 use types::results::BoundingBoxResult;
@@ -19,7 +20,7 @@ pub fn get_rendered_dimensions_aligned(
     line_height: u32,
     ignore_unknown_chars: bool,
 ) -> BoundingBoxResult
-    ensures { λ r. ⌜ boundingBoxOutcome r ≡ measureAligned (now (font .entry)) (now (text .entry)) position «vertical_pos» «horizontal_align» «line_height» «ignore_unknown_chars» ⌝ }
+    ensures { λ r. ⌜ boundingBoxOutcome r ≡ measureAligned (u8g2 (now (font .entry))) (request (now (text .entry)) position «vertical_pos» «horizontal_align» «line_height» «ignore_unknown_chars») ⌝ }
 {
     let measured = aligned_dimensions(
         font,

@@ -9,7 +9,7 @@ use borrow.Author.Needs.{needs}
 use Rattle.types.specs.declared.geometry.BoundingBox.{BoundingBox}
 use Rattle.types.specs.declared.geometry.Rectangle.{Rectangle}
 use Rattle.definitions.specs.Geometry.{top}
-use Rattle.definitions.specs.Calls.{pixelsOf}
+use Rattle.definitions.specs.Font.{u8g2, pixelsOf}
 use Rattle.definitions.specs.Picture.{rectanglePicture, boxPicture}
 use Rattle.definitions.specs.Framebuffer.{shown}
 use Rattle.definitions.proofs.FramebufferLaws.{shown-blank}
@@ -30,7 +30,7 @@ enum-told c = search needs
 returns : tie.Need-returns
 returns c =
     let a = c .before .before .before .before .args in
-    sym (ap (λ (b : BoundingBox). shown (a .width) (boxPicture (a .color) (pixelsOf (a .font .now) (a .glyph)) b) (a .buffer .now)) (c .enum-told .given .1) ∙ shown-blank (a .width) (a .buffer .now))
+    sym (ap (λ (b : BoundingBox). shown (a .width) (boxPicture (a .color) (pixelsOf (u8g2 (a .font .now)) (a .glyph)) b) (a .buffer .now)) (c .enum-told .given .1) ∙ shown-blank (a .width) (a .buffer .now))
 
 -- the box
 abbrev area : tie.After-struct-told → Rectangle
@@ -55,20 +55,20 @@ rows-are c =
 
 -- what the box shows
 shows : (c : tie.After-get-visible-rows) → let a = c .before .before .before .before .before .before .before .before .args in
-    shown (a .width) (rectanglePicture (a .color) (pixelsOf (a .font .now) (a .glyph)) (firstRows (c .get-visible-rows .result .past) (area (c .before)))) (a .buffer .now)
-    ≡ shown (a .width) (boxPicture (a .color) (pixelsOf (a .font .now) (a .glyph)) (a .bounding-box)) (a .buffer .now)
+    shown (a .width) (rectanglePicture (a .color) (pixelsOf (u8g2 (a .font .now)) (a .glyph)) (firstRows (c .get-visible-rows .result .past) (area (c .before)))) (a .buffer .now)
+    ≡ shown (a .width) (boxPicture (a .color) (pixelsOf (u8g2 (a .font .now)) (a .glyph)) (a .bounding-box)) (a .buffer .now)
 shows c =
     let s = c .before .before .before .before .before .before .before .before in
     let a = s .args in
-    visible-rows (a .buffer .now) (s .pre .1 .1) (a .color) (pixelsOf (a .font .now) (a .glyph)) (area (c .before)) (rows-are c)
-    ∙ ap (λ (b : BoundingBox). shown (a .width) (boxPicture (a .color) (pixelsOf (a .font .now) (a .glyph)) b) (a .buffer .now)) (sym (c .before .before .before .before .bounding-box .given .1))
+    visible-rows (a .buffer .now) (s .pre .1 .1) (a .color) (pixelsOf (u8g2 (a .font .now)) (a .glyph)) (area (c .before)) (rows-are c)
+    ∙ ap (λ (b : BoundingBox). shown (a .width) (boxPicture (a .color) (pixelsOf (u8g2 (a .font .now)) (a .glyph)) b) (a .buffer .now)) (sym (c .before .before .before .before .bounding-box .given .1))
 
 returns-2 : tie.Need-returns-2
 returns-2 c =
     let q = c .before .before in
     let s = c .before .before .before .before .before .before .before .before .before .before in
     let a = s .args in
-    sym (hidden-rows (a .buffer .now) (s .pre .1 .1) (a .color) (pixelsOf (a .font .now) (a .glyph)) (area (q .before)) (rows-are q) (q .get-visible-rows .result .past) (omega arith)) ∙ shows q
+    sym (hidden-rows (a .buffer .now) (s .pre .1 .1) (a .color) (pixelsOf (u8g2 (a .font .now)) (a .glyph)) (area (q .before)) (rows-are q) (q .get-visible-rows .result .past) (omega arith)) ∙ shows q
 
 cast-seek : tie.Need-cast-seek
 cast-seek c = search needs
@@ -109,7 +109,7 @@ draw-rows-requires c κs =
       within = inside (c .before .before .before .before);
       order = omega (arith, c .before .before .before .before .if1 .left);
       window = s .pre .1 .1;
-      above = hidden-rows (a .buffer .now) (s .pre .1 .1) (a .color) (pixelsOf (a .font .now) (a .glyph)) (area (q .before)) (rows-are q) (q .get-visible-rows .result .first) (omega arith);
+      above = hidden-rows (a .buffer .now) (s .pre .1 .1) (a .color) (pixelsOf (u8g2 (a .font .now)) (a .glyph)) (area (q .before)) (rows-are q) (q .get-visible-rows .result .first) (omega arith);
     }
 
 same-length : tie.Need-same-length

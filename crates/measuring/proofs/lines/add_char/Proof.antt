@@ -6,7 +6,8 @@ use borrow.Author.Needs.{needs}
 use borrow.Author.Tests.{eq-eqb, ne-eqb}
 use Rattle.definitions.specs.Text.{point}
 use Rattle.definitions.specs.TextSteps.{answerStep}
-use Rattle.definitions.specs.Calls.{measuredAnswer, dimensionsOutcome}
+use Rattle.definitions.specs.Font.{u8g2, measuredAnswer}
+use Rattle.definitions.specs.Calls.{dimensionsOutcome}
 use Rattle.layout.proofs.RangeLaws.{near-fits}
 use Rattle.measuring.proofs.LineLaws.{answer-room}
 use Rattle.measuring.proofs.lines.add_char.Statement.{statement}
@@ -35,7 +36,7 @@ module _ (c : tie.After-add-answer) where
   abbrev entry : tie.Start
   entry = c .before .before .before .before .before
 
-  added : dimensionsOutcome (c .add-answer .result) ≡ answerStep (point (pos 0) (pos 0)) (entry .args .state .line) (measuredAnswer (entry .args .font .now) (entry .args .ignore-unknown-chars) (entry .args .ch))
+  added : dimensionsOutcome (c .add-answer .result) ≡ answerStep (point (pos 0) (pos 0)) (entry .args .state .line) (measuredAnswer (u8g2 (entry .args .font .now)) (entry .args .ignore-unknown-chars) (entry .args .ch))
   added = simp (c .before .before .try-retrieve-glyph-data .ensures) at (c .add-answer .ensures)
 
 returns-2 : tie.Need-returns-2

@@ -6,10 +6,10 @@ use mir.Facts.{toZ-ofZ}
 use borrow.Author.Needs.{needs}
 use Rattle.types.specs.declared.font_reader.FontReader.{FontReader}
 use Rattle.definitions.specs.Refusals.{success, number, codePoint}
-use Rattle.definitions.specs.Calls.{openFont, fontReaderOutcome}
+use Rattle.definitions.specs.Calls.{openFont, Request, request, fontReaderOutcome}
 use Rattle.definitions.proofs.OpenedLaws.{opened, open-refused}
-use Rattle.layout.specs.Origins.{checkedOrigin, originOutcome}
-use Rattle.layout.proofs.OriginLaws.{passed, passed-checked}
+use Rattle.layout.specs.Origins.{originOutcome}
+use Rattle.layout.proofs.OriginLaws.{tested, request-checked}
 use Rattle.measuring.specs.Lines.{alignedDimensions}
 use Rattle.measuring.proofs.AlignedLaws.{aligned-is, aligned-refused}
 use Rattle.measuring.proofs.lines.aligned_dimensions.Statement.{statement}
@@ -26,6 +26,11 @@ module _ (c : tie.After-known-told2) where
   opens : openFont (entry .args .font .now) ≡ success head
   opens = sym (c .before .before .before .new-from-raw-data .ensures) ∙ ap fontReaderOutcome (c .before .head .given .1)
 
+  abbrev asked : Request
+  asked =
+      let a = entry .args in
+      request (a .text .now) (a .position) (a .vertical-pos) (a .horizontal-align) (a .line-height) (a .ignore-unknown-chars)
+
   ascent-fits : SFits w8 (head .ascent)
   ascent-fits = search needs
 
@@ -37,7 +42,7 @@ module _ (c : tie.After-known-told4) where
   abbrev font-known : tie.After-known-told2
   font-known = c .before .before .before .before .before .before
 
-  passes : checkedOrigin (head font-known .ascent) (head font-known .descent) (entry font-known .args .text .now) (entry font-known .args .position) (entry font-known .args .vertical-pos) (entry font-known .args .line-height) ≡ success (c .before .origin .given .0 .0)
+  passes : tested (entry font-known .args .font .now) (opens font-known) (asked font-known) ≡ success (c .before .origin .given .0 .0)
   passes = sym (simp (toZ-ofZ, ascent-fits font-known, descent-fits font-known) at (c .before .before .before .checked-origin .ensures)) ∙ ap originOutcome (c .before .origin .given .1)
 
 new-from-raw-data-requires : tie.Need-new-from-raw-data-requires
@@ -61,11 +66,7 @@ enum-known-origin c = search needs
 measure-lines-requires : tie.Need-measure-lines-requires
 measure-lines-requires c κs =
     let k = font-known c in
-    let a = entry k .args in (
-      opened _ (head k) (opens k),
-      passed-checked (head k .ascent) (head k .descent) (a .text .now) (a .position) (a .vertical-pos) (a .line-height) (ascent-fits k) (descent-fits k)
-          (passed (head k .ascent) (head k .descent) (a .text .now) (a .position) (a .vertical-pos) (a .line-height) _ (passes c)),
-    )
+    (opened _ (head k) (opens k), request-checked _ (opens k) (asked k) (ascent-fits k) (descent-fits k) (passes c))
 
 returns : tie.Need-returns
 unfolding alignedDimensions
@@ -78,16 +79,13 @@ returns c =
 returns-2 : tie.Need-returns-2
 returns-2 c =
     let k = c .before .before .before .before .before .before in
-    let a = entry k .args in
-    aligned-refused (a .font .now) (opens k) (a .text .now) (a .position) (a .vertical-pos) (a .horizontal-align) (a .line-height) (a .ignore-unknown-chars)
+    aligned-refused _ (opens k) (asked k)
     (sym (simp (toZ-ofZ, ascent-fits k, descent-fits k) at (c .before .before .before .checked-origin .ensures)) ∙ ap originOutcome (c .before .error2 .given .1))
 
 returns-3 : tie.Need-returns-3
 returns-3 c =
     let k = font-known (c .before) in
-    let a = entry k .args in
-    c .measure-lines .ensures
-    ∙ aligned-is (a .font .now) (opens k) (a .text .now) (a .position) (a .vertical-pos) (a .horizontal-align) (a .line-height) (a .ignore-unknown-chars) (passes (c .before))
+    c .measure-lines .ensures ∙ aligned-is _ (opens k) (asked k) (passes (c .before))
 
 pub aligned-dimensions-spec : {M : Type 1} → statement M
 aligned-dimensions-spec =

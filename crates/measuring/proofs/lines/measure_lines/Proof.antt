@@ -8,7 +8,7 @@ use borrow.Author.Needs.{needs}
 use Rattle.content.specs.Text.{asCharacter}
 use Rattle.definitions.specs.Refusals.{success}
 use Rattle.definitions.specs.Utf8.{character, firstCharacter}
-use Rattle.definitions.specs.Calls.{measuredAnswer}
+use Rattle.definitions.specs.Font.{u8g2, measuredAnswer}
 use Rattle.definitions.proofs.Utf8Laws.{Position, position, none-malformed}
 use Rattle.measuring.specs.Lines.{asState, stateOutcome}
 use Rattle.measuring.proofs.MeasureLaws.{measured-small}
@@ -20,7 +20,7 @@ use Rattle.measuring.proofs.lines.measure_lines.Tie as tie
 
 abbrev Inv-loop : tie.InvT-loop
 Inv-loop font head text horizontal-align origin line-height ignore-unknown-chars state₀ at₀ state at =
-    Aligned (measuredAnswer font ignore-unknown-chars) horizontal-align line-height origin text (asState state) at
+    Aligned (measuredAnswer (u8g2 font) ignore-unknown-chars) horizontal-align line-height origin text (asState state) at
 
 abbrev μ-loop : tie.MeasureT-loop
 μ-loop font head text horizontal-align origin line-height ignore-unknown-chars state₀ at₀ state at = length text - at

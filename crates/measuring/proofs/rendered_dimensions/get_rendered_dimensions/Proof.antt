@@ -1,6 +1,8 @@
 -- Plain measuring is aligned measuring to the left.
 use mathlib.Core.Path.{_∙_}
 use borrow.Author.Needs.{needs}
+use Rattle.definitions.specs.Font.{u8g2}
+use Rattle.definitions.specs.Calls.{plain}
 use Rattle.measuring.proofs.AlignedLaws.{plain-is-left}
 use Rattle.measuring.proofs.rendered_dimensions.get_rendered_dimensions.Statement.{
   statement,
@@ -14,7 +16,7 @@ returns : tie.Need-returns
 returns c =
     let a = c .before .before .before .args in
     c .aligned-dimensions .ensures
-    ∙ plain-is-left (a .font .now) (a .text .now) (a .position) (a .vertical-pos) (a .line-height) (a .ignore-unknown-chars)
+    ∙ plain-is-left (u8g2 (a .font .now)) (plain (a .text .now) (a .position) (a .vertical-pos) (a .line-height) (a .ignore-unknown-chars))
 
 pub get-rendered-dimensions-spec : {M : Type 1} → statement M
 get-rendered-dimensions-spec = tie.close (tie.spec aligned-dimensions-requires returns)

@@ -4,7 +4,8 @@ use borrow.Author.Needs.{needs}
 use Rattle.types.specs.declared.geometry.BoundingBox.{BoundingBox}
 use Rattle.types.specs.declared.results.DimensionsResult.{DimensionsResult}
 use Rattle.definitions.specs.Refusals.{Outcome}
-use Rattle.definitions.specs.Calls.{measureAligned, dimensionsOutcome}
+use Rattle.definitions.specs.Font.{u8g2}
+use Rattle.definitions.specs.Calls.{Request, request, measureAligned, dimensionsOutcome}
 use Rattle.definitions.proofs.TextLaws.{boxAlone}
 use Rattle.measuring.proofs.AlignedLaws.{aligned-box}
 use Rattle.measuring.proofs.rendered_dimensions_aligned.get_rendered_dimensions_aligned.Statement.{
@@ -28,11 +29,13 @@ module _ (c : tie.After-aligned-dimensions) where
   abbrev entry : tie.Start
   entry = c .before .before .before
 
-  box-is : box (c .aligned-dimensions .result) ≡ measureAligned (entry .args .font .now) (entry .args .text .now) (entry .args .position) (entry .args .vertical-pos) (entry .args .horizontal-align) (entry .args .line-height) (entry .args .ignore-unknown-chars)
-  box-is =
+  abbrev asked : Request
+  asked =
       let a = entry .args in
-      ap boxAlone (c .aligned-dimensions .ensures)
-      ∙ aligned-box (a .font .now) (a .text .now) (a .position) (a .vertical-pos) (a .horizontal-align) (a .line-height) (a .ignore-unknown-chars)
+      request (a .text .now) (a .position) (a .vertical-pos) (a .horizontal-align) (a .line-height) (a .ignore-unknown-chars)
+
+  box-is : box (c .aligned-dimensions .result) ≡ measureAligned (u8g2 (entry .args .font .now)) asked
+  box-is = ap boxAlone (c .aligned-dimensions .ensures) ∙ aligned-box (u8g2 (entry .args .font .now)) asked
 
 returns : tie.Need-returns
 returns c = sym (ap box (c .before .measured .given .1)) ∙ box-is (c .before .before .before)
