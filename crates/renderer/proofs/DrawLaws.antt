@@ -6,12 +6,13 @@ use Prim.Native.Nat.{ℕ, _+_, _≤_}
 use native.Mathlib.Omega.{arith}
 use lib.ListN.{length, drop}
 use Rattle.integers.specs.Integers.{pick}
+use Rattle.integers.proofs.Choices.{impossible}
 use Rattle.types.specs.declared.font_reader.FontReader.{FontReader}
+use Rattle.types.specs.declared.framebuffer.Framebuffer.{Framebuffer}
 use Rattle.types.specs.declared.geometry.Point.{Point}
 use Rattle.types.specs.declared.geometry.RenderedDimensions.{RenderedDimensions}
 use Rattle.types.specs.declared.glyph_reader.GlyphReader.{GlyphReader}
 use Rattle.types.specs.declared.style.FontColor.{FontColor}
-use Rattle.types.specs.declared.style.FontStyle.{FontStyle}
 use Rattle.definitions.specs.Refusals.{Outcome, success, refused, Cause, unlessRefused, anyApplies}
 use Rattle.definitions.specs.Header.{header, fontCauses, Opened}
 use Rattle.definitions.specs.Glyph.{glyph}
@@ -19,10 +20,11 @@ use Rattle.definitions.specs.Utf8.{character, firstCharacter, decode, codePoint
 use Rattle.definitions.specs.Text.{Answer, shows, dimensions}
 use Rattle.definitions.specs.TextSteps.{step, stepShown, measureFrom, drawFrom, start}
 use Rattle.definitions.specs.Runs.{Pixels, pixels, cut, glyphPixels}
+use Rattle.definitions.specs.Font.{u8g2, withRuns, drawable, drawnAnswer, pixelsOf}
 use Rattle.definitions.specs.Picture.{textPicture}
 use Rattle.definitions.specs.Framebuffer.{shown, framebufferCause}
 use Rattle.definitions.specs.Limits.{textCause, positionCause, backgroundCause}
-use Rattle.definitions.specs.Calls.{openFont, origin, withRuns, drawable, drawnAnswer, pixelsOf, drawnText, drawCauses, draw, drawBuffer}
+use Rattle.definitions.specs.Calls.{openFont, Request, characters, origin, drawnText, drawCauses, draw, drawBuffer}
 use Rattle.definitions.proofs.ComesLaws.{Comes, comes-none, comes-off, comes-on, comes-passed, comes-stopped}
 use Rattle.definitions.proofs.RefusalLaws.{succeeded}
 use Rattle.definitions.proofs.GlyphLaws.{glyph-range}
@@ -31,8 +33,8 @@ use Rattle.definitions.proofs.Utf8Laws.{next}
 use Rattle.glyph_renderer.specs.RunReads.{isWhole}
 use Rattle.renderer.specs.CharAnswers.{RunsChecked}
 use Rattle.layout.specs.Ranges.{Checked}
-use Rattle.layout.specs.Origins.{originBy, checkedOrigin}
-use Rattle.layout.proofs.OriginLaws.{origin-is}
+use Rattle.layout.specs.Origins.{originBy}
+use Rattle.layout.proofs.OriginLaws.{tested, origin-is}
 use Rattle.layout.proofs.RangeLaws.{Small, in-range-small}
 use Rattle.measuring.proofs.LoopLaws.{reached-start, reached-last, reached-next}
 use Rattle.measuring.proofs.MeasureLaws.{shown-glyph, Measured, measured-start, measured-next}
@@ -41,10 +43,10 @@ use Rattle.measuring.proofs.MeasureLaws.{shown-glyph, Measured, measured-start,
 
 whole-runs : (c : ℕ) (g : GlyphReader) (p : Pixels) → isWhole p ≡ true → success g ≡ withRuns c g p
 whole-runs c g (pixels ps) e = refl
-whole-runs c g cut e = let z : _≡_ {A = ℕ} 0 1 = cc in absurd (omega arith)
+whole-runs c g cut e = impossible cc
 
 cut-runs : (c : ℕ) (g : GlyphReader) (p : Pixels) → isWhole p ≡ false → refused 8 c ≡ withRuns c g p
-cut-runs c g (pixels ps) e = let z : _≡_ {A = ℕ} 0 1 = cc in absurd (omega arith)
+cut-runs c g (pixels ps) e = impossible cc
 cut-runs c g cut e = refl
 
 -- the header that was read is the font's
@@ -54,34 +56,34 @@ module _ {font : List ℕ} {head : FontReader} (o : Opened font head) where
 
   -- a glyph that was found, by whether its runs are all there
   module _ (c : ℕ) {g : GlyphReader} (found : glyph font c ≡ success g) where
-    pub whole-glyph : isWhole (glyphPixels font head g) ≡ true → success g ≡ drawable font c (glyph font c)
+    pub whole-glyph : isWhole (glyphPixels font head g) ≡ true → success g ≡ drawable (u8g2 font) c (glyph font c)
     whole-glyph e = rw found (whole-runs c g (glyphPixels font (header font) g) (sym (read-whole g) ∙ e))
 
-    pub cut-glyph : isWhole (glyphPixels font head g) ≡ false → refused 8 c ≡ drawable font c (glyph font c)
+    pub cut-glyph : isWhole (glyphPixels font head g) ≡ false → refused 8 c ≡ drawable (u8g2 font) c (glyph font c)
     cut-glyph e = rw found (cut-runs c g (glyphPixels font (header font) g) (sym (read-whole g) ∙ e))
 
 -- a glyph that a letter shows was found, and its runs are all there
-drawn-glyph : (font : List ℕ) (skip : Bool) (c : ℕ) (g : GlyphReader) → drawnAnswer font skip c ≡ shows g
+drawn-glyph : (font : List ℕ) (skip : Bool) (c : ℕ) (g : GlyphReader) → drawnAnswer (u8g2 font) skip c ≡ shows g
     → (glyph font c ≡ success g) × (isWhole (glyphPixels font (header font) g) ≡ true)
-drawn-glyph font skip c g e = by (glyph font c) refl (shown-glyph skip (drawable font c (glyph font c)) g e)
+drawn-glyph font skip c g e = by (glyph font c) refl (shown-glyph skip (drawable (u8g2 font) c (glyph font c)) g e)
   where
     with-runs : (h : GlyphReader) → glyph font c ≡ success h → (p : Pixels) → glyphPixels font (header font) h ≡ p → withRuns c h p ≡ success g
         → (glyph font c ≡ success g) × (isWhole (glyphPixels font (header font) g) ≡ true)
     with-runs h k (pixels ps) q d =
         let same : h ≡ g = cc in
         (k ∙ ap success same, ap (λ (x : GlyphReader). isWhole (glyphPixels font (header font) x)) (sym same) ∙ ap isWhole q)
-    with-runs h k cut q d = let z : _≡_ {A = ℕ} 0 1 = cc in absurd (omega arith)
+    with-runs h k cut q d = impossible cc
 
-    by : (o : Outcome GlyphReader) → glyph font c ≡ o → drawable font c o ≡ success g
+    by : (o : Outcome GlyphReader) → glyph font c ≡ o → drawable (u8g2 font) c o ≡ success g
         → (glyph font c ≡ success g) × (isWhole (glyphPixels font (header font) g) ≡ true)
     by (success h) k d = with-runs h k (glyphPixels font (header font) h) refl d
-    by (refused n m) k d = let z : _≡_ {A = ℕ} 0 1 = cc in absurd (omega arith)
+    by (refused n m) k d = impossible cc
 
 module _ {font : List ℕ} {head : FontReader} (o : Opened font head) (skip : Bool) (c : ℕ) where
-  pub drawn-small : (g : GlyphReader) → drawnAnswer font skip c ≡ shows g → Small g
+  pub drawn-small : (g : GlyphReader) → drawnAnswer (u8g2 font) skip c ≡ shows g → Small g
   drawn-small g e = in-range-small (glyph-range font head c g o (drawn-glyph font skip c g e .0))
 
-  pub runs-checked : RunsChecked font head (drawnAnswer font skip c)
+  pub runs-checked : RunsChecked font head (drawnAnswer (u8g2 font) skip c)
   runs-checked g e =
       let d = drawn-glyph font skip c g e in
       let r = glyph-range font head c g o (d .0) in
@@ -137,74 +139,75 @@ module _ (width : ℕ) (color : FontColor) (pixelsOf : GlyphReader → List ℕ)
 
 -- ---- the call
 
-module _ (font text : List ℕ) (position : Point) (style : FontStyle) (lineHeight : ℕ) (skip : Bool) (width height : ℕ) (buffer : List ℕ) where
+module _ (font : List ℕ) (r : Request) (color : FontColor) (p : Framebuffer) (buffer : List ℕ) where
   -- the answer and the bytes are those of the definitions
   abbrev pub Defined : Outcome RenderedDimensions → List ℕ → Type 0
-  Defined answer bytes =
-      (answer ≡ draw font text position style lineHeight skip width height buffer)
-      × (bytes ≡ drawBuffer font text position style lineHeight skip width height buffer)
+  Defined answer bytes = (answer ≡ draw (u8g2 font) r color p buffer) × (bytes ≡ drawBuffer (u8g2 font) r color p buffer)
 
   abbrev laid : Outcome RenderedDimensions
-  laid = dimensions (drawnText font text position (style .«vertical_pos») lineHeight skip)
+  laid = dimensions (drawnText (u8g2 font) r)
 
   abbrev painted : List ℕ
-  painted = shown width (textPicture (style .color) (pixelsOf font) (drawnText font text position (style .«vertical_pos») lineHeight skip .glyphs)) buffer
+  painted = shown (p .width) (textPicture color (pixelsOf (u8g2 font)) (drawnText (u8g2 font) r .glyphs)) buffer
 
-  as-defined : {answer : Outcome RenderedDimensions} {bytes : List ℕ}
-      → Comes (drawCauses font text position style lineHeight width height buffer) laid buffer painted answer bytes → Defined answer bytes
+  -- what causes leave of the call
+  abbrev Leave : List Cause → Outcome RenderedDimensions → List ℕ → Type 0
+  Leave cs answer bytes = Comes cs laid buffer painted answer bytes
+
+  as-defined : {answer : Outcome RenderedDimensions} {bytes : List ℕ} → Leave (drawCauses (u8g2 font) r color p buffer) answer bytes → Defined answer bytes
   unfolding draw drawBuffer
   as-defined k = (k .answered, k .held)
 
-  abbrev afterFont : List Cause
-  afterFont = framebufferCause width height buffer ∷ textCause text ∷ positionCause position lineHeight ∷ backgroundCause (style .color) font ∷ []
+  abbrev colorCause : Cause
+  colorCause = backgroundCause color (u8g2 font .background)
+
+  abbrev placeCauses : List Cause
+  placeCauses = textCause (r .text) ∷ positionCause (r .position) (r .lineHeight) ∷ []
 
   pub font-refused : {n c : ℕ} → openFont font ≡ refused n c → Defined (refused n c) buffer
   unfolding openFont
-  font-refused e = as-defined (comes-stopped (header font) (fontCauses font) afterFont e)
+  font-refused e = as-defined (comes-stopped (header font) (fontCauses font) (framebufferCause p buffer ∷ placeCauses ++ colorCause ∷ []) e)
 
   module _ {head : FontReader} (opens : openFont font ≡ success head) where
     passes-font : anyApplies (fontCauses font) ≡ false
     unfolding openFont
     passes-font = succeeded (success (header font)) head (fontCauses font) opens .0
 
-    pub size-refused : framebufferCause width height buffer .applies ≡ true → Defined (refused 3 0) buffer
-    size-refused e = as-defined (comes-passed (fontCauses font) passes-font (comes-on (framebufferCause width height buffer) _ e))
+    pub size-refused : framebufferCause p buffer .applies ≡ true → Defined (refused 3 0) buffer
+    size-refused e = as-defined (comes-passed (fontCauses font) passes-font (comes-on (framebufferCause p buffer) _ e))
 
-    module _ (size : framebufferCause width height buffer .applies ≡ false) where
-      afterSize : {answer : Outcome RenderedDimensions} {bytes : List ℕ}
-          → Comes (textCause text ∷ positionCause position lineHeight ∷ backgroundCause (style .color) font ∷ []) laid buffer painted answer bytes → Defined answer bytes
-      afterSize k = as-defined (comes-passed (fontCauses font) passes-font (comes-off (framebufferCause width height buffer) size k))
+    module _ (size : framebufferCause p buffer .applies ≡ false) where
+      after-size : {answer : Outcome RenderedDimensions} {bytes : List ℕ} → Leave (placeCauses ++ colorCause ∷ []) answer bytes → Defined answer bytes
+      after-size k = as-defined (comes-passed (fontCauses font) passes-font (comes-off (framebufferCause p buffer) size k))
 
-      pub position-refused : {n c : ℕ} → checkedOrigin (head .ascent) (head .descent) text position (style .«vertical_pos») lineHeight ≡ refused n c → Defined (refused n c) buffer
-      position-refused e =
-          afterSize
-          (comes-stopped (originBy (head .ascent) (head .descent) text position (style .«vertical_pos») lineHeight) (textCause text ∷ positionCause position lineHeight ∷ []) (backgroundCause (style .color) font ∷ []) e)
+      -- where the text would begin, by the header that was read
+      abbrev begins : Point
+      begins = originBy (head .ascent) (head .descent) (r .text) (r .position) (r .anchor) (r .lineHeight)
 
-      module _ {o : Point} (passes : checkedOrigin (head .ascent) (head .descent) text position (style .«vertical_pos») lineHeight ≡ success o) where
-        afterPosition : {answer : Outcome RenderedDimensions} {bytes : List ℕ}
-            → Comes (backgroundCause (style .color) font ∷ []) laid buffer painted answer bytes → Defined answer bytes
-        afterPosition k =
-            afterSize
-            (comes-passed (textCause text ∷ positionCause position lineHeight ∷ [])
-            (succeeded (success (originBy (head .ascent) (head .descent) text position (style .«vertical_pos») lineHeight)) o (textCause text ∷ positionCause position lineHeight ∷ []) passes .0)
-            k)
+      pub position-refused : {n c : ℕ} → tested font opens r ≡ refused n c → Defined (refused n c) buffer
+      position-refused e = after-size (comes-stopped begins placeCauses (colorCause ∷ []) e)
 
-        pub color-refused : backgroundCause (style .color) font .applies ≡ true → Defined (refused 6 0) buffer
-        color-refused e = afterPosition (comes-on (backgroundCause (style .color) font) [] e)
+      module _ {o : Point} (passes : tested font opens r ≡ success o) where
+        after-position : {answer : Outcome RenderedDimensions} {bytes : List ℕ} → Leave (colorCause ∷ []) answer bytes → Defined answer bytes
+        after-position k = after-size (comes-passed placeCauses (succeeded (success begins) o placeCauses passes .0) k)
 
-        pub drawn-whole : backgroundCause (style .color) font .applies ≡ false
+        pub color-refused : colorCause .applies ≡ true → Defined (refused 6 0) buffer
+        color-refused e = after-position (comes-on colorCause [] e)
+
+        pub drawn-whole : colorCause .applies ≡ false
             → Defined
-            (measureFrom (drawnAnswer font skip) lineHeight o start (codePoints (decode text)))
-            (drawFrom width (style .color) (pixelsOf font) (drawnAnswer font skip) lineHeight o start buffer (codePoints (decode text)))
+            (measureFrom (drawnAnswer (u8g2 font) (r .skip)) (r .lineHeight) o start (characters (r .text)))
+            (drawFrom (p .width) color (pixelsOf (u8g2 font)) (drawnAnswer (u8g2 font) (r .skip)) (r .lineHeight) o start buffer (characters (r .text)))
         drawn-whole e =
-            let place = origin font text position (style .«vertical_pos») lineHeight in
-            let same : place ≡ o = origin-is font opens text position (style .«vertical_pos») lineHeight passes in
-            let cs = codePoints (decode text) in
-            let whole = afterPosition (comes-off (backgroundCause (style .color) font) e comes-none) in (
-              ap (λ (p : Point). measureFrom (drawnAnswer font skip) lineHeight p start cs) (sym same)
-                  ∙ measure-from (drawnAnswer font skip) lineHeight place cs start
+            let place = origin (u8g2 font) r in
+            let same : place ≡ o = origin-is font opens r passes in
+            let answers = drawnAnswer (u8g2 font) (r .skip) in
+            let cs = characters (r .text) in
+            let whole = after-position (comes-off colorCause e comes-none) in (
+              ap (λ (q : Point). measureFrom answers (r .lineHeight) q start cs) (sym same)
+                  ∙ measure-from answers (r .lineHeight) place cs start
                   ∙ whole .0,
-              ap (λ (p : Point). drawFrom width (style .color) (pixelsOf font) (drawnAnswer font skip) lineHeight p start buffer cs) (sym same)
-                  ∙ draw-from width (style .color) (pixelsOf font) (drawnAnswer font skip) lineHeight place cs start buffer
+              ap (λ (q : Point). drawFrom (p .width) color (pixelsOf (u8g2 font)) answers (r .lineHeight) q start buffer cs) (sym same)
+                  ∙ draw-from (p .width) color (pixelsOf (u8g2 font)) answers (r .lineHeight) place cs start buffer
                   ∙ whole .1,
             )

@@ -3,7 +3,8 @@ ghost use mathlib.Core.Path.{_≡_};
 ghost use Prim.Native.Nat.{_≤_};
 ghost use Rattle.definitions.specs.Header.{Opened};
 ghost use Rattle.definitions.specs.TextSteps.{step, measureFrom, start};
-ghost use Rattle.definitions.specs.Calls.{characters, drawnAnswer, dimensionsOutcome};
+ghost use Rattle.definitions.specs.Font.{u8g2, drawnAnswer};
+ghost use Rattle.definitions.specs.Calls.{characters, dimensionsOutcome};
 ghost use Rattle.layout.specs.Ranges.{HasRoom, Checked};
 use crate::render::retrieve_answer;
 use content::text::NextChar;
@@ -28,7 +29,7 @@ fn add_char(
     ignore_unknown_chars: bool,
 ) -> DimensionsResult
     requires { ⌜ Opened (now font) head × (HasRoom origin dimensions × («line_height» ≤ 65535)) ⌝ }
-    ensures { λ r. ⌜ dimensionsOutcome r ≡ step (drawnAnswer (now (font .entry)) «ignore_unknown_chars») «line_height» origin dimensions ch ⌝ }
+    ensures { λ r. ⌜ dimensionsOutcome r ≡ step (drawnAnswer (u8g2 (now (font .entry))) «ignore_unknown_chars») «line_height» origin dimensions ch ⌝ }
 {
     if ch == NEWLINE {
         return DimensionsResult::Ok(add_newline(dimensions, line_height));
@@ -47,7 +48,7 @@ pub fn get_drawn_dimensions(
     ignore_unknown_chars: bool,
 ) -> DimensionsResult
     requires { ⌜ Opened (now font) head × Checked (now text) origin «line_height» ⌝ }
-    ensures { λ r. ⌜ dimensionsOutcome r ≡ measureFrom (drawnAnswer (now (font .entry)) «ignore_unknown_chars») «line_height» origin start (characters (now (text .entry))) ⌝ }
+    ensures { λ r. ⌜ dimensionsOutcome r ≡ measureFrom (drawnAnswer (u8g2 (now (font .entry))) «ignore_unknown_chars») «line_height» origin start (characters (now (text .entry))) ⌝ }
 {
     let mut dimensions = RenderedDimensions {
         advance: Point { x: 0, y: 0 },

@@ -5,7 +5,9 @@ ghost use lib.ListN.{length};
 ghost use Rattle.definitions.specs.Header.{Opened};
 ghost use Rattle.definitions.specs.Glyph.{glyph, glyphOutcome};
 ghost use Rattle.definitions.specs.TextSteps.{answerShown, step, stepShown, measureFrom, drawFrom, start};
-ghost use Rattle.definitions.specs.Calls.{characters, drawable, drawnAnswer, pixelsOf, draw, drawBuffer, dimensionsOutcome};
+ghost use Rattle.definitions.specs.Font.{u8g2, drawable, drawnAnswer, pixelsOf};
+ghost use Rattle.definitions.specs.Framebuffer.{sized};
+ghost use Rattle.definitions.specs.Calls.{plain, characters, draw, drawBuffer, dimensionsOutcome};
 ghost use Rattle.glyph_renderer.specs.Drawing.{BufferFits};
 ghost use Rattle.layout.specs.CharAnswers.{asAnswer};
 ghost use Rattle.renderer.specs.CharAnswers.{RunsChecked};
@@ -41,7 +43,7 @@ use types::style::FontStyle;
 // of it is drawn.
 fn retrieve_whole_glyph(font: &[u8], head: FontReader, ch: u32) -> GlyphResult
     requires { ⌜ Opened (now font) head ⌝ }
-    ensures { λ r. ⌜ glyphOutcome r ≡ drawable (now (font .entry)) ch (glyph (now (font .entry)) ch) ⌝ }
+    ensures { λ r. ⌜ glyphOutcome r ≡ drawable (u8g2 (now (font .entry))) ch (glyph (now (font .entry)) ch) ⌝ }
 {
     let lookup = retrieve_glyph_data(font, head, ch);
     let GlyphResult::Ok(glyph) = lookup else {
@@ -56,7 +58,7 @@ fn retrieve_whole_glyph(font: &[u8], head: FontReader, ch: u32) -> GlyphResult
 // The answer to a code point in drawing.
 pub fn retrieve_answer(font: &[u8], head: FontReader, ch: u32, ignore_unknown_chars: bool) -> Answer
     requires { ⌜ Opened (now font) head ⌝ }
-    ensures { λ r. ⌜ asAnswer r ≡ drawnAnswer (now (font .entry)) «ignore_unknown_chars» ch ⌝ }
+    ensures { λ r. ⌜ asAnswer r ≡ drawnAnswer (u8g2 (now (font .entry))) «ignore_unknown_chars» ch ⌝ }
 {
     answer_of(retrieve_whole_glyph(font, head, ch), ignore_unknown_chars)
 }
@@ -74,7 +76,7 @@ fn draw_answer(
     height: usize,
 )
     requires { ⌜ RunsChecked (now font) head (asAnswer answer) × (HasRoom origin dimensions × BufferFits (length (now buffer)) width height) ⌝ }
-    ensures { λ r. ⌜ now (buffer .exit) ≡ answerShown width color (pixelsOf (now (font .entry))) origin dimensions (asAnswer answer) (now (buffer .entry)) ⌝ }
+    ensures { λ r. ⌜ now (buffer .exit) ≡ answerShown width color (pixelsOf (u8g2 (now (font .entry)))) origin dimensions (asAnswer answer) (now (buffer .entry)) ⌝ }
 {
     match answer {
         Answer::Shows(glyph) => {
@@ -110,8 +112,8 @@ fn draw_char(
     height: usize,
 ) -> DimensionsResult
     requires { ⌜ Opened (now font) head × (HasRoom origin dimensions × ((«line_height» ≤ 65535) × BufferFits (length (now buffer)) width height)) ⌝ }
-    ensures counted { λ r. ⌜ dimensionsOutcome r ≡ step (drawnAnswer (now (font .entry)) «ignore_unknown_chars») «line_height» origin dimensions ch ⌝ }
-    ensures shown { λ r. ⌜ now (buffer .exit) ≡ stepShown width color (pixelsOf (now (font .entry))) (drawnAnswer (now (font .entry)) «ignore_unknown_chars») origin dimensions ch (now (buffer .entry)) ⌝ }
+    ensures counted { λ r. ⌜ dimensionsOutcome r ≡ step (drawnAnswer (u8g2 (now (font .entry))) «ignore_unknown_chars») «line_height» origin dimensions ch ⌝ }
+    ensures shown { λ r. ⌜ now (buffer .exit) ≡ stepShown width color (pixelsOf (u8g2 (now (font .entry)))) (drawnAnswer (u8g2 (now (font .entry))) «ignore_unknown_chars») origin dimensions ch (now (buffer .entry)) ⌝ }
 {
     if ch == NEWLINE {
         return DimensionsResult::Ok(add_newline(dimensions, line_height));
@@ -145,8 +147,8 @@ pub fn draw_text(
     height: usize,
 ) -> DimensionsResult
     requires { ⌜ Opened (now font) head × (Checked (now text) origin «line_height» × BufferFits (length (now buffer)) width height) ⌝ }
-    ensures counted { λ r. ⌜ dimensionsOutcome r ≡ measureFrom (drawnAnswer (now (font .entry)) «ignore_unknown_chars») «line_height» origin start (characters (now (text .entry))) ⌝ }
-    ensures shown { λ r. ⌜ now (buffer .exit) ≡ drawFrom width color (pixelsOf (now (font .entry))) (drawnAnswer (now (font .entry)) «ignore_unknown_chars») «line_height» origin start (now (buffer .entry)) (characters (now (text .entry))) ⌝ }
+    ensures counted { λ r. ⌜ dimensionsOutcome r ≡ measureFrom (drawnAnswer (u8g2 (now (font .entry))) «ignore_unknown_chars») «line_height» origin start (characters (now (text .entry))) ⌝ }
+    ensures shown { λ r. ⌜ now (buffer .exit) ≡ drawFrom width color (pixelsOf (u8g2 (now (font .entry)))) (drawnAnswer (u8g2 (now (font .entry))) «ignore_unknown_chars») «line_height» origin start (now (buffer .entry)) (characters (now (text .entry))) ⌝ }
 {
     let mut dimensions = RenderedDimensions {
         advance: Point { x: 0, y: 0 },
@@ -193,8 +195,8 @@ pub fn render(
     height: usize,
     buffer: &mut [u8],
 ) -> DimensionsResult
-    ensures answered { λ r. ⌜ dimensionsOutcome r ≡ draw (now (font .entry)) (now (text .entry)) position style «line_height» «ignore_unknown_chars» width height (now (buffer .entry)) ⌝ }
-    ensures shown { λ r. ⌜ now (buffer .exit) ≡ drawBuffer (now (font .entry)) (now (text .entry)) position style «line_height» «ignore_unknown_chars» width height (now (buffer .entry)) ⌝ }
+    ensures answered { λ r. ⌜ dimensionsOutcome r ≡ draw (u8g2 (now (font .entry))) (plain (now (text .entry)) position (style .«vertical_pos») «line_height» «ignore_unknown_chars») (style .color) (sized width height) (now (buffer .entry)) ⌝ }
+    ensures shown { λ r. ⌜ now (buffer .exit) ≡ drawBuffer (u8g2 (now (font .entry))) (plain (now (text .entry)) position (style .«vertical_pos») «line_height» «ignore_unknown_chars») (style .color) (sized width height) (now (buffer .entry)) ⌝ }
 {
     match new_from_raw_data(font) {
         FontReaderResult::Err(error) => DimensionsResult::Err(error),

@@ -6,7 +6,8 @@ use lib.ListN.{length, drop}
 use borrow.Author.Needs.{needs}
 use Rattle.content.specs.Text.{asCharacter}
 use Rattle.definitions.specs.Utf8.{character, firstCharacter}
-use Rattle.definitions.specs.Calls.{drawnAnswer, dimensionsOutcome}
+use Rattle.definitions.specs.Font.{u8g2, drawnAnswer}
+use Rattle.definitions.specs.Calls.{dimensionsOutcome}
 use Rattle.definitions.proofs.Utf8Laws.{Position, position, none-malformed}
 use Rattle.measuring.proofs.MeasureLaws.{Measured, measured-start, measured-room, measured-end, measured-next, measured-stops}
 use Rattle.renderer.proofs.DrawLaws.{drawn-small}
@@ -15,7 +16,7 @@ use Rattle.renderer.proofs.drawn_dimensions.get_drawn_dimensions.Tie as
 
 abbrev Inv-loop : tie.InvT-loop
 Inv-loop font head text origin line-height ignore-unknown-chars dimensions₀ at₀ dimensions at =
-    Measured (drawnAnswer font ignore-unknown-chars) line-height origin text dimensions at
+    Measured (drawnAnswer (u8g2 font) ignore-unknown-chars) line-height origin text dimensions at
 
 abbrev μ-loop : tie.MeasureT-loop
 μ-loop font head text origin line-height ignore-unknown-chars dimensions₀ at₀ dimensions at = length text - at

@@ -6,7 +6,8 @@ use lib.ListN.{length, drop}
 use borrow.Author.Needs.{needs}
 use Rattle.content.specs.Text.{asCharacter}
 use Rattle.definitions.specs.Utf8.{character, firstCharacter}
-use Rattle.definitions.specs.Calls.{drawnAnswer, pixelsOf, dimensionsOutcome}
+use Rattle.definitions.specs.Font.{u8g2, drawnAnswer, pixelsOf}
+use Rattle.definitions.specs.Calls.{dimensionsOutcome}
 use Rattle.definitions.proofs.Utf8Laws.{Position, position, none-malformed}
 use Rattle.glyph_renderer.specs.Drawing.{BufferFits}
 use Rattle.measuring.proofs.MeasureLaws.{measured-room, measured-end, measured-stops}
@@ -16,7 +17,7 @@ use Rattle.renderer.proofs.render.draw_text.Tie as tie
 
 abbrev Inv-loop : tie.InvT-loop
 Inv-loop font head text origin line-height ignore-unknown-chars color buffer₀ width height dimensions₀ at₀ buffer dimensions at =
-    DrawnTo width color (pixelsOf font) (drawnAnswer font ignore-unknown-chars) line-height origin text buffer₀ buffer dimensions at
+    DrawnTo width color (pixelsOf (u8g2 font)) (drawnAnswer (u8g2 font) ignore-unknown-chars) line-height origin text buffer₀ buffer dimensions at
 
 abbrev μ-loop : tie.MeasureT-loop
 μ-loop font head text origin line-height ignore-unknown-chars color buffer₀ width height dimensions₀ at₀ buffer dimensions at =

@@ -7,13 +7,13 @@ use mir.Facts.{toZ-ofZ}
 use borrow.Author.Needs.{needs}
 use Rattle.types.specs.declared.font_reader.FontReader.{FontReader}
 use Rattle.definitions.specs.Refusals.{success}
-use Rattle.definitions.specs.Framebuffer.{framebufferCause}
-use Rattle.definitions.specs.Limits.{backgroundCause}
-use Rattle.definitions.specs.Calls.{openFont, fontReaderOutcome}
+use Rattle.definitions.specs.Font.{u8g2}
+use Rattle.definitions.specs.Framebuffer.{sized, framebufferCause}
+use Rattle.definitions.specs.Limits.{backgroundOff, backgroundCause}
+use Rattle.definitions.specs.Calls.{openFont, Request, plain, fontReaderOutcome}
 use Rattle.definitions.proofs.OpenedLaws.{opened}
-use Rattle.layout.specs.Sizes.{colorOff}
-use Rattle.layout.specs.Origins.{checkedOrigin, originOutcome}
-use Rattle.layout.proofs.OriginLaws.{passed, passed-checked}
+use Rattle.layout.specs.Origins.{originOutcome}
+use Rattle.layout.proofs.OriginLaws.{tested, request-checked}
 use Rattle.layout.proofs.LimitLaws.{color-is}
 use Rattle.renderer.proofs.SizeLaws.{size-fits}
 use Rattle.renderer.proofs.DrawLaws.{font-refused, size-refused, position-refused, color-refused, drawn-whole}
@@ -24,6 +24,9 @@ use Rattle.renderer.proofs.render.render.Tie as tie
 module _ (c : tie.After-known-told2) where
   abbrev entry : tie.Start
   entry = c .before .before .before .before .before .before .before
+
+  abbrev asked : Request
+  asked = let a = entry .args in plain (a .text .now) (a .position) (a .style .«vertical_pos») (a .line-height) (a .ignore-unknown-chars)
 
   abbrev head : FontReader
   head = c .before .head .given .0 .0
@@ -39,22 +42,22 @@ module _ (c : tie.After-known-told2) where
 
 -- .. the framebuffer has its size
 module _ (c : tie.Else1) where
-  size-in : framebufferCause (entry (c .before .before) .args .width) (entry (c .before .before) .args .height) (entry (c .before .before) .args .buffer .now) .applies ≡ false
+  size-in : (let a = entry (c .before .before) .args in framebufferCause (sized (a .width) (a .height)) (a .buffer .now) .applies) ≡ false
   size-in = sym (c .before .has-bad-size .ensures) ∙ c .if1 .left
 
 -- .. and the text and its place passed
 module _ (c : tie.After-known-told4) where
-  abbrev sized : tie.Else1
-  sized = c .before .before .before .before .before .before
+  abbrev sized-at : tie.Else1
+  sized-at = c .before .before .before .before .before .before
 
   abbrev font-known : tie.After-known-told2
-  font-known = sized .before .before
+  font-known = sized-at .before .before
 
-  passes : let a = entry font-known .args in checkedOrigin (head font-known .ascent) (head font-known .descent) (a .text .now) (a .position) (a .style .«vertical_pos») (a .line-height) ≡ success (c .before .origin .given .0 .0)
+  passes : tested (entry font-known .args .font .now) (opens font-known) (asked font-known) ≡ success (c .before .origin .given .0 .0)
   passes = sym (simp (toZ-ofZ, ascent-fits font-known, descent-fits font-known) at (c .before .before .before .checked-origin .ensures)) ∙ ap originOutcome (c .before .origin .given .1)
 
   -- the answer to the colour is the cause's
-  color-tested : let a = entry font-known .args in backgroundCause (a .style .color) (a .font .now) .applies ≡ colorOff (a .style .color) (head font-known .«supports_background_color»)
+  color-tested : let a = entry font-known .args in backgroundCause (a .style .color) (u8g2 (a .font .now) .background) .applies ≡ backgroundOff (a .style .color) (head font-known .«supports_background_color»)
   color-tested = sym (color-is (opened _ (head font-known) (opens font-known)) (entry font-known .args .style .color))
 
 new-from-raw-data-requires : tie.Need-new-from-raw-data-requires
@@ -73,7 +76,7 @@ returns : tie.Need-returns
 returns c =
     let k = c .before .before in
     let a = entry k .args in
-    size-refused (a .font .now) (a .text .now) (a .position) (a .style) (a .line-height) (a .ignore-unknown-chars) (a .width) (a .height) (a .buffer .now) (opens k) (sym (c .before .has-bad-size .ensures) ∙ c .if1 .taken)
+    size-refused (a .font .now) (asked k) (a .style .color) (sized (a .width) (a .height)) (a .buffer .now) (opens k) (sym (c .before .has-bad-size .ensures) ∙ c .if1 .taken)
 
 checked-origin-requires : tie.Need-checked-origin-requires
 checked-origin-requires c κs = search needs
@@ -92,7 +95,7 @@ returns-2 c =
     let p = c .before .before in
     let k = font-known p in
     let a = entry k .args in
-    color-refused (a .font .now) (a .text .now) (a .position) (a .style) (a .line-height) (a .ignore-unknown-chars) (a .width) (a .height) (a .buffer .now) (opens k) (size-in (sized p)) (passes p)
+    color-refused (a .font .now) (asked k) (a .style .color) (sized (a .width) (a .height)) (a .buffer .now) (opens k) (size-in (sized-at p)) (passes p)
     (color-tested p ∙ sym (c .before .has-bad-color .ensures) ∙ c .if2 .taken)
 
 draw-text-requires : tie.Need-draw-text-requires
@@ -101,24 +104,20 @@ draw-text-requires c κs =
     let k = font-known p in
     let a = entry k .args in (
       opened _ (head k) (opens k),
-      (
-        passed-checked (head k .ascent) (head k .descent) (a .text .now) (a .position) (a .style .«vertical_pos») (a .line-height) (ascent-fits k) (descent-fits k)
-            (passed (head k .ascent) (head k .descent) (a .text .now) (a .position) (a .style .«vertical_pos») (a .line-height) _ (passes p)),
-        size-fits (a .width) (a .height) _ (size-in (sized p)),
-      ),
+      (request-checked _ (opens k) (asked k) (ascent-fits k) (descent-fits k) (passes p), size-fits (a .width) (a .height) _ (size-in (sized-at p))),
     )
 
 returns-3 : tie.Need-returns-3
 returns-3 c =
     let a = c .before .before .before .before .before .before .before .args in
-    font-refused (a .font .now) (a .text .now) (a .position) (a .style) (a .line-height) (a .ignore-unknown-chars) (a .width) (a .height) (a .buffer .now) (sym (c .before .before .before .new-from-raw-data .ensures) ∙ ap fontReaderOutcome (c .before .error .given .1))
+    font-refused (a .font .now) (plain (a .text .now) (a .position) (a .style .«vertical_pos») (a .line-height) (a .ignore-unknown-chars)) (a .style .color) (sized (a .width) (a .height)) (a .buffer .now) (sym (c .before .before .before .new-from-raw-data .ensures) ∙ ap fontReaderOutcome (c .before .error .given .1))
 
 returns-4 : tie.Need-returns-4
 returns-4 c =
     let e = c .before .before .before .before .before .before in
     let k = e .before .before in
     let a = entry k .args in
-    position-refused (a .font .now) (a .text .now) (a .position) (a .style) (a .line-height) (a .ignore-unknown-chars) (a .width) (a .height) (a .buffer .now) (opens k) (size-in e) (sym (simp (toZ-ofZ, ascent-fits k, descent-fits k) at (c .before .before .before .checked-origin .ensures)) ∙ ap originOutcome (c .before .error2 .given .1))
+    position-refused (a .font .now) (asked k) (a .style .color) (sized (a .width) (a .height)) (a .buffer .now) (opens k) (size-in e) (sym (simp (toZ-ofZ, ascent-fits k, descent-fits k) at (c .before .before .before .checked-origin .ensures)) ∙ ap originOutcome (c .before .error2 .given .1))
 
 same-length : tie.Need-same-length
 same-length c = search needs
@@ -128,7 +127,7 @@ returns-5 c =
     let p = c .before .before .before .before .before .before in
     let k = font-known p in
     let a = entry k .args in
-    let whole = drawn-whole (a .font .now) (a .text .now) (a .position) (a .style) (a .line-height) (a .ignore-unknown-chars) (a .width) (a .height) (a .buffer .now) (opens k) (size-in (sized p)) (passes p) (color-tested p ∙ sym (c .before .before .before .before .before .has-bad-color .ensures) ∙ c .before .before .before .before .if2 .left) in
+    let whole = drawn-whole (a .font .now) (asked k) (a .style .color) (sized (a .width) (a .height)) (a .buffer .now) (opens k) (size-in (sized-at p)) (passes p) (color-tested p ∙ sym (c .before .before .before .before .before .has-bad-color .ensures) ∙ c .before .before .before .before .if2 .left) in
     (c .before .before .draw-text .ensures .0 ∙ whole .0, c .before .before .draw-text .ensures .1 ∙ whole .1)
 
 pub render-spec : {M : Type 1} → statement M
