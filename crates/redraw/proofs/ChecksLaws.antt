@@ -12,7 +12,8 @@ use Rattle.definitions.specs.Header.{header, fontCauses, Opened}
 use Rattle.definitions.specs.Framebuffer.{framebufferCause}
 use Rattle.definitions.specs.Limits.{textCause, positionCause, backgroundCause}
 use Rattle.definitions.specs.Calls.{openFont}
-use Rattle.definitions.specs.Agreement.{Request, Framebuffer}
+use Rattle.definitions.specs.Agreement.{Ground, width, height}
+use Rattle.redraw.specs.Drawing.{Drawing}
 use Rattle.definitions.proofs.OpenedLaws.{opened, opened-limits}
 use Rattle.definitions.proofs.RefusalLaws.{succeeded, NoneApplies, each-off}
 use Rattle.definitions.proofs.ComesLaws.{Comes, comes-none, comes-off, comes-on, comes-passed, comes-stopped}
@@ -27,14 +28,14 @@ use Rattle.redraw.specs.Checks.{originOf, stepOf, checkedStep}
 
 -- ---- test by test
 
-module _ (font old : List ℕ) (new : Request) (p : Framebuffer) where
+module _ (font old : List ℕ) (new : Drawing) (p : Ground) where
   abbrev afterFont : List Cause
   afterFont =
-      framebufferCause (p .width) (p .height) (p .before)
+      framebufferCause (p .framebuffer) (p .before)
       ∷ textCause old
       ∷ textCause (new .text)
       ∷ positionCause (new .position) (new .lineHeight)
-      ∷ backgroundCause (new .style .color) font
+      ∷ backgroundCause (new .style .color) (u8g2 font .background)
       ∷ []
 
   -- what causes leave of the step
@@ -56,13 +57,13 @@ module _ (font old : List ℕ) (new : Request) (p : Framebuffer) where
     abbrev place : List ℕ → Outcome Point
     place text = checkedOrigin (head .ascent) (head .descent) text (new .position) (new .style .«vertical_pos») (new .lineHeight)
 
-    pub size-refused : framebufferCause (p .width) (p .height) (p .before) .applies ≡ true → refused 3 0 ≡ checkedStep font old new p
-    size-refused e = as-checked (comes-passed (fontCauses font) passes-font (comes-on (framebufferCause (p .width) (p .height) (p .before)) _ e))
+    pub size-refused : framebufferCause (p .framebuffer) (p .before) .applies ≡ true → refused 3 0 ≡ checkedStep font old new p
+    size-refused e = as-checked (comes-passed (fontCauses font) passes-font (comes-on (framebufferCause (p .framebuffer) (p .before)) _ e))
 
-    module _ (size : framebufferCause (p .width) (p .height) (p .before) .applies ≡ false) where
-      after-size : {answer : Outcome Step} → Leave (textCause old ∷ textCause (new .text) ∷ positionCause (new .position) (new .lineHeight) ∷ backgroundCause (new .style .color) font ∷ []) answer
+    module _ (size : framebufferCause (p .framebuffer) (p .before) .applies ≡ false) where
+      after-size : {answer : Outcome Step} → Leave (textCause old ∷ textCause (new .text) ∷ positionCause (new .position) (new .lineHeight) ∷ backgroundCause (new .style .color) (u8g2 font .background) ∷ []) answer
           → answer ≡ checkedStep font old new p
-      after-size k = as-checked (comes-passed (fontCauses font) passes-font (comes-off (framebufferCause (p .width) (p .height) (p .before)) size k))
+      after-size k = as-checked (comes-passed (fontCauses font) passes-font (comes-off (framebufferCause (p .framebuffer) (p .before)) size k))
 
       pub old-refused : textCause old .applies ≡ true → refused 4 0 ≡ checkedStep font old new p
       old-refused e = after-size (comes-on (textCause old) _ e)
@@ -72,10 +73,10 @@ module _ (font old : List ℕ) (new : Request) (p : Framebuffer) where
         new-refused e =
             after-size
             (comes-off (textCause old) fine
-            (comes-stopped (originBy (head .ascent) (head .descent) (new .text) (new .position) (new .style .«vertical_pos») (new .lineHeight)) (textCause (new .text) ∷ positionCause (new .position) (new .lineHeight) ∷ []) (backgroundCause (new .style .color) font ∷ []) e))
+            (comes-stopped (originBy (head .ascent) (head .descent) (new .text) (new .position) (new .style .«vertical_pos») (new .lineHeight)) (textCause (new .text) ∷ positionCause (new .position) (new .lineHeight) ∷ []) (backgroundCause (new .style .color) (u8g2 font .background) ∷ []) e))
 
         module _ {o : Point} (passes : place (new .text) ≡ success o) where
-          after-place : {answer : Outcome Step} → Leave (backgroundCause (new .style .color) font ∷ []) answer → answer ≡ checkedStep font old new p
+          after-place : {answer : Outcome Step} → Leave (backgroundCause (new .style .color) (u8g2 font .background) ∷ []) answer → answer ≡ checkedStep font old new p
           after-place k =
               after-size
               (comes-off (textCause old) fine
@@ -83,10 +84,10 @@ module _ (font old : List ℕ) (new : Request) (p : Framebuffer) where
               (succeeded (success (originBy (head .ascent) (head .descent) (new .text) (new .position) (new .style .«vertical_pos») (new .lineHeight))) o (textCause (new .text) ∷ positionCause (new .position) (new .lineHeight) ∷ []) passes .0)
               k))
 
-          pub color-refused : backgroundCause (new .style .color) font .applies ≡ true → refused 6 0 ≡ checkedStep font old new p
-          color-refused e = after-place (comes-on (backgroundCause (new .style .color) font) [] e)
+          pub color-refused : backgroundCause (new .style .color) (u8g2 font .background) .applies ≡ true → refused 6 0 ≡ checkedStep font old new p
+          color-refused e = after-place (comes-on (backgroundCause (new .style .color) (u8g2 font .background)) [] e)
 
-          pub all-passed : backgroundCause (new .style .color) font .applies ≡ false
+          pub all-passed : backgroundCause (new .style .color) (u8g2 font .background) .applies ≡ false
               → success record { head = head; «old_origin» = originBy (head .ascent) (head .descent) old (new .position) (new .style .«vertical_pos») (new .lineHeight); «new_origin» = o }
               ≡ checkedStep font old new p
           all-passed e =
@@ -95,11 +96,11 @@ module _ (font old : List ℕ) (new : Request) (p : Framebuffer) where
               let here : originBy (head .ascent) (head .descent) old (new .position) (new .style .«vertical_pos») (new .lineHeight) ≡ originOf font old new =
               ap (λ (h : FontReader). originBy (h .ascent) (h .descent) old (new .position) (new .style .«vertical_pos») (new .lineHeight)) read in
               rw (here, ← there) (ap (λ (h : FontReader). success record { head = h; «old_origin» = originOf font old new; «new_origin» = originOf font (new .text) new }) read)
-              ∙ after-place (comes-off (backgroundCause (new .style .color) font) e comes-none)
+              ∙ after-place (comes-off (backgroundCause (new .style .color) (u8g2 font .background)) e comes-none)
 
 -- ---- a step that passes them
 
-pub record Ready (font old : List ℕ) (new : Request) (p : Framebuffer) (s : Step) : Type 0 where
+pub record Ready (font old : List ℕ) (new : Drawing) (p : Ground) (s : Step) : Type 0 where
   pub unrefused : anyApplies (redrawCauses font old new p) ≡ false
   pub opens : Opened font (s .head)
   pub read : s .head ≡ header font
@@ -107,9 +108,9 @@ pub record Ready (font old : List ℕ) (new : Request) (p : Framebuffer) (s : St
   pub new-at : s .«new_origin» ≡ originOf font (new .text) new
   pub old-checked : Checked old (s .«old_origin») (new .lineHeight)
   pub new-checked : Checked (new .text) (s .«new_origin») (new .lineHeight)
-  pub fits : BufferFits (length (p .before)) (p .width) (p .height)
+  pub fits : BufferFits (length (p .before)) (width p) (height p)
 
-pub ready : (font old : List ℕ) (new : Request) (p : Framebuffer) (s : Step) → checkedStep font old new p ≡ success s
+pub ready : (font old : List ℕ) (new : Drawing) (p : Ground) (s : Step) → checkedStep font old new p ≡ success s
     → ((i : ℕ) → getD font i 0 < 256) → Ready font old new p s
 unfolding header
 ready font old new p s e small =
@@ -128,5 +129,5 @@ ready font old new p s e small =
       new-at = sym (ap (λ (s : Step). s .«new_origin») same);
       old-checked = subst (λ (s : Step). Checked old (s .«old_origin») (new .lineHeight)) same (origin-checked _ _ old (new .position) (new .style .«vertical_pos») (new .lineHeight) up down (text-limits old (o .1 .1 .1 .0)) place);
       new-checked = subst (λ (s : Step). Checked (new .text) (s .«new_origin») (new .lineHeight)) same (origin-checked _ _ (new .text) (new .position) (new .style .«vertical_pos») (new .lineHeight) up down (text-limits (new .text) (o .1 .1 .1 .1 .0)) place);
-      fits = size-fits (p .width) (p .height) _ (o .1 .1 .0);
+      fits = size-fits (width p) (height p) _ (o .1 .1 .0);
     }

@@ -25,7 +25,8 @@ use Rattle.definitions.specs.Text.{joinAll, point, dimensions}
 use Rattle.definitions.specs.TextSteps.{measureFrom, drawFrom, start}
 use Rattle.definitions.specs.Limits.{textCause, positionCause, backgroundCause}
 use Rattle.definitions.specs.Calls.{characters, origin, drawCauses, drawnAnswer, drawnText, pixelsOf, draw, drawBuffer}
-use Rattle.definitions.specs.Agreement.{Request, Framebuffer, framebufferOf, limits, WithinLimits, drawn, after, measured, pixel, KeptOutside}
+use Rattle.definitions.specs.Agreement.{Ground, limits, WithinLimits, pixel, KeptOutside, width, height}
+use Rattle.redraw.specs.Drawing.{Drawing, groundOf, drawn, after, measured}
 use Rattle.definitions.proofs.FramebufferLaws.{length-shown, shown-at, same-pixels}
 use Rattle.definitions.proofs.PictureLaws.{covers-inside, inside-covers}
 use Rattle.definitions.proofs.OpenedLaws.{or-false}
@@ -42,13 +43,13 @@ length-by : (t : Bool) (width : ℕ) (picture : Picture) (before : List ℕ) →
 length-by true width picture before = refl
 length-by false width picture before = length-shown width picture before
 
-pub length-after : (font : List ℕ) (r : Request) (p : Framebuffer) → length (after font r p) ≡ length (p .before)
+pub length-after : (font : List ℕ) (r : Drawing) (p : Ground) → length (after font r p) ≡ length (p .before)
 unfolding drawBuffer
 length-after font r p =
     length-by
-    (anyApplies (drawCauses font (r .text) (r .position) (r .style) (r .lineHeight) (p .width) (p .height) (p .before)))
-    (p .width)
-    (textPicture (r .style .color) (pixelsOf font) (drawnText font (r .text) (r .position) (r .style .«vertical_pos») (r .lineHeight) false .glyphs))
+    (anyApplies (drawCauses (u8g2 font) (asks r) (r .style .color) (p .framebuffer) (p .before)))
+    (width p)
+    (textPicture (r .style .color) (pixelsOf (u8g2 font)) (drawnText (u8g2 font) (asks r) .glyphs))
     (p .before)
 
 -- a pixel of the buffer lies in a row of the framebuffer
@@ -61,14 +62,14 @@ row-below width height column row h = by (decLt row height)
         let past : height ≤ row = omega arith in
         absurd (omega (arith, mul-le-mul-right width past, mul-comm width height))
 
-module _ (font : List ℕ) (r : Request) (p : Framebuffer) (d : RenderedDimensions) (within : WithinLimits font r p)
+module _ (font : List ℕ) (r : Drawing) (p : Ground) (d : RenderedDimensions) (within : WithinLimits (u8g2 font) (asks r) p)
     (succeeded : drawn font r p ≡ success d) where
   kept : KeptOutside p (after font r p) d
   kept = alone font r p d within succeeded .first-kept
 
   module _ (color : ℕ) (ground : AllOf color p (d .«bounding_box»)) where
     -- inside the box the fill puts the colour, which was there; outside it keeps what the drawing kept
-    restored : (box : BoundingBox) → box ≡ d .«bounding_box» → (column row : ℕ) → column < p .width → row < p .height
+    restored : (box : BoundingBox) → box ≡ d .«bounding_box» → (column row : ℕ) → column < width p → row < height p
         → over (fillPicture color box (pos column) (pos row)) (pixel p (after font r p) column row) ≡ pixel p (p .before) column row
     restored None e column row c k = kept column row c k (λ i. subst (InsideBox (pos column) (pos row)) (sym e) i)
     restored (Some b) e column row c k = by (covers b (pos column) (pos row)) refl
@@ -81,38 +82,38 @@ module _ (font : List ℕ) (r : Request) (p : Framebuffer) (d : RenderedDimensio
             outside : covers b (pos column) (pos row) ≡ false → InsideBox (pos column) (pos row) (Some b) → ⊥
             outside h i = let z : true ≡ false = sym (inside-covers (pos column) (pos row) b i) ∙ h in let q : _≡_ {A = ℕ} 0 1 = cc in omega arith
 
-    pub fill-restores : 0 < p .width → shown (p .width) (fillPicture color (d .«bounding_box»)) (after font r p) ≡ p .before
+    pub fill-restores : 0 < width p → shown (width p) (fillPicture color (d .«bounding_box»)) (after font r p) ≡ p .before
     fill-restores some =
-        same-pixels some (shown (p .width) (fillPicture color (d .«bounding_box»)) (after font r p)) (p .before)
-        (length-shown (p .width) (fillPicture color (d .«bounding_box»)) (after font r p) ∙ length-after font r p)
-        (λ column row c h. at column row c (omega (arith, h, length-shown (p .width) (fillPicture color (d .«bounding_box»)) (after font r p), length-after font r p)))
+        same-pixels some (shown (width p) (fillPicture color (d .«bounding_box»)) (after font r p)) (p .before)
+        (length-shown (width p) (fillPicture color (d .«bounding_box»)) (after font r p) ∙ length-after font r p)
+        (λ column row c h. at column row c (omega (arith, h, length-shown (width p) (fillPicture color (d .«bounding_box»)) (after font r p), length-after font r p)))
       where
-        at : (column row : ℕ) → column < p .width → row * p .width + column < length (p .before)
-            → pixel p (shown (p .width) (fillPicture color (d .«bounding_box»)) (after font r p)) column row ≡ pixel p (p .before) column row
+        at : (column row : ℕ) → column < width p → row * width p + column < length (p .before)
+            → pixel p (shown (width p) (fillPicture color (d .«bounding_box»)) (after font r p)) column row ≡ pixel p (p .before) column row
         at column row c h =
-            let k = row-below (p .width) (p .height) column row (omega (arith, size font r p within)) in
-            shown-at (p .width) (fillPicture color (d .«bounding_box»)) (after font r p) column row c (omega (arith, length-after font r p))
+            let k = row-below (width p) (height p) column row (omega (arith, size font r p within)) in
+            shown-at (width p) (fillPicture color (d .«bounding_box»)) (after font r p) column row c (omega (arith, length-after font r p))
             ∙ restored (d .«bounding_box») refl column row c k
 
 -- ---- a drawing that succeeds
 
-pub within-limits : (font : List ℕ) (r : Request) (p : Framebuffer) (d : RenderedDimensions) → drawn font r p ≡ success d → WithinLimits font r p
+pub within-limits : (font : List ℕ) (r : Drawing) (p : Ground) (d : RenderedDimensions) → drawn font r p ≡ success d → WithinLimits (u8g2 font) (asks r) p
 unfolding draw
-within-limits font r p d e =
+within-limits (u8g2 font) (asks r) p d e =
     let h =
-    succeeded (dimensions (drawnText font (r .text) (r .position) (r .style .«vertical_pos») (r .lineHeight) false)) d
-    (drawCauses font (r .text) (r .position) (r .style) (r .lineHeight) (p .width) (p .height) (p .before)) e
+    succeeded (dimensions (drawnText (u8g2 font) (asks r))) d
+    (drawCauses (u8g2 font) (asks r) (r .style .color) (p .framebuffer) (p .before)) e
     in
-    let o = each-off (drawCauses font (r .text) (r .position) (r .style) (r .lineHeight) (p .width) (p .height) (p .before)) (h .0) in
-    all-off (limits font r p) (o .0, (o .1 .0, (o .1 .1 .0, (o .1 .1 .1 .0, (o .1 .1 .1 .1 .0, tt)))))
+    let o = each-off (drawCauses (u8g2 font) (asks r) (r .style .color) (p .framebuffer) (p .before)) (h .0) in
+    all-off (limits (u8g2 font) (asks r) p) (o .0, (o .1 .0, (o .1 .1 .0, (o .1 .1 .1 .0, (o .1 .1 .1 .1 .0, tt)))))
 
 -- A drawing that succeeds is measured alike.
-pub drawn-measured : (font : List ℕ) (r : Request) (p : Framebuffer) (d : RenderedDimensions) → drawn font r p ≡ success d → measured font r ≡ success d
-drawn-measured font r p d e = alone font r p d (within-limits font r p d e) e .first-measures
+pub drawn-measured : (font : List ℕ) (r : Drawing) (p : Ground) (d : RenderedDimensions) → drawn font r p ≡ success d → measured font r ≡ success d
+drawn-measured font r p d e = alone font r p d (within-limits (u8g2 font) (asks r) p d e) e .first-measures
 
 -- What drawing answers depends on the framebuffer's length, and not on what it holds.
-pub same-answer : (font : List ℕ) (r : Request) (width height : ℕ) (a b : List ℕ) → length a ≡ length b
-    → drawn font r (framebufferOf width height a) ≡ drawn font r (framebufferOf width height b)
+pub same-answer : (font : List ℕ) (r : Drawing) (width height : ℕ) (a b : List ℕ) → length a ≡ length b
+    → drawn font r (groundOf width height a) ≡ drawn font r (groundOf width height b)
 unfolding draw
 same-answer font r width height a b l =
     ap
@@ -122,17 +123,17 @@ same-answer font r width height a b l =
     ++ record { number = 3; applies = sideOff width || sideOff height || not (eqb n (width * height)) }
     ∷ textCause (r .text)
     ∷ positionCause (r .position) (r .lineHeight)
-    ∷ backgroundCause (r .style .color) font
+    ∷ backgroundCause (r .style .color) (u8g2 font .background)
     ∷ [])
-    (dimensions (drawnText font (r .text) (r .position) (r .style .«vertical_pos») (r .lineHeight) false)))
+    (dimensions (drawnText (u8g2 font) (asks r))))
     l
 
-pub some-width : (font : List ℕ) (r : Request) (p : Framebuffer) → WithinLimits font r p → 0 < p .width
+pub some-width : (font : List ℕ) (r : Drawing) (p : Ground) → WithinLimits (u8g2 font) (asks r) p → 0 < width p
 some-width font r p within =
-    let o = each-off (limits font r p) within in
-    let a = or-false (sideOff (p .width) || sideOff (p .height)) (not (eqb (length (p .before)) (p .width * p .height))) (o .1 .1 .0) .0 in
-    let b = or-false (sideOff (p .width)) (sideOff (p .height)) a .0 in
-    let none = eqb-false (p .width) 0 (or-false (eqb (p .width) 0) (ltb 256 (p .width)) b .0) in
+    let o = each-off (limits (u8g2 font) (asks r) p) within in
+    let a = or-false (sideOff (width p) || sideOff (height p)) (not (eqb (length (p .before)) (width p * height p))) (o .1 .1 .0) .0 in
+    let b = or-false (sideOff (width p)) (sideOff (height p)) a .0 in
+    let none = eqb-false (width p) 0 (or-false (eqb (width p) 0) (ltb 256 (width p)) b .0) in
     omega arith
 
 -- ---- the step
@@ -171,10 +172,10 @@ late-taken : (o : Outcome RenderedDimensions) → Late o → taken o ≡ true
 late-taken (success d) h = refl
 late-taken (refused n c) (late h) = lt-ltb 6 n h
 
-module _ (font : List ℕ) (r : Request) (p : Framebuffer) where
+module _ (font : List ℕ) (r : Drawing) (p : Ground) where
   -- the causes of drawing
   abbrev pub causesOf : List Cause
-  causesOf = drawCauses font (r .text) (r .position) (r .style) (r .lineHeight) (p .width) (p .height) (p .before)
+  causesOf = drawCauses (u8g2 font) (asks r) (r .style .color) (p .framebuffer) (p .before)
 
   -- a drawing by whether one of its causes applies
   pub drawn-early : anyApplies causesOf ≡ true → taken (drawn font r p) ≡ false
@@ -184,9 +185,9 @@ module _ (font : List ℕ) (r : Request) (p : Framebuffer) where
   pub drawn-late : anyApplies causesOf ≡ false → taken (drawn font r p) ≡ true
   unfolding draw
   drawn-late e =
-      let l = drawnText font (r .text) (r .position) (r .style .«vertical_pos») (r .lineHeight) false in
+      let l = drawnText (u8g2 font) (asks r) in
       ap taken (none-applies (dimensions l) causesOf e)
-      ∙ late-taken (dimensions l) (late-drawn font false (r .lineHeight) (origin font (r .text) (r .position) (r .style .«vertical_pos») (r .lineHeight)) (point (pos 0) (pos 0)) (joinAll (l .glyphs)) (characters (r .text)))
+      ∙ late-taken (dimensions l) (late-drawn font false (r .lineHeight) (origin (u8g2 font) (asks r)) (point (pos 0) (pos 0)) (joinAll (l .glyphs)) (characters (r .text)))
 
   module _ (old : List ℕ) (fine : textCause old .applies ≡ false) where
     -- The old text being one that can be drawn, the step is refused as the drawing is ..
@@ -197,29 +198,29 @@ module _ (font : List ℕ) (r : Request) (p : Framebuffer) where
     pub redrawn-is : redrawn font old r p ≡ drawn font r p
     unfolding redrawn draw
     redrawn-is =
-        let l = dimensions (drawnText font (r .text) (r .position) (r .style .«vertical_pos») (r .lineHeight) false) in
+        let l = dimensions (drawnText (u8g2 font) (asks r)) in
         rw fine (twice l causesOf)
 
   -- a drawing to which no cause applies, letter by letter
   module _ (unrefused : anyApplies causesOf ≡ false) where
     abbrev at : Point
-    at = origin font (r .text) (r .position) (r .style .«vertical_pos») (r .lineHeight)
+    at = origin (u8g2 font) (asks r)
 
-    pub answer-by-letters : measureFrom (drawnAnswer font false) (r .lineHeight) at start (characters (r .text)) ≡ drawn font r p
+    pub answer-by-letters : measureFrom (drawnAnswer (u8g2 font) false) (r .lineHeight) at start (characters (r .text)) ≡ drawn font r p
     unfolding draw
     answer-by-letters =
-        measure-from (drawnAnswer font false) (r .lineHeight) at (characters (r .text)) start
-        ∙ sym (none-applies (dimensions (drawnText font (r .text) (r .position) (r .style .«vertical_pos») (r .lineHeight) false)) causesOf unrefused)
+        measure-from (drawnAnswer (u8g2 font) false) (r .lineHeight) at (characters (r .text)) start
+        ∙ sym (none-applies (dimensions (drawnText (u8g2 font) (asks r))) causesOf unrefused)
 
-    pub bytes-by-letters : drawFrom (p .width) (r .style .color) (pixelsOf font) (drawnAnswer font false) (r .lineHeight) at start (p .before) (characters (r .text)) ≡ after font r p
+    pub bytes-by-letters : drawFrom (width p) (r .style .color) (pixelsOf (u8g2 font)) (drawnAnswer (u8g2 font) false) (r .lineHeight) at start (p .before) (characters (r .text)) ≡ after font r p
     unfolding drawBuffer
     bytes-by-letters =
-        draw-from (p .width) (r .style .color) (pixelsOf font) (drawnAnswer font false) (r .lineHeight) at (characters (r .text)) start (p .before)
+        draw-from (width p) (r .style .color) (pixelsOf (u8g2 font)) (drawnAnswer (u8g2 font) false) (r .lineHeight) at (characters (r .text)) start (p .before)
         ∙ rw unrefused
 
 -- ---- the step, as the code goes
 
-module _ (font old : List ℕ) (new : Request) (background : ℕ) (p : Framebuffer) where
+module _ (font old : List ℕ) (new : Drawing) (background : ℕ) (p : Ground) where
   -- refused by one of its causes
   module _ {n c : ℕ} (e : checkedStep font old new p ≡ refused n c) where
     pub stops : refused n c ≡ redrawn font old new p
@@ -245,29 +246,29 @@ module _ (font old : List ℕ) (new : Request) (background : ℕ) (p : Framebuff
     new-off : anyApplies (causesOf font new p) ≡ false
     new-off = all-off (causesOf font new p) (off .0, (off .1 .0, (off .1 .1 .0, off .1 .1 .1 .1)))
 
-    abbrev bare : Framebuffer
-    bare = framebufferOf (p .width) (p .height) (clearedBy (p .width) background (toFill (drawn font (withText old new) p)) (p .before))
+    abbrev bare : Ground
+    bare = groundOf (width p) (height p) (clearedBy (width p) background (toFill (drawn font (withText old new) p)) (p .before))
 
     bare-off : anyApplies (causesOf font new bare) ≡ false
     bare-off =
-        let size = ap (λ (n : ℕ). sideOff (p .width) || sideOff (p .height) || not (eqb n (p .width * p .height))) (length-cleared (p .width) background (toFill (drawn font (withText old new) p)) (p .before)) ∙ off .1 .1 .0 in
+        let size = ap (λ (n : ℕ). sideOff (width p) || sideOff (height p) || not (eqb n (width p * height p))) (length-cleared (width p) background (toFill (drawn font (withText old new) p)) (p .before)) ∙ off .1 .1 .0 in
         all-off (causesOf font new bare) (off .0, (off .1 .0, (size, off .1 .1 .1 .1)))
 
     abbrev letters : List ℕ → Outcome RenderedDimensions
-    letters text = measureFrom (drawnAnswer font false) (new .lineHeight) (originOf font text new) start (characters text)
+    letters text = measureFrom (drawnAnswer (u8g2 font) false) (new .lineHeight) (originOf font text new) start (characters text)
 
     abbrev drawing : List ℕ → List ℕ
-    drawing bytes = drawFrom (p .width) (new .style .color) (pixelsOf font) (drawnAnswer font false) (new .lineHeight) (originOf font (new .text) new) start bytes (characters (new .text))
+    drawing bytes = drawFrom (width p) (new .style .color) (pixelsOf (u8g2 font)) (drawnAnswer (u8g2 font) false) (new .lineHeight) (originOf font (new .text) new) start bytes (characters (new .text))
 
     pub answers : {answer : Outcome RenderedDimensions} → answer ≡ letters (new .text) → answer ≡ redrawn font old new p
     unfolding redrawn
     answers e = e ∙ answer-by-letters font new p new-off ∙ sym (none-applies (drawn font new p) (redrawCauses font old new p) unrefused)
 
-    pub leaves : {between exit : List ℕ} → between ≡ clearedBy (p .width) background (toFill (letters old)) (p .before)
+    pub leaves : {between exit : List ℕ} → between ≡ clearedBy (width p) background (toFill (letters old)) (p .before)
         → exit ≡ wholeOr (letters (new .text)) (drawing between) between
         → exit ≡ pick (anyApplies (redrawCauses font old new p)) (p .before) (readingOn font new bare)
     leaves {between} e h =
-        let found : between ≡ bare .before = e ∙ ap (λ (o : Outcome RenderedDimensions). clearedBy (p .width) background (toFill o) (p .before)) (answer-by-letters font (withText old new) p old-off) in
+        let found : between ≡ bare .before = e ∙ ap (λ (o : Outcome RenderedDimensions). clearedBy (width p) background (toFill o) (p .before)) (answer-by-letters font (withText old new) p old-off) in
         h
         ∙ ap (λ (b : List ℕ). wholeOr (letters (new .text)) (drawing b) b) found
         ∙ ap (λ (o : Outcome RenderedDimensions). wholeOr o (drawing (bare .before)) (bare .before)) (answer-by-letters font new bare bare-off)

@@ -20,7 +20,8 @@ use Rattle.definitions.specs.Framebuffer.{shown, framebufferCause, sideOff}
 use Rattle.definitions.specs.Text.{joinAll, point, layout, dimensions}
 use Rattle.definitions.specs.Limits.{textCause, positionCause, backgroundOff, backgroundCause}
 use Rattle.definitions.specs.Calls.{drawnText, draw, drawBuffer}
-use Rattle.definitions.specs.Agreement.{Request, Framebuffer, drawn, after}
+use Rattle.definitions.specs.Agreement.{Ground}
+use Rattle.redraw.specs.Drawing.{Drawing, drawn, after}
 use Rattle.definitions.proofs.FramebufferLaws.{length-shown, shown-blank}
 use Rattle.definitions.proofs.RefusalLaws.{succeeded, each-off}
 use Rattle.redraw.specs.Redraw.{wholeOr, readingOn, fillPicture, AllOf, clearedBy, redrawCauses, redrawn, redrawnBuffer, taken}
@@ -28,7 +29,7 @@ use Rattle.redraw.specs.Steps.{Field, Reading, asked, on, Screen, readin
 use Rattle.redraw.proofs.RedrawLaws.{length-after, within-limits, same-answer, some-width, fill-restores, length-cleared, refused-early, causesOf, drawn-early, drawn-late, same-causes, redrawn-is}
 
 -- What drawing answers does not depend on the colours, if the font allows them.
-same-color : (f : Field) (bytes text : List ℕ) (c d : FontColor) → backgroundOff c (f .font) ≡ false → backgroundOff d (f .font) ≡ false
+same-color : (f : Field) (bytes text : List ℕ) (c d : FontColor) → backgroundOff c (u8g2 (f .font) .background) ≡ false → backgroundOff d (u8g2 (f .font) .background) ≡ false
     → alone f bytes record { text = text; color = c } ≡ alone f bytes record { text = text; color = d }
 unfolding draw
 same-color f bytes text c d allows also =
@@ -36,12 +37,12 @@ same-color f bytes text c d allows also =
     (λ (b : Bool).
     unlessRefused
     (fontCauses (f .font)
-    ++ framebufferCause (f .width) (f .height) bytes
+    ++ framebufferCause (sized (f .width) (f .height)) bytes
     ∷ textCause text
     ∷ positionCause (f .position) (f .lineHeight)
     ∷ record { number = 6; applies = b }
     ∷ [])
-    (dimensions (drawnText (f .font) text (f .position) (f .anchor) (f .lineHeight) false)))
+    (dimensions (drawnText (u8g2 (f .font)) (plain text (f .position) (f .anchor) (f .lineHeight) false))))
     (allows ∙ sym also)
 
 -- ---- what every step keeps
@@ -51,7 +52,7 @@ module _ (f : Field) (ground : List ℕ) where
   pub record Sized (s : Screen) : Type 0 where
     pub as-long : length (s .bytes) ≡ length ground
     pub fine : textCause (s .old .text) .applies ≡ false
-    pub allowed : backgroundOff (s .old .color) (f .font) ≡ false
+    pub allowed : backgroundOff (s .old .color) (u8g2 (f .font) .background) ≡ false
 
   pub bare-sized : Sized (bare ground)
   unfolding decodeFrom
@@ -67,7 +68,7 @@ module _ (f : Field) (ground : List ℕ) where
         ++ record { number = 3; applies = sideOff (f .width) || sideOff (f .height) || not (eqb n (f .width * f .height)) }
         ∷ textCause (r .text)
         ∷ positionCause (f .position) (f .lineHeight)
-        ∷ backgroundCause (r .color) (f .font)
+        ∷ backgroundCause (r .color) (u8g2 (f .font) .background)
         ∷ []))
         (z .as-long)
 
@@ -85,7 +86,7 @@ module _ (f : Field) (ground : List ℕ) where
         kept same = record {
           as-long = l ∙ z .as-long;
           fine = subst (λ (o : Reading). textCause (o .text) .applies ≡ false) same (z .fine);
-          allowed = subst (λ (o : Reading). backgroundOff (o .color) (f .font) ≡ false) same (z .allowed);
+          allowed = subst (λ (o : Reading). backgroundOff (o .color) (u8g2 (f .font) .background) ≡ false) same (z .allowed);
         }
 
         by : (b : Bool) → anyApplies (causesOf (f .font) (asked f r) (on f ground)) ≡ b → Sized t
@@ -99,7 +100,7 @@ module _ (f : Field) (ground : List ℕ) where
             record {
               as-long = l ∙ z .as-long;
               fine = subst (λ (o : Reading). textCause (o .text) .applies ≡ false) same (o .1 .1 .1 .0);
-              allowed = subst (λ (o : Reading). backgroundOff (o .color) (f .font) ≡ false) same (o .1 .1 .1 .1 .1 .0);
+              allowed = subst (λ (o : Reading). backgroundOff (o .color) (u8g2 (f .font) .background) ≡ false) same (o .1 .1 .1 .1 .1 .0);
             }
 
     -- ---- by whether a cause applies
@@ -133,7 +134,7 @@ module _ (f : Field) (ground : List ℕ) where
     pub clear : ClearFor f ground (s .old)
 
   module _ {s : Screen} (z : Sized s) (h : Shown s) (r : Reading) where
-    abbrev old : Request
+    abbrev old : Drawing
     old = asked f (s .old)
 
     -- filling the box of a reading that draws brings the ground back; where it does not draw, the ground is there

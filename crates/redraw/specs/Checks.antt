@@ -3,7 +3,8 @@ use mathlib.Core.List.{List}
 use Rattle.definitions.specs.Refusals.{Outcome, success, refusal, unlessRefused}
 use Rattle.definitions.specs.Header.{header}
 use Rattle.definitions.specs.Calls.{origin}
-use Rattle.definitions.specs.Agreement.{Request, Framebuffer}
+use Rattle.definitions.specs.Agreement.{Ground}
+use Rattle.redraw.specs.Drawing.{Drawing}
 use Rattle.redraw.specs.declared.step.Step.{Step}
 use Rattle.redraw.specs.declared.step.StepResult.{StepResult}
 use Rattle.redraw.specs.declared.step.StepResult.the-variants.{Ok, Err}
@@ -12,14 +13,14 @@ use Prim.Native.Nat.{ℕ}
 use Rattle.types.specs.declared.geometry.Point.{Point}
 
 -- where a text of the step begins
-abbrev pub originOf : List ℕ → List ℕ → Request → Point
-originOf font text r = origin font text (r .position) (r .style .«vertical_pos») (r .lineHeight)
+abbrev pub originOf : List ℕ → List ℕ → Drawing → Point
+originOf font text r = origin (u8g2 font) (asks (drawing text (r .position) (r .style) (r .lineHeight)))
 
-abbrev pub stepOf : List ℕ → List ℕ → Request → Step
+abbrev pub stepOf : List ℕ → List ℕ → Drawing → Step
 stepOf font old new = record { head = header font; «old_origin» = originOf font old new; «new_origin» = originOf font (new .text) new }
 
 -- the header and the origins, unless one of the step's causes applies
-abbrev pub checkedStep : List ℕ → List ℕ → Request → Framebuffer → Outcome Step
+abbrev pub checkedStep : List ℕ → List ℕ → Drawing → Ground → Outcome Step
 checkedStep font old new p = unlessRefused (redrawCauses font old new p) (success (stepOf font old new))
 
 abbrev pub stepOutcome : StepResult → Outcome Step

@@ -1,3 +1,4 @@
+pub mod Drawing
 pub mod Areas
 pub mod Differences
 pub mod Redraw

@@ -14,8 +14,10 @@ use Rattle.definitions.specs.Header.{fontCauses}
 use Rattle.definitions.specs.Geometry.{InsideBox}
 use Rattle.definitions.specs.Picture.{keep, put, Picture, covers}
 use Rattle.definitions.specs.Framebuffer.{shown, framebufferCause}
+use Rattle.definitions.specs.Font.{u8g2}
 use Rattle.definitions.specs.Limits.{textCause, positionCause, backgroundCause}
-use Rattle.definitions.specs.Agreement.{Request, request, Framebuffer, framebufferOf, drawn, after, pixel}
+use Rattle.definitions.specs.Agreement.{Ground, pixel, width, height}
+use Rattle.redraw.specs.Drawing.{Drawing, drawing, groundOf, drawn, after}
 
 -- ---- a reading on a ground
 
@@ -26,7 +28,7 @@ wholeOr (refused n c) drawing ground = ground
 
 -- What a reading shows on a ground: the ground with the text drawn on it if drawing the text succeeds, and the ground as it was if
 -- it does not.
-abbrev pub readingOn : List ℕ → Request → Framebuffer → List ℕ
+abbrev pub readingOn : List ℕ → Drawing → Ground → List ℕ
 readingOn font r ground = wholeOr (drawn font r ground) (after font r ground) (ground .before)
 
 -- ---- filling
@@ -37,9 +39,9 @@ fillPicture color None column row = keep
 fillPicture color (Some r) column row = pick (covers r column row) (put color) keep
 
 -- Every pixel of the framebuffer that lies in the box has that colour.
-abbrev pub AllOf : ℕ → Framebuffer → BoundingBox → Type 0
+abbrev pub AllOf : ℕ → Ground → BoundingBox → Type 0
 AllOf color p box =
-    (column row : ℕ) → column < p .width → row < p .height → InsideBox (pos column) (pos row) box
+    (column row : ℕ) → column < width p → row < height p → InsideBox (pos column) (pos row) box
     → pixel p (p .before) column row ≡ color
 
 -- The box of a text that draws is filled. A text that does not draw has left nothing, so nothing is filled for it.
@@ -50,32 +52,32 @@ clearedBy width color (refused n c) bytes = bytes
 -- ---- the step
 
 -- The causes of the step, in 01's order, for both texts.
-abbrev pub redrawCauses : List ℕ → List ℕ → Request → Framebuffer → List Cause
+abbrev pub redrawCauses : List ℕ → List ℕ → Drawing → Ground → List Cause
 redrawCauses font old new p =
     fontCauses font
-    ++ framebufferCause (p .width) (p .height) (p .before)
+    ++ framebufferCause (p .framebuffer) (p .before)
     ∷ textCause old
     ∷ textCause (new .text)
     ∷ positionCause (new .position) (new .lineHeight)
-    ∷ backgroundCause (new .style .color) font
+    ∷ backgroundCause (new .style .color) (u8g2 font .background)
     ∷ []
 
 -- the old reading stands where the new one will
-abbrev pub withText : List ℕ → Request → Request
-withText text r = request text (r .position) (r .style) (r .lineHeight)
+abbrev pub withText : List ℕ → Drawing → Drawing
+withText text r = drawing text (r .position) (r .style) (r .lineHeight)
 
 -- the framebuffer with the old reading cleared
-abbrev pub cleared : List ℕ → Request → ℕ → Framebuffer → Framebuffer
+abbrev pub cleared : List ℕ → Drawing → ℕ → Ground → Ground
 cleared font old background p =
-    framebufferOf (p .width) (p .height) (clearedBy (p .width) background (drawn font old p) (p .before))
+    on (p .framebuffer) (clearedBy (width p) background (drawn font old p) (p .before))
 
 -- What the step answers: what drawing the new text does, unless a cause applies to either text ..
-unfoldable pub redrawn : List ℕ → List ℕ → Request → Framebuffer → Outcome RenderedDimensions
+unfoldable pub redrawn : List ℕ → List ℕ → Drawing → Ground → Outcome RenderedDimensions
 redrawn font old new p = unlessRefused (redrawCauses font old new p) (drawn font new p)
 
 -- .. and what the framebuffer then holds: the new reading on the framebuffer with the old one cleared. Refused by a cause, the step
 -- leaves it as it was.
-unfoldable pub redrawnBuffer : List ℕ → List ℕ → Request → ℕ → Framebuffer → List ℕ
+unfoldable pub redrawnBuffer : List ℕ → List ℕ → Drawing → ℕ → Ground → List ℕ
 redrawnBuffer font old new background p =
     pick (anyApplies (redrawCauses font old new p)) (p .before)
     (readingOn font new (cleared font (withText old new) background p))

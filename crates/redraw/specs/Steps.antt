@@ -11,7 +11,8 @@ use Rattle.types.specs.declared.style.FontColor.the-variants.{Transparent}
 use Rattle.types.specs.declared.style.VerticalPosition.{VerticalPosition}
 use Rattle.definitions.specs.Refusals.{Outcome, success}
 use Rattle.definitions.specs.Limits.{backgroundOff}
-use Rattle.definitions.specs.Agreement.{Request, request, Framebuffer, framebufferOf, drawn}
+use Rattle.definitions.specs.Agreement.{Ground}
+use Rattle.redraw.specs.Drawing.{Drawing, drawing, groundOf, drawn}
 use Rattle.redraw.specs.Redraw.{readingOn, AllOf, redrawn, redrawnBuffer, taken}
 
 -- What stays the same from step to step.
@@ -43,11 +44,11 @@ pub record Reading : Type 0 where
 abbrev pub readingOf : List ℕ → FontColor → Reading
 readingOf text color = record { text = text; color = color }
 
-abbrev pub asked : Field → Reading → Request
-asked f r = request (r .text) (f .position) record { color = r .color; «vertical_pos» = f .anchor } (f .lineHeight)
+abbrev pub asked : Field → Reading → Drawing
+asked f r = drawing (r .text) (f .position) record { color = r .color; «vertical_pos» = f .anchor } (f .lineHeight)
 
-abbrev pub on : Field → List ℕ → Framebuffer
-on f bytes = framebufferOf (f .width) (f .height) bytes
+abbrev pub on : Field → List ℕ → Ground
+on f bytes = groundOf (f .width) (f .height) bytes
 
 -- The screen, and the reading that the next step is to clear.
 pub record Screen : Type 0 where
@@ -105,6 +106,6 @@ ClearForAll f ground (r ∷ rs) = ClearFor f ground r × ClearForAll f ground rs
 -- ground. A step that was not taken leaves the screen as it was.
 abbrev pub LeavesReading : Field → List ℕ → Reading → List ℕ → Outcome RenderedDimensions → List ℕ → Type 0
 LeavesReading f old new entry answer exit =
-    (ground : List ℕ) (color : FontColor) → backgroundOff color (f .font) ≡ false → ClearFor f ground (readingOf old color)
+    (ground : List ℕ) (color : FontColor) → backgroundOff color (u8g2 (f .font) .background) ≡ false → ClearFor f ground (readingOf old color)
     → entry ≡ readingOn (f .font) (asked f (readingOf old color)) (on f ground)
     → exit ≡ pick (taken answer) (readingOn (f .font) (asked f new) (on f ground)) entry

@@ -5,7 +5,7 @@ ghost use lib.ListN.{length};
 ghost use Rattle.definitions.specs.Header.{Opened};
 ghost use Rattle.definitions.specs.TextSteps.{measureFrom, drawFrom, start};
 ghost use Rattle.definitions.specs.Calls.{characters, drawnAnswer, pixelsOf, dimensionsOutcome};
-ghost use Rattle.definitions.specs.Agreement.{request, framebufferOf};
+ghost use Rattle.redraw.specs.Drawing.{drawing, groundOf};
 ghost use Rattle.glyph_renderer.specs.Drawing.{BufferFits};
 ghost use Rattle.layout.specs.Ranges.{Checked};
 ghost use Rattle.redraw.specs.Redraw.{wholeOr, clearedBy, redrawn, redrawnBuffer, taken};
@@ -35,7 +35,7 @@ fn clear_reading(
     height: usize,
 )
     requires { ⌜ Opened (now font) head × (Checked (now text) origin «line_height» × BufferFits (length (now buffer)) width height) ⌝ }
-    ensures { λ r. ⌜ now (buffer .exit) ≡ clearedBy width background (measureFrom (drawnAnswer (now (font .entry)) false) «line_height» origin start (characters (now (text .entry)))) (now (buffer .entry)) ⌝ }
+    ensures { λ r. ⌜ now (buffer .exit) ≡ clearedBy width background (measureFrom (drawnAnswer (u8g2 (now (font .entry))) false) «line_height» origin start (characters (now (text .entry)))) (now (buffer .entry)) ⌝ }
 {
     let drawn = get_drawn_dimensions(font, head, text, origin, line_height, false);
     let DimensionsResult::Ok(dimensions) = drawn else {
@@ -58,8 +58,8 @@ pub fn draw_reading(
     height: usize,
 ) -> DimensionsResult
     requires { ⌜ Opened (now font) head × (Checked (now text) origin «line_height» × BufferFits (length (now buffer)) width height) ⌝ }
-    ensures answered { λ r. ⌜ dimensionsOutcome r ≡ measureFrom (drawnAnswer (now (font .entry)) false) «line_height» origin start (characters (now (text .entry))) ⌝ }
-    ensures shown { λ r. ⌜ now (buffer .exit) ≡ wholeOr (measureFrom (drawnAnswer (now (font .entry)) false) «line_height» origin start (characters (now (text .entry)))) (drawFrom width color (pixelsOf (now (font .entry))) (drawnAnswer (now (font .entry)) false) «line_height» origin start (now (buffer .entry)) (characters (now (text .entry)))) (now (buffer .entry)) ⌝ }
+    ensures answered { λ r. ⌜ dimensionsOutcome r ≡ measureFrom (drawnAnswer (u8g2 (now (font .entry))) false) «line_height» origin start (characters (now (text .entry))) ⌝ }
+    ensures shown { λ r. ⌜ now (buffer .exit) ≡ wholeOr (measureFrom (drawnAnswer (u8g2 (now (font .entry))) false) «line_height» origin start (characters (now (text .entry)))) (drawFrom width color (pixelsOf (u8g2 (now (font .entry)))) (drawnAnswer (u8g2 (now (font .entry))) false) «line_height» origin start (now (buffer .entry)) (characters (now (text .entry)))) (now (buffer .entry)) ⌝ }
 {
     let expected = get_drawn_dimensions(font, head, text, origin, line_height, false);
     let DimensionsResult::Ok(_) = expected else {
@@ -94,8 +94,8 @@ pub fn redraw(
     height: usize,
     buffer: &mut [u8],
 ) -> DimensionsResult
-    ensures answered { λ r. ⌜ dimensionsOutcome r ≡ redrawn (now (font .entry)) (now («old_text» .entry)) (request (now («new_text» .entry)) position style «line_height») (framebufferOf width height (now (buffer .entry))) ⌝ }
-    ensures shown { λ r. ⌜ now (buffer .exit) ≡ redrawnBuffer (now (font .entry)) (now («old_text» .entry)) (request (now («new_text» .entry)) position style «line_height») background (framebufferOf width height (now (buffer .entry))) ⌝ }
+    ensures answered { λ r. ⌜ dimensionsOutcome r ≡ redrawn (now (font .entry)) (now («old_text» .entry)) (drawing (now («new_text» .entry)) position style «line_height») (groundOf width height (now (buffer .entry))) ⌝ }
+    ensures shown { λ r. ⌜ now (buffer .exit) ≡ redrawnBuffer (now (font .entry)) (now («old_text» .entry)) (drawing (now («new_text» .entry)) position style «line_height») background (groundOf width height (now (buffer .entry))) ⌝ }
     ensures leaves { λ r. ⌜ LeavesReading (fieldOf (now (font .entry)) position (style .«vertical_pos») «line_height» background width height) (now («old_text» .entry)) (readingOf (now («new_text» .entry)) (style .color)) (now (buffer .entry)) (dimensionsOutcome r) (now (buffer .exit)) ⌝ }
 {
     let checked = check_step(

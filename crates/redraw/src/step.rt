@@ -1,6 +1,6 @@
 // What the step from one reading to the next tests before it changes a pixel.
 ghost use mathlib.Core.Path.{_≡_};
-ghost use Rattle.definitions.specs.Agreement.{request, framebufferOf};
+ghost use Rattle.redraw.specs.Drawing.{drawing, groundOf};
 ghost use Rattle.redraw.specs.Checks.{stepOutcome, checkedStep};
 use font_reader::new_from_raw_data;
 use layout::limits::has_bad_color;
@@ -39,7 +39,7 @@ pub fn check_step(
     height: usize,
     buffer: &[u8],
 ) -> StepResult
-    ensures { λ r. ⌜ stepOutcome r ≡ checkedStep (now (font .entry)) (now («old_text» .entry)) (request (now («new_text» .entry)) position style «line_height») (framebufferOf width height (now (buffer .entry))) ⌝ }
+    ensures { λ r. ⌜ stepOutcome r ≡ checkedStep (now (font .entry)) (now («old_text» .entry)) (drawing (now («new_text» .entry)) position style «line_height») (groundOf width height (now (buffer .entry))) ⌝ }
 {
     match new_from_raw_data(font) {
         FontReaderResult::Err(error) => StepResult::Err(error),

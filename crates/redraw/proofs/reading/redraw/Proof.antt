@@ -6,7 +6,8 @@ use native.Mathlib.Omega.{arith}
 use borrow.Author.Needs.{needs}
 use Rattle.definitions.specs.Refusals.{success}
 use Rattle.definitions.specs.Calls.{dimensionsOutcome}
-use Rattle.definitions.specs.Agreement.{Request, request, Framebuffer, framebufferOf}
+use Rattle.definitions.specs.Agreement.{Ground}
+use Rattle.redraw.specs.Drawing.{Drawing, drawing, groundOf}
 use Rattle.glyph_renderer.specs.Drawing.{BufferFits}
 use Rattle.redraw.specs.declared.step.Step.{Step}
 use Rattle.redraw.specs.Checks.{checkedStep, stepOutcome}
@@ -20,11 +21,11 @@ use Rattle.redraw.proofs.reading.redraw.Tie as tie
 
 -- what the call was given
 module _ (s : tie.Start) where
-  abbrev new : Request
-  new = request (s .args .new-text .now) (s .args .position) (s .args .style) (s .args .line-height)
+  abbrev new : Drawing
+  new = drawing (s .args .new-text .now) (s .args .position) (s .args .style) (s .args .line-height)
 
-  abbrev screen : Framebuffer
-  screen = framebufferOf (s .args .width) (s .args .height) (s .args .buffer .now)
+  abbrev screen : Ground
+  screen = groundOf (s .args .width) (s .args .height) (s .args .buffer .now)
 
   abbrev field : Field
   field = fieldOf (s .args .font .now) (s .args .position) (s .args .style .«vertical_pos») (s .args .line-height) (s .args .background) (s .args .width) (s .args .height)

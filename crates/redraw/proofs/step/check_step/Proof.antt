@@ -11,7 +11,8 @@ use Rattle.definitions.specs.Refusals.{success}
 use Rattle.definitions.specs.Framebuffer.{framebufferCause}
 use Rattle.definitions.specs.Limits.{textCause, backgroundCause}
 use Rattle.definitions.specs.Calls.{openFont, fontReaderOutcome}
-use Rattle.definitions.specs.Agreement.{Request, request, Framebuffer, framebufferOf}
+use Rattle.definitions.specs.Agreement.{Ground}
+use Rattle.redraw.specs.Drawing.{Drawing, drawing, groundOf}
 use Rattle.definitions.proofs.OpenedLaws.{opened}
 use Rattle.layout.specs.Sizes.{colorOff}
 use Rattle.layout.specs.Origins.{checkedOrigin, originOutcome}
@@ -23,11 +24,11 @@ use Rattle.redraw.proofs.step.check_step.Tie as tie
 
 -- what the call was given
 module _ (s : tie.Start) where
-  abbrev new : Request
-  new = request (s .args .new-text .now) (s .args .position) (s .args .style) (s .args .line-height)
+  abbrev new : Drawing
+  new = drawing (s .args .new-text .now) (s .args .position) (s .args .style) (s .args .line-height)
 
-  abbrev screen : Framebuffer
-  screen = framebufferOf (s .args .width) (s .args .height) (s .args .buffer .now)
+  abbrev screen : Ground
+  screen = groundOf (s .args .width) (s .args .height) (s .args .buffer .now)
 
 -- opening succeeded
 module _ (c : tie.After-known-told2) where
