@@ -1,6 +1,10 @@
 // Document 01's third demand, over the public calls themselves: two drawings of one text, and its measuring, agree.
 ghost use mathlib.Core.Path.{_≡_};
-ghost use Rattle.definitions.specs.Agreement.{request, framebufferOf, results, ThirdDemand};
+ghost use mathlib.Core.Bool.{false};
+ghost use Rattle.definitions.specs.Font.{u8g2};
+ghost use Rattle.definitions.specs.Framebuffer.{sized};
+ghost use Rattle.definitions.specs.Calls.{plain};
+ghost use Rattle.definitions.specs.Agreement.{on, results, ThirdDemand};
 ghost use Rattle.agreement.specs.Calls.{asResults};
 use measuring::rendered_dimensions::get_rendered_dimensions;
 use renderer::render::render;
@@ -32,8 +36,8 @@ pub fn draw_twice_and_measure(
     second_height: usize,
     second_buffer: &mut [u8],
 ) -> Answers
-    ensures called { λ r. ⌜ asResults r (now («first_buffer» .exit)) (now («second_buffer» .exit)) ≡ results (now («first_font» .entry)) (now («second_font» .entry)) (request (now (text .entry)) position style «line_height») (framebufferOf «first_width» «first_height» (now («first_buffer» .entry))) (framebufferOf «second_width» «second_height» (now («second_buffer» .entry))) ⌝ }
-    ensures agree { λ r. ⌜ ThirdDemand (now («first_font» .entry)) (now («second_font» .entry)) (request (now (text .entry)) position style «line_height») (framebufferOf «first_width» «first_height» (now («first_buffer» .entry))) (framebufferOf «second_width» «second_height» (now («second_buffer» .entry))) (asResults r (now («first_buffer» .exit)) (now («second_buffer» .exit))) ⌝ }
+    ensures called { λ r. ⌜ asResults r (now («first_buffer» .exit)) (now («second_buffer» .exit)) ≡ results (u8g2 (now («first_font» .entry))) (u8g2 (now («second_font» .entry))) (plain (now (text .entry)) position (style .«vertical_pos») «line_height» false) (style .color) (on (sized «first_width» «first_height») (now («first_buffer» .entry))) (on (sized «second_width» «second_height») (now («second_buffer» .entry))) ⌝ }
+    ensures agree { λ r. ⌜ ThirdDemand (now («first_font» .entry)) (now («second_font» .entry)) (plain (now (text .entry)) position (style .«vertical_pos») «line_height» false) (on (sized «first_width» «first_height») (now («first_buffer» .entry))) (on (sized «second_width» «second_height») (now («second_buffer» .entry))) (asResults r (now («first_buffer» .exit)) (now («second_buffer» .exit))) ⌝ }
 {
     let ignore_unknown_chars = false;
     let first = render(

@@ -11,9 +11,10 @@ use Rattle.definitions.specs.Refusals.{Outcome, success, refused, Cause, unless
 use Rattle.definitions.specs.Header.{header, fontCauses, Opened}
 use Rattle.definitions.specs.Framebuffer.{framebufferCause}
 use Rattle.definitions.specs.Limits.{textCause, positionCause, backgroundCause}
+use Rattle.definitions.specs.Font.{u8g2}
 use Rattle.definitions.specs.Calls.{openFont}
 use Rattle.definitions.specs.Agreement.{Ground, width, height}
-use Rattle.redraw.specs.Drawing.{Drawing}
+use Rattle.redraw.specs.Drawing.{Drawing, asks}
 use Rattle.definitions.proofs.OpenedLaws.{opened, opened-limits}
 use Rattle.definitions.proofs.RefusalLaws.{succeeded, NoneApplies, each-off}
 use Rattle.definitions.proofs.ComesLaws.{Comes, comes-none, comes-off, comes-on, comes-passed, comes-stopped}
@@ -92,7 +93,7 @@ module _ (font old : List ℕ) (new : Drawing) (p : Ground) where
               ≡ checkedStep font old new p
           all-passed e =
               let read : head ≡ header font = opened font head opens .read in
-              let there : originOf font (new .text) new ≡ o = origin-is font opens (new .text) (new .position) (new .style .«vertical_pos») (new .lineHeight) passes in
+              let there : originOf font (new .text) new ≡ o = origin-is font opens (asks new) passes in
               let here : originBy (head .ascent) (head .descent) old (new .position) (new .style .«vertical_pos») (new .lineHeight) ≡ originOf font old new =
               ap (λ (h : FontReader). originBy (h .ascent) (h .descent) old (new .position) (new .style .«vertical_pos») (new .lineHeight)) read in
               rw (here, ← there) (ap (λ (h : FontReader). success record { head = h; «old_origin» = originOf font old new; «new_origin» = originOf font (new .text) new }) read)

@@ -19,14 +19,15 @@ use Rattle.types.specs.declared.geometry.RenderedDimensions.{RenderedDimensions
 use Rattle.definitions.specs.Refusals.{Outcome, success, refused, Cause, unlessRefused, anyApplies}
 use Rattle.definitions.specs.Header.{fontCauses}
 use Rattle.definitions.specs.Geometry.{InsideBox}
+use Rattle.definitions.specs.Font.{u8g2, drawnAnswer, pixelsOf}
 use Rattle.definitions.specs.Picture.{keep, put, Picture, covers, textPicture}
 use Rattle.definitions.specs.Framebuffer.{over, shown, sideOff}
 use Rattle.definitions.specs.Text.{joinAll, point, dimensions}
 use Rattle.definitions.specs.TextSteps.{measureFrom, drawFrom, start}
 use Rattle.definitions.specs.Limits.{textCause, positionCause, backgroundCause}
-use Rattle.definitions.specs.Calls.{characters, origin, drawCauses, drawnAnswer, drawnText, pixelsOf, draw, drawBuffer}
+use Rattle.definitions.specs.Calls.{characters, origin, drawCauses, drawnText, draw, drawBuffer}
 use Rattle.definitions.specs.Agreement.{Ground, limits, WithinLimits, pixel, KeptOutside, width, height}
-use Rattle.redraw.specs.Drawing.{Drawing, groundOf, drawn, after, measured}
+use Rattle.redraw.specs.Drawing.{Drawing, asks, groundOf, drawn, after, measured}
 use Rattle.definitions.proofs.FramebufferLaws.{length-shown, shown-at, same-pixels}
 use Rattle.definitions.proofs.PictureLaws.{covers-inside, inside-covers}
 use Rattle.definitions.proofs.OpenedLaws.{or-false}
@@ -65,7 +66,7 @@ row-below width height column row h = by (decLt row height)
 module _ (font : List ℕ) (r : Drawing) (p : Ground) (d : RenderedDimensions) (within : WithinLimits (u8g2 font) (asks r) p)
     (succeeded : drawn font r p ≡ success d) where
   kept : KeptOutside p (after font r p) d
-  kept = alone font r p d within succeeded .first-kept
+  kept = alone (u8g2 font) (asks r) refl (r .style .color) p d within succeeded .first-kept
 
   module _ (color : ℕ) (ground : AllOf color p (d .«bounding_box»)) where
     -- inside the box the fill puts the colour, which was there; outside it keeps what the drawing kept
@@ -91,7 +92,7 @@ module _ (font : List ℕ) (r : Drawing) (p : Ground) (d : RenderedDimensions) (
         at : (column row : ℕ) → column < width p → row * width p + column < length (p .before)
             → pixel p (shown (width p) (fillPicture color (d .«bounding_box»)) (after font r p)) column row ≡ pixel p (p .before) column row
         at column row c h =
-            let k = row-below (width p) (height p) column row (omega (arith, size font r p within)) in
+            let k = row-below (width p) (height p) column row (omega (arith, size (u8g2 font) (asks r) p within)) in
             shown-at (width p) (fillPicture color (d .«bounding_box»)) (after font r p) column row c (omega (arith, length-after font r p))
             ∙ restored (d .«bounding_box») refl column row c k
 
@@ -99,7 +100,7 @@ module _ (font : List ℕ) (r : Drawing) (p : Ground) (d : RenderedDimensions) (
 
 pub within-limits : (font : List ℕ) (r : Drawing) (p : Ground) (d : RenderedDimensions) → drawn font r p ≡ success d → WithinLimits (u8g2 font) (asks r) p
 unfolding draw
-within-limits (u8g2 font) (asks r) p d e =
+within-limits font r p d e =
     let h =
     succeeded (dimensions (drawnText (u8g2 font) (asks r))) d
     (drawCauses (u8g2 font) (asks r) (r .style .color) (p .framebuffer) (p .before)) e
@@ -109,7 +110,7 @@ within-limits (u8g2 font) (asks r) p d e =
 
 -- A drawing that succeeds is measured alike.
 pub drawn-measured : (font : List ℕ) (r : Drawing) (p : Ground) (d : RenderedDimensions) → drawn font r p ≡ success d → measured font r ≡ success d
-drawn-measured font r p d e = alone font r p d (within-limits (u8g2 font) (asks r) p d e) e .first-measures
+drawn-measured font r p d e = alone (u8g2 font) (asks r) refl (r .style .color) p d (within-limits font r p d e) e .first-measures
 
 -- What drawing answers depends on the framebuffer's length, and not on what it holds.
 pub same-answer : (font : List ℕ) (r : Drawing) (width height : ℕ) (a b : List ℕ) → length a ≡ length b
@@ -257,20 +258,20 @@ module _ (font old : List ℕ) (new : Drawing) (background : ℕ) (p : Ground) w
     abbrev letters : List ℕ → Outcome RenderedDimensions
     letters text = measureFrom (drawnAnswer (u8g2 font) false) (new .lineHeight) (originOf font text new) start (characters text)
 
-    abbrev drawing : List ℕ → List ℕ
-    drawing bytes = drawFrom (width p) (new .style .color) (pixelsOf (u8g2 font)) (drawnAnswer (u8g2 font) false) (new .lineHeight) (originOf font (new .text) new) start bytes (characters (new .text))
+    abbrev lettersOn : List ℕ → List ℕ
+    lettersOn bytes = drawFrom (width p) (new .style .color) (pixelsOf (u8g2 font)) (drawnAnswer (u8g2 font) false) (new .lineHeight) (originOf font (new .text) new) start bytes (characters (new .text))
 
     pub answers : {answer : Outcome RenderedDimensions} → answer ≡ letters (new .text) → answer ≡ redrawn font old new p
     unfolding redrawn
     answers e = e ∙ answer-by-letters font new p new-off ∙ sym (none-applies (drawn font new p) (redrawCauses font old new p) unrefused)
 
     pub leaves : {between exit : List ℕ} → between ≡ clearedBy (width p) background (toFill (letters old)) (p .before)
-        → exit ≡ wholeOr (letters (new .text)) (drawing between) between
+        → exit ≡ wholeOr (letters (new .text)) (lettersOn between) between
         → exit ≡ pick (anyApplies (redrawCauses font old new p)) (p .before) (readingOn font new bare)
     leaves {between} e h =
         let found : between ≡ bare .before = e ∙ ap (λ (o : Outcome RenderedDimensions). clearedBy (width p) background (toFill o) (p .before)) (answer-by-letters font (withText old new) p old-off) in
         h
-        ∙ ap (λ (b : List ℕ). wholeOr (letters (new .text)) (drawing b) b) found
-        ∙ ap (λ (o : Outcome RenderedDimensions). wholeOr o (drawing (bare .before)) (bare .before)) (answer-by-letters font new bare bare-off)
+        ∙ ap (λ (b : List ℕ). wholeOr (letters (new .text)) (lettersOn b) b) found
+        ∙ ap (λ (o : Outcome RenderedDimensions). wholeOr o (lettersOn (bare .before)) (bare .before)) (answer-by-letters font new bare bare-off)
         ∙ ap (λ (l : List ℕ). wholeOr (drawn font new bare) l (bare .before)) (bytes-by-letters font new bare bare-off)
         ∙ rw unrefused

@@ -16,10 +16,11 @@ use Rattle.definitions.specs.Refusals.{Outcome, success, refused, unlessRefused
 use Rattle.definitions.specs.Header.{fontCauses}
 use Rattle.definitions.specs.Utf8.{decodeFrom}
 use Rattle.definitions.specs.Picture.{keep, textPicture}
-use Rattle.definitions.specs.Framebuffer.{shown, framebufferCause, sideOff}
+use Rattle.definitions.specs.Framebuffer.{shown, sized, framebufferCause, sideOff}
 use Rattle.definitions.specs.Text.{joinAll, point, layout, dimensions}
 use Rattle.definitions.specs.Limits.{textCause, positionCause, backgroundOff, backgroundCause}
-use Rattle.definitions.specs.Calls.{drawnText, draw, drawBuffer}
+use Rattle.definitions.specs.Font.{u8g2}
+use Rattle.definitions.specs.Calls.{plain, drawnText, draw, drawBuffer}
 use Rattle.definitions.specs.Agreement.{Ground}
 use Rattle.redraw.specs.Drawing.{Drawing, drawn, after}
 use Rattle.definitions.proofs.FramebufferLaws.{length-shown, shown-blank}

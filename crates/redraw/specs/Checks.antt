@@ -2,9 +2,10 @@
 use mathlib.Core.List.{List}
 use Rattle.definitions.specs.Refusals.{Outcome, success, refusal, unlessRefused}
 use Rattle.definitions.specs.Header.{header}
+use Rattle.definitions.specs.Font.{u8g2}
 use Rattle.definitions.specs.Calls.{origin}
 use Rattle.definitions.specs.Agreement.{Ground}
-use Rattle.redraw.specs.Drawing.{Drawing}
+use Rattle.redraw.specs.Drawing.{Drawing, drawing, asks}
 use Rattle.redraw.specs.declared.step.Step.{Step}
 use Rattle.redraw.specs.declared.step.StepResult.{StepResult}
 use Rattle.redraw.specs.declared.step.StepResult.the-variants.{Ok, Err}

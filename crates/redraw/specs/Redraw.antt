@@ -16,8 +16,8 @@ use Rattle.definitions.specs.Picture.{keep, put, Picture, covers}
 use Rattle.definitions.specs.Framebuffer.{shown, framebufferCause}
 use Rattle.definitions.specs.Font.{u8g2}
 use Rattle.definitions.specs.Limits.{textCause, positionCause, backgroundCause}
-use Rattle.definitions.specs.Agreement.{Ground, pixel, width, height}
-use Rattle.redraw.specs.Drawing.{Drawing, drawing, groundOf, drawn, after}
+use Rattle.definitions.specs.Agreement.{Ground, on, pixel, width, height}
+use Rattle.redraw.specs.Drawing.{Drawing, drawing, drawn, after}
 
 -- ---- a reading on a ground
 

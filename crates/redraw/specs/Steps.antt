@@ -10,6 +10,7 @@ use Rattle.types.specs.declared.style.FontColor.{FontColor}
 use Rattle.types.specs.declared.style.FontColor.the-variants.{Transparent}
 use Rattle.types.specs.declared.style.VerticalPosition.{VerticalPosition}
 use Rattle.definitions.specs.Refusals.{Outcome, success}
+use Rattle.definitions.specs.Font.{u8g2}
 use Rattle.definitions.specs.Limits.{backgroundOff}
 use Rattle.definitions.specs.Agreement.{Ground}
 use Rattle.redraw.specs.Drawing.{Drawing, drawing, groundOf, drawn}

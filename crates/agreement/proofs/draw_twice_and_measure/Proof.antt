@@ -30,7 +30,7 @@ returns c =
     one-by-one (drawn .0) (drawn-second .0) (c .before .get-rendered-dimensions .ensures) (c .get-rendered-dimensions2 .ensures)
     (drawn .1) (drawn-second .1)
     in
-    (calls, third-demand _ _ _ _ _ _ calls)
+    (calls, third-demand _ _ _ _ _ _ _ calls)
 
 pub draw-twice-and-measure-spec : {M : Type 1} → statement M
 draw-twice-and-measure-spec =

@@ -8,13 +8,13 @@ use borrow.Author.Needs.{needs}
 use Rattle.types.specs.declared.font_reader.FontReader.{FontReader}
 use Rattle.types.specs.declared.geometry.Point.{Point}
 use Rattle.definitions.specs.Refusals.{success}
-use Rattle.definitions.specs.Framebuffer.{framebufferCause}
-use Rattle.definitions.specs.Limits.{textCause, backgroundCause}
+use Rattle.definitions.specs.Font.{u8g2}
+use Rattle.definitions.specs.Framebuffer.{sized, framebufferCause}
+use Rattle.definitions.specs.Limits.{textCause, backgroundOff, backgroundCause}
 use Rattle.definitions.specs.Calls.{openFont, fontReaderOutcome}
 use Rattle.definitions.specs.Agreement.{Ground}
 use Rattle.redraw.specs.Drawing.{Drawing, drawing, groundOf}
 use Rattle.definitions.proofs.OpenedLaws.{opened}
-use Rattle.layout.specs.Sizes.{colorOff}
 use Rattle.layout.specs.Origins.{checkedOrigin, originOutcome}
 use Rattle.layout.proofs.OriginLaws.{passed}
 use Rattle.layout.proofs.LimitLaws.{color-is}
@@ -52,7 +52,7 @@ module _ (c : tie.Else2) where
   abbrev font-known : tie.After-known-told2
   font-known = c .before .before .before .before
 
-  size-in : framebufferCause (entry font-known .args .width) (entry font-known .args .height) (entry font-known .args .buffer .now) .applies ≡ false
+  size-in : framebufferCause (sized (entry font-known .args .width) (entry font-known .args .height)) (entry font-known .args .buffer .now) .applies ≡ false
   size-in = sym (c .before .before .before .has-bad-size .ensures) ∙ c .before .before .if1 .left
 
   fine : textCause (entry font-known .args .old-text .now) .applies ≡ false
@@ -69,7 +69,7 @@ module _ (c : tie.After-known-told4) where
       sym (simp (toZ-ofZ, ascent-fits k, descent-fits k) at (c .before .before .before .checked-origin .ensures)) ∙ ap originOutcome (c .before .new-origin .given .1)
 
   -- the answer to the colour is the cause's
-  color-tested : let k = font-known old-known in let a = entry k .args in backgroundCause (a .style .color) (a .font .now) .applies ≡ colorOff (a .style .color) (head k .«supports_background_color»)
+  color-tested : let k = font-known old-known in let a = entry k .args in backgroundCause (a .style .color) (u8g2 (a .font .now) .background) .applies ≡ backgroundOff (a .style .color) (head k .«supports_background_color»)
   color-tested = let k = font-known old-known in sym (color-is (opened _ (head k) (opens k)) (entry k .args .style .color))
 
 new-from-raw-data-requires : tie.Need-new-from-raw-data-requires
