@@ -9,12 +9,14 @@ mod reply;
 
 ghost use mathlib.Core.Path.{_≡_};
 ghost use lib.ListN.{length};
-ghost use Rattle.definitions.specs.Calls.{openFont, fontBoundingBox, measure, measureAligned, draw, drawBuffer};
-ghost use Rattle.definitions.specs.Agreement.{request, framebufferOf};
+ghost use Rattle.definitions.specs.Font.{u8g2};
+ghost use Rattle.definitions.specs.Framebuffer.{sized};
+ghost use Rattle.definitions.specs.Calls.{openFont, fontBoundingBox, request, plain, measure, measureAligned, draw, drawBuffer};
+ghost use Rattle.redraw.specs.Drawing.{drawing, groundOf};
 ghost use Rattle.definitions.specs.Text.{point};
 ghost use Rattle.redraw.specs.Redraw.{redrawn, redrawnBuffer};
 ghost use Rattle.c_api.specs.Codes.{meaningOf};
-ghost use Rattle.c_api.specs.Replies.{Answers, styleOf, drawnBy, boxReply, textReply, alignedReply};
+ghost use Rattle.c_api.specs.Replies.{Answers, inkOf, styleOf, drawnBy, boxReply, textReply, alignedReply};
 ghost use Rattle.c_api.specs.Headers.{Opens};
 use codes::Codes;
 use codes::Meaning;
@@ -78,7 +80,7 @@ pub extern "C" fn papayahelm_measure(
     skip: u32,
     out: &mut [i64],
 ) -> u32
-    ensures { λ r. ⌜ Answers (meaningOf anchor 0 skip 0 (length (now (out .entry)))) (λ m. textReply (measure (now (font .entry)) (now (text .entry)) (point x y) (m .«vertical_pos») «line_height» (m .skip))) r (now (out .entry)) (now (out .exit)) ⌝ }
+    ensures { λ r. ⌜ Answers (meaningOf anchor 0 skip 0 (length (now (out .entry)))) (λ m. textReply (measure (u8g2 (now (font .entry))) (plain (now (text .entry)) (point x y) (m .«vertical_pos») «line_height» (m .skip)))) r (now (out .entry)) (now (out .exit)) ⌝ }
 {
     let Codes::Known(m) = known_codes(anchor, 0, skip, 0, out.len()) else {
         return BAD_ARGUMENT;
@@ -102,7 +104,7 @@ pub extern "C" fn papayahelm_measure_aligned(
     skip: u32,
     out: &mut [i64],
 ) -> u32
-    ensures { λ r. ⌜ Answers (meaningOf anchor align skip 0 (length (now (out .entry)))) (λ m. alignedReply (measureAligned (now (font .entry)) (now (text .entry)) (point x y) (m .«vertical_pos») (m .«horizontal_align») «line_height» (m .skip))) r (now (out .entry)) (now (out .exit)) ⌝ }
+    ensures { λ r. ⌜ Answers (meaningOf anchor align skip 0 (length (now (out .entry)))) (λ m. alignedReply (measureAligned (u8g2 (now (font .entry))) (request (now (text .entry)) (point x y) (m .«vertical_pos») (m .«horizontal_align») «line_height» (m .skip)))) r (now (out .entry)) (now (out .exit)) ⌝ }
 {
     let Codes::Known(m) = known_codes(anchor, align, skip, 0, out.len()) else {
         return BAD_ARGUMENT;
@@ -156,8 +158,8 @@ pub extern "C" fn papayahelm_draw(
     buffer: &mut [u8],
     out: &mut [i64],
 ) -> u32
-    ensures answered { λ r. ⌜ Answers (meaningOf anchor 0 skip background (length (now (out .entry)))) (λ m. textReply (draw (now (font .entry)) (now (text .entry)) (point x y) (styleOf (m .«vertical_pos») (m .background) fg bg) «line_height» (m .skip) width height (now (buffer .entry)))) r (now (out .entry)) (now (out .exit)) ⌝ }
-    ensures shown { λ r. ⌜ now (buffer .exit) ≡ drawnBy (meaningOf anchor 0 skip background (length (now (out .entry)))) (λ m. drawBuffer (now (font .entry)) (now (text .entry)) (point x y) (styleOf (m .«vertical_pos») (m .background) fg bg) «line_height» (m .skip) width height (now (buffer .entry))) (now (buffer .entry)) ⌝ }
+    ensures answered { λ r. ⌜ Answers (meaningOf anchor 0 skip background (length (now (out .entry)))) (λ m. textReply (draw (u8g2 (now (font .entry))) (plain (now (text .entry)) (point x y) (m .«vertical_pos») «line_height» (m .skip)) (inkOf (m .background) fg bg) (sized width height) (now (buffer .entry)))) r (now (out .entry)) (now (out .exit)) ⌝ }
+    ensures shown { λ r. ⌜ now (buffer .exit) ≡ drawnBy (meaningOf anchor 0 skip background (length (now (out .entry)))) (λ m. drawBuffer (u8g2 (now (font .entry))) (plain (now (text .entry)) (point x y) (m .«vertical_pos») «line_height» (m .skip)) (inkOf (m .background) fg bg) (sized width height) (now (buffer .entry))) (now (buffer .entry)) ⌝ }
 {
     let Codes::Known(m) = known_codes(anchor, 0, skip, background, out.len()) else {
         return BAD_ARGUMENT;
@@ -197,8 +199,8 @@ pub extern "C" fn papayahelm_redraw(
     buffer: &mut [u8],
     out: &mut [i64],
 ) -> u32
-    ensures answered { λ r. ⌜ Answers (meaningOf anchor 0 0 background (length (now (out .entry)))) (λ m. textReply (redrawn (now (font .entry)) (now («old_text» .entry)) (request (now («new_text» .entry)) (point x y) (styleOf (m .«vertical_pos») (m .background) fg bg) «line_height») (framebufferOf width height (now (buffer .entry))))) r (now (out .entry)) (now (out .exit)) ⌝ }
-    ensures shown { λ r. ⌜ now (buffer .exit) ≡ drawnBy (meaningOf anchor 0 0 background (length (now (out .entry)))) (λ m. redrawnBuffer (now (font .entry)) (now («old_text» .entry)) (request (now («new_text» .entry)) (point x y) (styleOf (m .«vertical_pos») (m .background) fg bg) «line_height») «clear_color» (framebufferOf width height (now (buffer .entry)))) (now (buffer .entry)) ⌝ }
+    ensures answered { λ r. ⌜ Answers (meaningOf anchor 0 0 background (length (now (out .entry)))) (λ m. textReply (redrawn (now (font .entry)) (now («old_text» .entry)) (drawing (now («new_text» .entry)) (point x y) (styleOf (m .«vertical_pos») (m .background) fg bg) «line_height») (groundOf width height (now (buffer .entry))))) r (now (out .entry)) (now (out .exit)) ⌝ }
+    ensures shown { λ r. ⌜ now (buffer .exit) ≡ drawnBy (meaningOf anchor 0 0 background (length (now (out .entry)))) (λ m. redrawnBuffer (now (font .entry)) (now («old_text» .entry)) (drawing (now («new_text» .entry)) (point x y) (styleOf (m .«vertical_pos») (m .background) fg bg) «line_height») «clear_color» (groundOf width height (now (buffer .entry)))) (now (buffer .entry)) ⌝ }
 {
     let Codes::Known(m) = known_codes(anchor, 0, 0, background, out.len()) else {
         return BAD_ARGUMENT;

@@ -16,7 +16,7 @@ use Rattle.definitions.specs.Refusals.{Outcome, success, refused}
 use Rattle.definitions.specs.Geometry.{left, top}
 use Rattle.definitions.specs.Text.{point}
 use Rattle.definitions.specs.Font.{u8g2}
-use Rattle.definitions.specs.Calls.{openFont, plain, measure}
+use Rattle.definitions.specs.Calls.{openFont, Request, plain, measure}
 
 -- ---- numbers in decimal
 
@@ -62,8 +62,11 @@ outcomeLine o = firstWord o ++ spaced (laterWords o) ++ 10 ∷ []
 -- ---- the program
 
 -- place (0, 0), Baseline, the font's default line height, nothing skipped
+abbrev pub byProgram : List ℕ → FontReader → Request
+byProgram text head = plain text (point (pos 0) (pos 0)) Baseline (head .«line_height») false
+
 abbrev pub measureOpened : List ℕ → List ℕ → Outcome FontReader → Outcome RenderedDimensions
-measureOpened font text (success head) = measure (u8g2 font) (plain text (point (pos 0) (pos 0)) Baseline (head .«line_height») false)
+measureOpened font text (success head) = measure (u8g2 font) (byProgram text head)
 measureOpened font text (refused n c) = refused n c
 
 -- A font of more than 65,536 bytes is number 1.

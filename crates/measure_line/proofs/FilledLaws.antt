@@ -10,12 +10,11 @@ use borrow.Author.Tests.{lt-ltb}
 use lib.ListN.{length, take, length-take}
 use lib.Seq.{take-all}
 use Rattle.types.specs.declared.font_reader.FontReader.{FontReader}
-use Rattle.types.specs.declared.geometry.Point.{Point}
-use Rattle.types.specs.declared.style.VerticalPosition.{VerticalPosition}
 use Rattle.definitions.specs.Refusals.{Outcome, success, refused, unlessRefused}
 use Rattle.definitions.specs.Header.{fontCauses}
-use Rattle.definitions.specs.Calls.{openFont, measure}
-use Rattle.definitions.specs.Line.{outcomeLine, measureOpened, measuredByProgram, measuringLine}
+use Rattle.definitions.specs.Font.{u8g2}
+use Rattle.definitions.specs.Calls.{openFont, Request, measure}
+use Rattle.definitions.specs.Line.{outcomeLine, byProgram, measureOpened, measuredByProgram, measuringLine}
 use Rattle.definitions.proofs.LineLaws.{font-too-long}
 use Rattle.measure_line.specs.Filled.{Filled}
 
@@ -23,10 +22,9 @@ use Rattle.measure_line.specs.Filled.{Filled}
 pub some-file : (buffer : List ℕ) (n : ℕ) → Filled (take n buffer) buffer n
 some-file buffer n = sym (take-all (length buffer) (take n buffer) (omega (arith, length-take n buffer)))
 
-text-too-long : (font text : List ℕ) (p : Point) (v : VerticalPosition) (lineHeight : ℕ) (skip : Bool) → 4096 < length text
-    → measure font text p v lineHeight skip ≡ unlessRefused (fontCauses font) (refused 4 0)
+text-too-long : (font : List ℕ) (r : Request) → 4096 < length (r .text) → measure (u8g2 font) r ≡ unlessRefused (fontCauses font) (refused 4 0)
 unfolding measure
-text-too-long font text p v lineHeight skip h = simp (lt-ltb 4096 (length text) h)
+text-too-long font r h = simp (lt-ltb 4096 (length (r .text)) h)
 
 -- what is longer than a limit is longer when it is cut behind the limit
 cut-long : (limit n : ℕ) (l : List ℕ) → limit < n → limit < length l → limit < length (take n l)
@@ -34,7 +32,8 @@ cut-long limit n l h k = omega (arith, length-take n l)
 
 module _ (font text : List ℕ) (k : ℕ) (room : 4096 < k) where
   long : 4096 < length text → (o : Outcome FontReader) → measureOpened font (take k text) o ≡ measureOpened font text o
-  long h (success head) = text-too-long font (take k text) _ _ _ _ (cut-long 4096 k text room h) ∙ sym (text-too-long font text _ _ _ _ h)
+  long h (success head) =
+      text-too-long font (byProgram (take k text) head) (cut-long 4096 k text room h) ∙ sym (text-too-long font (byProgram text head) h)
   long h (refused n c) = refl
 
   cut-text : (o : Outcome FontReader) → measureOpened font (take k text) o ≡ measureOpened font text o

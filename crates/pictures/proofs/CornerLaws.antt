@@ -12,8 +12,10 @@ use Rattle.types.specs.declared.style.FontColor.{FontColor}
 use Rattle.definitions.specs.Refusals.{Outcome, success}
 use Rattle.definitions.specs.Geometry.{left, top}
 use Rattle.definitions.specs.Text.{point}
+use Rattle.definitions.specs.Font.{u8g2}
+use Rattle.definitions.specs.Framebuffer.{sized}
 use Rattle.definitions.specs.Calls.{draw, drawBuffer}
-use Rattle.definitions.specs.Whole.{measuredAtZero, opposite, onBaseline, drawnWhole, shownWhole, boxed, SeenWhole}
+use Rattle.definitions.specs.Whole.{whole, measuredAtZero, opposite, drawnWhole, shownWhole, boxed, SeenWhole}
 use Rattle.definitions.proofs.WholeLaws.{Near, near, seen-whole}
 use Rattle.pictures.specs.Drawings.{Measured, Framed}
 
@@ -24,10 +26,10 @@ module _ (font text : List ℕ) (lineHeight : ℕ) (color : FontColor) (r : Rect
   place : point x y ≡ opposite r
   place = cc (at-x, at-y)
 
-  pub call-answers : draw font text (point x y) (onBaseline color) lineHeight false width height pixels ≡ drawnWhole font text lineHeight color r pixels
+  pub call-answers : draw (u8g2 font) (whole text lineHeight (point x y)) color (sized width height) pixels ≡ drawnWhole font text lineHeight color r pixels
   call-answers = rw (place, f .width-is, f .height-is)
 
-  pub call-shows : drawBuffer font text (point x y) (onBaseline color) lineHeight false width height pixels ≡ shownWhole font text lineHeight color r pixels
+  pub call-shows : drawBuffer (u8g2 font) (whole text lineHeight (point x y)) color (sized width height) pixels ≡ shownWhole font text lineHeight color r pixels
   call-shows = rw (place, f .width-is, f .height-is)
 
   pub call-seen : {o : Outcome RenderedDimensions} → o ≡ drawnWhole font text lineHeight color r pixels

@@ -19,15 +19,14 @@ use Rattle.types.specs.declared.geometry.Rectangle.{Rectangle}
 use Rattle.types.specs.declared.geometry.RenderedDimensions.{RenderedDimensions}
 use Rattle.types.specs.declared.geometry.Size.{Size}
 use Rattle.types.specs.declared.style.FontColor.{FontColor}
-use Rattle.types.specs.declared.style.VerticalPosition.the-variants.{Baseline}
 use Rattle.definitions.specs.Refusals.{Outcome, success, refused, unlessRefused}
 use Rattle.definitions.specs.Header.{header, signedByte}
 use Rattle.definitions.specs.Text.{dimensions}
 use Rattle.definitions.specs.Limits.{textCause, positionCause}
-use Rattle.definitions.specs.Calls.{openFont, measuredAnswer, measure}
-use Rattle.definitions.specs.Whole.{atZero, measuredAtZero, drawnWhole, shownWhole, boxed, SeenWhole}
+use Rattle.definitions.specs.Font.{u8g2}
+use Rattle.definitions.specs.Calls.{openFont, measuredText, measure}
+use Rattle.definitions.specs.Whole.{atZero, whole, measuredAtZero, drawnWhole, shownWhole, boxed, SeenWhole}
 use Rattle.definitions.proofs.OpenedLaws.{opened, open-refused}
-use Rattle.definitions.proofs.MovedLaws.{laidAt}
 use Rattle.pictures.specs.declared.whole.Drawing.{Drawing}
 use Rattle.pictures.specs.declared.whole.Drawing.the-variants.{Drawn, Blank, TooLarge, Refused}
 use Rattle.pictures.specs.Drawings.{Measured, Framed, area, Called, IsDrawing, Showable}
@@ -76,8 +75,7 @@ module _ (font text : List ℕ) (lineHeight : ℕ) where
   unfolding measure
   opening-refused {n} {c} e =
       open-refused font
-      (unlessRefused (textCause text ∷ positionCause atZero lineHeight ∷ [])
-      (dimensions (laidAt font text Baseline lineHeight (measuredAnswer font false) atZero)))
+      (unlessRefused (textCause text ∷ positionCause atZero lineHeight ∷ []) (dimensions (measuredText (u8g2 font) (whole text lineHeight atZero))))
       n c e
 
 low-height : (b : ℕ) → b < 256 → pos 0 ≤ℤ signed8 b → natAbs (signed8 b +ℤ pos 1) ≤ 128
