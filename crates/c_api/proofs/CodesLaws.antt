@@ -5,6 +5,7 @@ use Prim.Native.Nat.{ℕ, _≤_}
 use native.Mathlib.Omega.{arith}
 use borrow.Author.Tests.{ltb-false}
 use lib.Dec.{ltb}
+use Rattle.integers.proofs.Choices.{impossible}
 use Rattle.c_api.specs.declared.codes.Anchor.{Anchor}
 use Rattle.c_api.specs.declared.codes.Anchor.the-variants.{Known as Anchor·Known, Unknown as Anchor·Unknown}
 use Rattle.c_api.specs.declared.codes.Alignment.{Alignment}
@@ -16,7 +17,7 @@ use Rattle.c_api.specs.declared.codes.Codes.the-variants.{Known, Unknown
 use Rattle.c_api.specs.Codes.{allKnown, anchorOf, alignmentOf, flagOf, meaningOf}
 
 never : (m : Meaning) → Unknown ≡ Known m → ⊥
-never m e = let z : _≡_ {A = ℕ} 0 1 = cc in absurd (omega arith)
+never m e = impossible cc
 
 wide : (v : Anchor) (h : Alignment) (s b : Flag) (narrow : Bool) (m : Meaning) → allKnown v h s b narrow ≡ Known m → narrow ≡ false
 wide (Anchor·Known v) (Alignment·Known h) (Flag·Known s) (Flag·Known b) true m e = absurd (never m e)

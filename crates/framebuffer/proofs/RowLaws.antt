@@ -8,6 +8,7 @@ use native.Mathlib.Decide.{decLt}
 use native.Mathlib.Omega.{arith}
 use lib.IntN.{ℤ, pos, natAbs, _+ℤ_, _-ℤ_}
 use lib.ListN.{length, getD}
+use Rattle.integers.proofs.Choices.{impossible}
 use Rattle.integers.proofs.Laws.{zarith, plus, minus, size}
 use Rattle.types.specs.declared.geometry.Rectangle.{Rectangle}
 use Rattle.types.specs.declared.style.FontColor.{FontColor}
@@ -22,7 +23,7 @@ use Rattle.framebuffer.specs.Rows.{rowRectangle, rowPicture, firstRows}
 
 -- a rectangle covers a pixel, or the pixel does not lie in it
 pub outside : (r : Rectangle) (column row : ℤ) → covers r column row ≡ false → Inside column row r → ⊥
-outside r column row e h = let k = inside-covers column row r h in let z : _≡_ {A = ℕ} 0 1 = cc in omega arith
+outside r column row e h = let k = inside-covers column row r h in impossible cc
 
 -- before the first row nothing is drawn
 pub no-rows : (color : FontColor) (bits : List ℕ) (r : Rectangle) (column row : ℤ) → rectanglePicture color bits (firstRows 0 r) column row ≡ keep

@@ -8,6 +8,7 @@ use lib.Pow.{pow-pos, pow-mono, shl-exact}
 use mir.Syntax.{w8, w32}
 use mir.Val.{Fits, SFits, toZ, ofZ}
 use mir.Facts.{toZ-ofZ, toZ-pos}
+use Rattle.integers.proofs.Choices.{impossible}
 use Rattle.integers.proofs.Laws.{zarith, minus, range}
 use Rattle.definitions.specs.Bits.{Read, got, ends, biased}
 use Rattle.definitions.proofs.BitsLaws.{biased-range}
@@ -81,20 +82,20 @@ pub unsigned-value : (r : Read) (at : ℕ) {n : ℕ} {next : BitReader} {answer 
     → (r ≡ got n) × (next .«bit_pos» ≡ at)
 unfolding unsignedRead
 unsigned-value (got m) at e f = (cc, cc)
-unsigned-value ends at e f = let z : _≡_ {A = ℕ} 0 1 = cc in absurd (omega arith)
+unsigned-value ends at e f = impossible cc
 
 pub unsigned-ends : (r : Read) (at : ℕ) {answer : UnsignedRead} → answer ≡ unsignedRead r at → answer ≡ unsigned.Ends → r ≡ ends
 unfolding unsignedRead
-unsigned-ends (got m) at e f = let z : _≡_ {A = ℕ} 0 1 = cc in absurd (omega arith)
+unsigned-ends (got m) at e f = impossible cc
 unsigned-ends ends at e f = refl
 
 pub signed-value : (b : ℕ) (r : Read) (at : ℕ) {z : ℤ} {next : BitReader} {answer : SignedRead} → answer ≡ signedRead b r at → answer ≡ signed.Value z next
     → (n : ℕ) × ((r ≡ got n) × ((z ≡ biased b n) × (next .«bit_pos» ≡ at)))
 unfolding signedRead
 signed-value b (got n) at e f = (n, (refl, (cc, cc)))
-signed-value b ends at e f = let z : _≡_ {A = ℕ} 0 1 = cc in absurd (omega arith)
+signed-value b ends at e f = impossible cc
 
 pub signed-ends : (b : ℕ) (r : Read) (at : ℕ) {answer : SignedRead} → answer ≡ signedRead b r at → answer ≡ signed.Ends → r ≡ ends
 unfolding signedRead
-signed-ends b (got m) at e f = let z : _≡_ {A = ℕ} 0 1 = cc in absurd (omega arith)
+signed-ends b (got m) at e f = impossible cc
 signed-ends b ends at e f = refl

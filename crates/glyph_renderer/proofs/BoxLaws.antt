@@ -11,6 +11,7 @@ use lib.IntN.{ℤ, pos, natAbs, _+ℤ_, _-ℤ_}
 use lib.ListN.{length, getD}
 use lib.Signed.{ltZ, leZ}
 use borrow.Author.Tests.{eqb-false}
+use Rattle.integers.proofs.Choices.{impossible}
 use Rattle.integers.specs.Integers.{pick}
 use Rattle.integers.proofs.Laws.{zarith, plus}
 use Rattle.types.specs.declared.geometry.BoundingBox.the-variants.{None, Some}
@@ -79,8 +80,8 @@ module _ {width height : ℕ} (buffer : List ℕ) (f : BufferFits (length buffer
 
 some-area : (w h : ℕ) (r area : Rectangle) (s t : Bool) → eqb w 0 ≡ s → eqb h 0 ≡ t → pick (s || t) None (Some r) ≡ Some area
     → (r ≡ area) × ((1 ≤ w) × (1 ≤ h))
-some-area w h r area true t p q e = let z : _≡_ {A = ℕ} 0 1 = cc in absurd (omega arith)
-some-area w h r area false true p q e = let z : _≡_ {A = ℕ} 0 1 = cc in absurd (omega arith)
+some-area w h r area true t p q e = impossible cc
+some-area w h r area false true p q e = impossible cc
 some-area w h r area false false p q e =
     let a = eqb-false w 0 p in
     let b = eqb-false h 0 q in

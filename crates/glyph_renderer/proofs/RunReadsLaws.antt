@@ -7,6 +7,7 @@ use native.Mathlib.Omega.{arith}
 use lib.Dec.{eqb}
 use lib.ListN.{length, drop}
 use borrow.Author.Tests.{le-leb, lt-leb, eq-eqb, ne-eqb}
+use Rattle.integers.proofs.Choices.{impossible}
 use Rattle.integers.specs.Integers.{pick}
 use Rattle.types.specs.declared.font_reader.FontReader.{FontReader}
 use Rattle.types.specs.declared.glyph_reader.GlyphReader.{GlyphReader}
@@ -23,7 +24,7 @@ use Rattle.glyph_renderer.specs.RunReads.{isWhole, unlessEnds, onPair, p
 
 taken : (r : Read) (rest : ℕ → RunsRead) (q : Runs) → unlessEnds r rest ≡ Pair q → (n : ℕ) × ((r ≡ got n) × (rest n ≡ Pair q))
 taken (got n) rest q e = (n, (refl, e))
-taken ends rest q e = let z : _≡_ {A = ℕ} 0 1 = cc in absurd (omega arith)
+taken ends rest q e = impossible cc
 
 -- what a read leads to is the same by pairs and by pixels
 both : (r : Read) (f : ℕ → RunsRead) (g : ℕ → Pixels) (rest : Runs → Pixels) → ((n : ℕ) → onPair rest (f n) ≡ g n) → onPair rest (unlessEnds r f) ≡ unlessCut r g
@@ -120,8 +121,8 @@ module _ (font : List ℕ) (head : FontReader) (g : GlyphReader) where
 module _ (c : ℕ) (g : GlyphReader) where
   pub runs-whole : (r : Pixels) → isWhole r ≡ true → withRuns c g r ≡ success g
   runs-whole (pixels ps) e = refl
-  runs-whole cut e = let z : _≡_ {A = ℕ} 0 1 = cc in absurd (omega arith)
+  runs-whole cut e = impossible cc
 
   pub runs-cut : (r : Pixels) → isWhole r ≡ false → withRuns c g r ≡ refused 8 c
-  runs-cut (pixels ps) e = let z : _≡_ {A = ℕ} 0 1 = cc in absurd (omega arith)
+  runs-cut (pixels ps) e = impossible cc
   runs-cut cut e = refl

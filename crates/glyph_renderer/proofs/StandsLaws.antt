@@ -9,6 +9,7 @@ use native.Mathlib.Omega.{arith}
 use lib.Dec.{ltb}
 use lib.ListN.{getD, drop}
 use lib.Seq.{getD-drop, drop-drop}
+use Rattle.integers.proofs.Choices.{impossible}
 use Rattle.integers.specs.Integers.{pick}
 use Rattle.types.specs.declared.font_reader.FontReader.{FontReader}
 use Rattle.types.specs.declared.glyph_reader.GlyphReader.{GlyphReader}
@@ -26,7 +27,7 @@ use Rattle.glyph_renderer.proofs.RunReadsLaws.{first-place, next-place,
 -- a pair that leads to pixels
 paired : (r : RunsRead) (rest : Runs → Pixels) (ps : List ℕ) → onPair rest r ≡ pixels ps → (q : Runs) × ((r ≡ Pair q) × (rest q ≡ pixels ps))
 paired (Pair q) rest ps e = (q, (refl, e))
-paired Ends rest ps e = let z : _≡_ {A = ℕ} 0 1 = cc in absurd (omega arith)
+paired Ends rest ps e = impossible cc
 
 module _ {font : List ℕ} {m0 m1 n : ℕ} {ps : List ℕ} {runs : Runs} {offset i : ℕ} (s : Stands font m0 m1 n ps runs offset i) where
   -- The pixel at which it stands.
@@ -74,7 +75,7 @@ module _ {font : List ℕ} {m0 m1 n : ℕ} {ps : List ℕ} {runs : Runs} {offset
 
 whole : (r : Pixels) → isWhole r ≡ true → r ≡ pixels (pixelList r)
 whole (pixels ps) e = refl
-whole cut e = let z : _≡_ {A = ℕ} 0 1 = cc in absurd (omega arith)
+whole cut e = impossible cc
 
 module _ (font : List ℕ) (head : FontReader) (g : GlyphReader) (e : head ≡ header font) (w : isWhole (glyphPixels font head g) ≡ true) where
   pub whole-pixels : glyphPixels font head g ≡ pixels (pixelsOf (u8g2 font) g)

@@ -11,6 +11,7 @@ use lib.ListN.{length}
 use lib.Signed.{_≤ℤ_}
 use mir.Syntax.{w8, w32}
 use mir.Val.{SFits}
+use Rattle.integers.proofs.Choices.{impossible}
 use Rattle.integers.specs.Integers.{pick}
 use Rattle.integers.proofs.Laws.{zarith, plus, minus, neg, range}
 use Rattle.types.specs.declared.geometry.BoundingBox.the-variants.{None, Some}
@@ -199,4 +200,4 @@ module _ {answers : ℕ → Answer} (small : (c : ℕ) (g : GlyphReader) → ans
         by false p nothing f e =
             let same : d ≡ next = cc in
             subst (Within lineHeight (at + n) cs) same record { advance = advanced-nothing some (w .advance) p; box = w .box }
-        by false p (stops m k) f e = let z : _≡_ {A = ℕ} 0 1 = cc in absurd (omega arith)
+        by false p (stops m k) f e = impossible cc

@@ -10,6 +10,7 @@ use lib.IntN.{ℤ, pos, negsuc, _+ℤ_, _-ℤ_}
 use lib.Signed.{_≤ℤ_}
 use mir.Syntax.{w32}
 use mir.Val.{SFits}
+use Rattle.integers.proofs.Choices.{impossible}
 use Rattle.integers.specs.Integers.{pick, minZ}
 use Rattle.integers.proofs.Laws.{zarith, plus, minus, neg, min-is, max-is}
 use Rattle.types.specs.declared.geometry.BoundingBox.{BoundingBox}
@@ -179,4 +180,4 @@ module _ {answers : ℕ → Answer} (small : (c : ℕ) (g : GlyphReader) → ans
             let same : s ≡ next = cc in
             subst (InLines lineHeight (at + n) cs) same
             record { advance = advanced-nothing some (w .advance) p; level = w .level; line = w .line; box = w .box }
-        by false p (stops m k) f e = let z : _≡_ {A = ℕ} 0 1 = cc in absurd (omega arith)
+        by false p (stops m k) f e = impossible cc

@@ -7,6 +7,7 @@ use Prim.Native.Nat.{ℕ, _+_, _≤_}
 use native.Mathlib.Omega.{arith}
 use lib.Dec.{eqb}
 use lib.ListN.{length, drop}
+use Rattle.integers.proofs.Choices.{impossible}
 use Rattle.integers.specs.Integers.{pick}
 use Rattle.types.specs.declared.font_reader.FontReader.{FontReader}
 use Rattle.types.specs.declared.geometry.Point.{Point}
@@ -32,8 +33,8 @@ shown-glyph skip (success h) g e = cc
 shown-glyph skip (refused n c) g e = by (skip && eqb n 7) e
   where
     by : (t : Bool) → pick t nothing (stops n c) ≡ shows g → refused n c ≡ success g
-    by true e = let z : _≡_ {A = ℕ} 0 1 = cc in absurd (omega arith)
-    by false e = let z : _≡_ {A = ℕ} 0 1 = cc in absurd (omega arith)
+    by true e = impossible cc
+    by false e = impossible cc
 
 pub measured-small : {font : List ℕ} {head : FontReader} → Opened font head → (skip : Bool) (c : ℕ) (g : GlyphReader) → measuredAnswer (u8g2 font) skip c ≡ shows g → Small g
 measured-small {font} {head} o skip c g e = in-range-small (glyph-range font head c g o (shown-glyph skip (glyph font c) g e))

@@ -3,21 +3,21 @@ use mathlib.Core.Path.{_≡_, refl, sym, subst, _∙_}
 use mathlib.Core.Bool.{Bool, true, false, _&&_}
 use mathlib.Core.List.{List, [], _∷_, _++_}
 use Prim.Native.Nat.{ℕ}
-use native.Mathlib.Omega.{arith}
 use lib.Dec.{eqb}
 use borrow.Author.Tests.{eqb-true, eq-eqb}
+use Rattle.integers.proofs.Choices.{impossible}
 use Rattle.pictures.specs.declared.options.Options.{Options}
 use Rattle.pictures.specs.Words.{same, withWord, withWords}
 
 both : (s t : Bool) → (s && t) ≡ true → (s ≡ true) × (t ≡ true)
 both true t e = (refl, e)
-both false t e = let z : _≡_ {A = ℕ} 0 1 = cc in absurd (omega arith)
+both false t e = impossible cc
 
 same-true : (a b : List ℕ) → same a b ≡ true → a ≡ b
 unfolding same
 same-true [] [] e = refl
-same-true [] (y ∷ ys) e = let z : _≡_ {A = ℕ} 0 1 = cc in absurd (omega arith)
-same-true (x ∷ xs) [] e = let z : _≡_ {A = ℕ} 0 1 = cc in absurd (omega arith)
+same-true [] (y ∷ ys) e = impossible cc
+same-true (x ∷ xs) [] e = impossible cc
 same-true (x ∷ xs) (y ∷ ys) e =
     let h = both (eqb x y) (same xs ys) e in
     cc (eqb-true x y (h .0), same-true xs ys (h .1))

@@ -11,6 +11,7 @@ use borrow.Author.Tests.{eqb-false, lt-ltb, le-ltb}
 use lib.Dec.{eqb, ltb}
 use lib.IntN.{pos}
 use lib.ListN.{length}
+use Rattle.integers.proofs.Choices.{impossible}
 use Rattle.integers.specs.Integers.{pick}
 use Rattle.types.specs.declared.geometry.BoundingBox.{BoundingBox}
 use Rattle.types.specs.declared.geometry.BoundingBox.the-variants.{None, Some}
@@ -161,7 +162,7 @@ Early [] = Unit {0}
 Early (c ∷ cs) = (c .number ≤ 6) × Early cs
 
 pub refused-early : (rest : Outcome RenderedDimensions) (cs : List Cause) → Early cs → anyApplies cs ≡ true → taken (unlessRefused cs rest) ≡ false
-refused-early rest [] h e = let z : _≡_ {A = ℕ} 0 1 = cc in absurd (omega arith)
+refused-early rest [] h e = impossible cc
 refused-early rest (c ∷ cs) h e = by (c .applies) refl (refused-early rest cs (h .1))
   where
     by : (t : Bool) → c .applies ≡ t → (anyApplies cs ≡ true → taken (unlessRefused cs rest) ≡ false)

@@ -6,22 +6,10 @@ use Rattle.angles.proofs.AngleLaws.{written-before}
 use Rattle.angles.proofs.put_before.Statement.{statement}
 use Rattle.angles.proofs.put_before.Tie as tie
 
-sub-out : tie.Need-sub-out
-sub-out c = search needs
-
-slice-write-out : tie.Need-slice-write-out
-slice-write-out c = search needs
-
-sub-result : tie.Need-sub-result
-sub-result c = search needs
-
-same-length : tie.Need-same-length
-same-length c = search needs
-
 returns : tie.Need-returns
 returns c =
     let a = c .args in
     (omega arith, written-before (a .out .now) (a .start - 1) (a .byte) (a .start) (omega (arith, c .pre .0)) (omega arith))
 
 pub put-before-spec : {M : Type 1} → statement M
-put-before-spec = tie.close (tie.spec sub-out slice-write-out sub-result same-length returns)
+put-before-spec = tie.close (tie.spec (λ c. search needs) (λ c. search needs) (λ c. search needs) (λ c. search needs) returns)

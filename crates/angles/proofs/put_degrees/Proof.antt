@@ -7,15 +7,6 @@ use Rattle.angles.proofs.AngleLaws.{one-digit, two-digits}
 use Rattle.angles.proofs.put_degrees.Statement.{statement}
 use Rattle.angles.proofs.put_degrees.Tie as tie
 
-digit-of-requires : tie.Need-digit-of-requires
-digit-of-requires c κs = search needs
-
-put-before-requires : tie.Need-put-before-requires
-put-before-requires c κs = search needs
-
-same-length : tie.Need-same-length
-same-length c = search needs
-
 returns : tie.Need-returns
 returns c =
     let s = c .before .before .before .before .before .before .before in
@@ -23,15 +14,6 @@ returns c =
     let p = c .before .before .before .put-before .ensures in
     let d = c .before .before .before .before .digit-of .ensures in
     (omega (arith, p .0), (omega (arith, p .0), p .1 ∙ rw d (sym (one-digit (a .n) (drop (a .start) (a .out .now)) (c .if1 .taken)))))
-
-digit-of-requires-2 : tie.Need-digit-of-requires-2
-digit-of-requires-2 c κs = search needs
-
-put-before-requires-2 : tie.Need-put-before-requires-2
-put-before-requires-2 c κs = search needs
-
-same-length-2 : tie.Need-same-length-2
-same-length-2 c = search needs
 
 returns-2 : tie.Need-returns-2
 returns-2 c =
@@ -47,11 +29,11 @@ pub put-degrees-spec : {M : Type 1} → statement M
 put-degrees-spec =
     tie.close
     (tie.spec
-    digit-of-requires
-    put-before-requires
-    same-length
+    (λ c κs. search needs)
+    (λ c κs. search needs)
+    (λ c. search needs)
     returns
-    digit-of-requires-2
-    put-before-requires-2
-    same-length-2
+    (λ c κs. search needs)
+    (λ c κs. search needs)
+    (λ c. search needs)
     returns-2)

@@ -6,21 +6,6 @@ use lib.ListN.{drop-of-length-le}
 use Rattle.angles.proofs.put_tenths.Statement.{statement}
 use Rattle.angles.proofs.put_tenths.Tie as tie
 
-digit-of-requires : tie.Need-digit-of-requires
-digit-of-requires c κs = search needs
-
-put-before-requires : tie.Need-put-before-requires
-put-before-requires c κs = search needs
-
-put-before-requires-2 : tie.Need-put-before-requires-2
-put-before-requires-2 c κs = search needs
-
-put-degrees-requires : tie.Need-put-degrees-requires
-put-degrees-requires c κs = search needs
-
-same-length : tie.Need-same-length
-same-length c = search needs
-
 returns : tie.Need-returns
 returns c =
     let s = c .before .before .before .before .before .before .before .before .before .before .before .before .before .before in
@@ -39,9 +24,9 @@ pub put-tenths-spec : {M : Type 1} → statement M
 put-tenths-spec =
     tie.close
     (tie.spec
-    digit-of-requires
-    put-before-requires
-    put-before-requires-2
-    put-degrees-requires
-    same-length
+    (λ c κs. search needs)
+    (λ c κs. search needs)
+    (λ c κs. search needs)
+    (λ c κs. search needs)
+    (λ c. search needs)
     returns)

@@ -8,20 +8,11 @@ use Rattle.angles.proofs.AngleLaws.{whole, below-zero, above-zero, at-z
 use Rattle.angles.proofs.write_angle.Statement.{statement}
 use Rattle.angles.proofs.write_angle.Tie as tie
 
-magnitude-requires : tie.Need-magnitude-requires
-magnitude-requires c κs = search needs
-
 put-tenths-requires : tie.Need-put-tenths-requires
 put-tenths-requires c κs =
     let s = c .before .before .before in
     let e = simp (toZ-ofZ, s .fits .tenths) at (c .magnitude .ensures) in
     (s .pre .0, omega (zarith, e, size (s .args .tenths), s .pre .1 .0, s .pre .1 .1))
-
-put-before-requires : tie.Need-put-before-requires
-put-before-requires c κs = search needs
-
-same-length : tie.Need-same-length
-same-length c = search needs
 
 returns : tie.Need-returns
 returns c =
@@ -33,12 +24,6 @@ returns c =
     let p = c .before .before .put-before .ensures in
     (omega (arith, p .0, q .0, q .1 .0), p .1 ∙ below-zero z e t)
 
-put-before-requires-2 : tie.Need-put-before-requires-2
-put-before-requires-2 c κs = search needs
-
-same-length-2 : tie.Need-same-length-2
-same-length-2 c = search needs
-
 returns-2 : tie.Need-returns-2
 returns-2 c =
     let s = c .before .before .before .before .before .before .before .before .before .before .before .before in
@@ -49,9 +34,6 @@ returns-2 c =
     let t = simp (toZ-ofZ, s .fits .tenths) at (c .before .before .before .before .if2 .taken) in
     let p = c .before .before .put-before2 .ensures in
     (omega (arith, p .0, q .0, q .1 .0), p .1 ∙ above-zero z e f t)
-
-same-length-3 : tie.Need-same-length-3
-same-length-3 c = search needs
 
 returns-3 : tie.Need-returns-3
 returns-3 c =
@@ -67,13 +49,13 @@ pub write-angle-spec : {M : Type 1} → statement M
 write-angle-spec =
     tie.close
     (tie.spec
-    magnitude-requires
+    (λ c κs. search needs)
     put-tenths-requires
-    put-before-requires
-    same-length
+    (λ c κs. search needs)
+    (λ c. search needs)
     returns
-    put-before-requires-2
-    same-length-2
+    (λ c κs. search needs)
+    (λ c. search needs)
     returns-2
-    same-length-3
+    (λ c. search needs)
     returns-3)

@@ -7,12 +7,6 @@ use borrow.Author.Needs.{needs}
 use Rattle.c_api.proofs.papayahelm_font_box.Statement.{statement}
 use Rattle.c_api.proofs.papayahelm_font_box.Tie as tie
 
-known-codes-requires : tie.Need-known-codes-requires
-known-codes-requires c κs = search needs
-
-enum-known-m : tie.Need-enum-known-m
-enum-known-m c = search needs
-
 enum-told : tie.Need-enum-told
 enum-told c = search needs
 
@@ -20,17 +14,8 @@ returns : tie.Need-returns
 returns c =
     bad-argument _ _ _ (sym (c .before .before .known-codes .ensures) ∙ c .enum-told .given .1)
 
-get-font-bounding-box-requires : tie.Need-get-font-bounding-box-requires
-get-font-bounding-box-requires c κs = search needs
-
-of-rectangle-requires : tie.Need-of-rectangle-requires
-of-rectangle-requires c κs = search needs
-
 store-requires : tie.Need-store-requires
 store-requires c κs = has-room _ _ _ _ _ _ (sym (c .before .before .before .before .before .before .known-codes .ensures) ∙ c .before .before .before .before .m .given .1)
-
-same-length : tie.Need-same-length
-same-length c = search needs
 
 returns-2 : tie.Need-returns-2
 returns-2 c =
@@ -43,12 +28,12 @@ pub papayahelm-font-box-spec : {M : Type 1} → statement M
 papayahelm-font-box-spec =
     tie.close
     (tie.spec
-    known-codes-requires
-    enum-known-m
+    (λ c κs. search needs)
+    (λ c. search needs)
     enum-told
     returns
-    get-font-bounding-box-requires
-    of-rectangle-requires
+    (λ c κs. search needs)
+    (λ c κs. search needs)
     store-requires
-    same-length
+    (λ c. search needs)
     returns-2)

@@ -9,29 +9,11 @@ use Rattle.c_api.proofs.papayahelm_open.Tie as tie
 returns : tie.Need-returns
 returns c = let h = lt-ltb _ _ (c .if1 .taken) in (simp h, simp h)
 
-new-from-raw-data-requires : tie.Need-new-from-raw-data-requires
-new-from-raw-data-requires c κs = search needs
-
-enum-known-error : tie.Need-enum-known-error
-enum-known-error c = search needs
-
-error-number-requires : tie.Need-error-number-requires
-error-number-requires c κs = search needs
-
-enum-known-head : tie.Need-enum-known-head
-enum-known-head c = search needs
-
-store-header-requires : tie.Need-store-header-requires
-store-header-requires c κs = search needs
-
 returns-2 : tie.Need-returns-2
 returns-2 c =
     let h = le-ltb _ _ (c .before .before .before .before .before .if1 .left) in
     let e = sym (c .before .before .before .before .new-from-raw-data .ensures) ∙ ap fontReaderOutcome (c .before .before .error .given .1) in
     (simp (h, e) (c .error-number .ensures), simp (h, e))
-
-same-length : tie.Need-same-length
-same-length c = search needs
 
 returns-3 : tie.Need-returns-3
 returns-3 c =
@@ -44,11 +26,11 @@ papayahelm-open-spec =
     tie.close
     (tie.spec
     returns
-    new-from-raw-data-requires
-    enum-known-error
-    error-number-requires
-    enum-known-head
-    store-header-requires
+    (λ c κs. search needs)
+    (λ c. search needs)
+    (λ c κs. search needs)
+    (λ c. search needs)
+    (λ c κs. search needs)
     returns-2
-    same-length
+    (λ c. search needs)
     returns-3)

@@ -6,9 +6,6 @@ use Rattle.integers.proofs.Laws.{signed8-whole}
 use Rattle.font_reader.proofs.get_default_line_height.Statement.{statement}
 use Rattle.font_reader.proofs.get_default_line_height.Tie as tie
 
-shared-slice-read-result : tie.Need-shared-slice-read-result
-shared-slice-read-result c = search needs
-
 cast-result : tie.Need-cast-result
 cast-result c = omega (arith, c .shared-slice-known .given 10)
 
@@ -22,4 +19,4 @@ returns c =
 
 pub get-default-line-height-spec : {M : Type 1} → statement M
 get-default-line-height-spec =
-    tie.close (tie.spec shared-slice-read-result cast-result add-result returns)
+    tie.close (tie.spec (λ c. search needs) cast-result add-result returns)

@@ -23,9 +23,6 @@ returns c =
     (λ w. simp (le-ltb _ _ (w .0 .left), w .1 .taken))
     (c .if1 .came)
 
-has-bad-header-requires : tie.Need-has-bad-header-requires
-has-bad-header-requires c κs = search needs
-
 returns-2 : tie.Need-returns-2
 unfolding openFont
 returns-2 c = simp (length-in (c .before .before), sym (c .before .has-bad-header .ensures), c .if3 .taken)
@@ -47,4 +44,4 @@ returns-3 c =
 
 pub new-from-raw-data-spec : {M : Type 1} → statement M
 new-from-raw-data-spec =
-    tie.close (tie.spec returns has-bad-header-requires returns-2 read-header-requires returns-3)
+    tie.close (tie.spec returns (λ c κs. search needs) returns-2 read-header-requires returns-3)

@@ -6,69 +6,6 @@ use borrow.Author.Needs.{needs}
 use Rattle.font_reader.proofs.read_header.Statement.{statement}
 use Rattle.font_reader.proofs.read_header.Tie as tie
 
-shared-slice-read-t3 : tie.Need-shared-slice-read-t3
-shared-slice-read-t3 c = search needs
-
-shared-slice-read-t5 : tie.Need-shared-slice-read-t5
-shared-slice-read-t5 c = search needs
-
-shared-slice-read-t8 : tie.Need-shared-slice-read-t8
-shared-slice-read-t8 c = search needs
-
-shared-slice-read-t10 : tie.Need-shared-slice-read-t10
-shared-slice-read-t10 c = search needs
-
-shared-slice-read-t12 : tie.Need-shared-slice-read-t12
-shared-slice-read-t12 c = search needs
-
-shared-slice-read-t14 : tie.Need-shared-slice-read-t14
-shared-slice-read-t14 c = search needs
-
-shared-slice-read-t16 : tie.Need-shared-slice-read-t16
-shared-slice-read-t16 c = search needs
-
-shared-slice-read-t18 : tie.Need-shared-slice-read-t18
-shared-slice-read-t18 c = search needs
-
-shared-slice-read-t20 : tie.Need-shared-slice-read-t20
-shared-slice-read-t20 c = search needs
-
-i8-at-requires : tie.Need-i8-at-requires
-i8-at-requires c κs = search needs
-
-i8-at-requires-2 : tie.Need-i8-at-requires-2
-i8-at-requires-2 c κs = search needs
-
-i8-at-requires-3 : tie.Need-i8-at-requires-3
-i8-at-requires-3 c κs = search needs
-
-i8-at-requires-4 : tie.Need-i8-at-requires-4
-i8-at-requires-4 c κs = search needs
-
-i8-at-requires-5 : tie.Need-i8-at-requires-5
-i8-at-requires-5 c κs = search needs
-
-i8-at-requires-6 : tie.Need-i8-at-requires-6
-i8-at-requires-6 c κs = search needs
-
-i8-at-requires-7 : tie.Need-i8-at-requires-7
-i8-at-requires-7 c κs = search needs
-
-i8-at-requires-8 : tie.Need-i8-at-requires-8
-i8-at-requires-8 c κs = search needs
-
-u16-at-requires : tie.Need-u16-at-requires
-u16-at-requires c κs = search needs
-
-u16-at-requires-2 : tie.Need-u16-at-requires-2
-u16-at-requires-2 c κs = search needs
-
-u16-at-requires-3 : tie.Need-u16-at-requires-3
-u16-at-requires-3 c κs = search needs
-
-get-default-line-height-requires : tie.Need-get-default-line-height-requires
-get-default-line-height-requires c κs = search needs
-
 returns : tie.Need-returns
 unfolding header
 returns c =
@@ -102,25 +39,25 @@ pub read-header-spec : {M : Type 1} → statement M
 read-header-spec =
     tie.close
     (tie.spec
-    shared-slice-read-t3
-    shared-slice-read-t5
-    shared-slice-read-t8
-    shared-slice-read-t10
-    shared-slice-read-t12
-    shared-slice-read-t14
-    shared-slice-read-t16
-    shared-slice-read-t18
-    shared-slice-read-t20
-    i8-at-requires
-    i8-at-requires-2
-    i8-at-requires-3
-    i8-at-requires-4
-    i8-at-requires-5
-    i8-at-requires-6
-    i8-at-requires-7
-    i8-at-requires-8
-    u16-at-requires
-    u16-at-requires-2
-    u16-at-requires-3
-    get-default-line-height-requires
+    (λ c. search needs)
+    (λ c. search needs)
+    (λ c. search needs)
+    (λ c. search needs)
+    (λ c. search needs)
+    (λ c. search needs)
+    (λ c. search needs)
+    (λ c. search needs)
+    (λ c. search needs)
+    (λ c κs. search needs)
+    (λ c κs. search needs)
+    (λ c κs. search needs)
+    (λ c κs. search needs)
+    (λ c κs. search needs)
+    (λ c κs. search needs)
+    (λ c κs. search needs)
+    (λ c κs. search needs)
+    (λ c κs. search needs)
+    (λ c κs. search needs)
+    (λ c κs. search needs)
+    (λ c κs. search needs)
     returns)

@@ -19,20 +19,11 @@ module _ (c : tie.After-known-told) where
   found-there : lookup (c .before .before .before .before .before .args .font .now) (c .before .before .before .before .before .args .ch) ≡ found start
   found-there = sym (c .before .before .before .search .ensures) ∙ ap searched (c .before .start .given .1)
 
-search-requires : tie.Need-search-requires
-search-requires c κs = search needs
-
-enum-known-start : tie.Need-enum-known-start
-enum-known-start c = search needs
-
 new-requires : tie.Need-new-requires
 new-requires c κs = (c .before .before .before .before .before .pre, search-within _ _ _ (found-there c))
 
 enum-told : tie.Need-enum-told
 enum-told c = search needs
-
-enum-told-2 : tie.Need-enum-told-2
-enum-told-2 c = search needs
 
 returns : tie.Need-returns
 unfolding glyph
@@ -59,11 +50,11 @@ pub retrieve-glyph-data-spec : {M : Type 1} → statement M
 retrieve-glyph-data-spec =
     tie.close
     (tie.spec
-    search-requires
-    enum-known-start
+    (λ c κs. search needs)
+    (λ c. search needs)
     new-requires
     enum-told
-    enum-told-2
+    (λ c. search needs)
     returns
     returns-2
     returns-3)

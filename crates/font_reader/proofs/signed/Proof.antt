@@ -21,15 +21,9 @@ fits8 c = omega (zarith, minus (pos (c .before .args .b)) (pos 256))
 fits16 : (c : tie.Else1) → SFits w16 (pos (c .before .args .b) -ℤ pos 256)
 fits16 c = omega (zarith, minus (pos (c .before .args .b)) (pos 256))
 
-cast-result : tie.Need-cast-result
-cast-result c = search needs
-
 returns : tie.Need-returns
 unfolding signed8
 returns c = simp (lt-ltb _ _ (c .if1 .taken))
-
-cast-result-2 : tie.Need-cast-result-2
-cast-result-2 c = search needs
 
 sub-result : tie.Need-sub-result
 sub-result c = simp (plain c) (fits16 c)
@@ -43,4 +37,4 @@ returns-2 c = simp (le-ltb _ _ (c .if1 .left), plain c, toZ-ofZ, fits16 c, fits8
 
 pub signed-spec : {M : Type 1} → statement M
 signed-spec =
-    tie.close (tie.spec cast-result returns cast-result-2 sub-result cast-result-3 returns-2)
+    tie.close (tie.spec (λ c. search needs) returns (λ c. search needs) sub-result cast-result-3 returns-2)

@@ -40,23 +40,8 @@ last-is c =
     let s = c .before .before .before .before in
     c .min .ensures ∙ simp (end-plain s, wide-plain s) (simp (toZ-ofZ, end-fits s))
 
-max-requires : tie.Need-max-requires
-max-requires c κs = search needs
-
-cast-min : tie.Need-cast-min
-cast-min c = search needs
-
 add-min : tie.Need-add-min
 add-min c = simp (end-plain (c .before .before .before)) (end-fits (c .before .before .before))
-
-cast-min-2 : tie.Need-cast-min-2
-cast-min-2 c = search needs
-
-min-requires : tie.Need-min-requires
-min-requires c κs = search needs
-
-cast-if2 : tie.Need-cast-if2
-cast-if2 c = search needs
 
 -- The tests have been passed: the row is visible.
 clip : (c : tie.Else3)
@@ -157,9 +142,6 @@ write-line-requires c κs =
     let s = e .before .before .before .before .before .before .before in
     line-fits (s .pre) (clip e) (distances d) (seen-length (s .args .color) (s .args .row .now) (s .args .buffer .now) (s .pre) (clip e) (distances d))
 
-same-length : tie.Need-same-length
-same-length c = search needs
-
 returns-3 : tie.Need-returns-3
 returns-3 c =
     let d = c .before .before .before .before in
@@ -172,12 +154,12 @@ pub draw-row-spec : {M : Type 1} → statement M
 draw-row-spec =
     tie.close
     (tie.spec
-    max-requires
-    cast-min
+    (λ c κs. search needs)
+    (λ c. search needs)
     add-min
-    cast-min-2
-    min-requires
-    cast-if2
+    (λ c. search needs)
+    (λ c κs. search needs)
+    (λ c. search needs)
     returns
     returns-2
     distance-requires
@@ -188,5 +170,5 @@ draw-row-spec =
     part-write-line-start
     part-write-line-end
     write-line-requires
-    same-length
+    (λ c. search needs)
     returns-3)

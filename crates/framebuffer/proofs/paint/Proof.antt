@@ -4,12 +4,6 @@ use Rattle.framebuffer.proofs.PaintLaws.{ink, no-ink, foreground, backg
 use Rattle.framebuffer.proofs.paint.Statement.{statement}
 use Rattle.framebuffer.proofs.paint.Tie as tie
 
-enum-known-color : tie.Need-enum-known-color
-enum-known-color c = search needs
-
-enum-known-color-2 : tie.Need-enum-known-color-2
-enum-known-color-2 c = search needs
-
 returns : tie.Need-returns
 returns c = ink _ _ (c .before .before .color .given .1) (c .if1 .taken)
 
@@ -24,4 +18,4 @@ returns-4 c = background _ _ (c .before .before .color2 .given .1) (c .if2 .left
 
 pub paint-spec : {M : Type 1} → statement M
 paint-spec =
-    tie.close (tie.spec enum-known-color enum-known-color-2 returns returns-2 returns-3 returns-4)
+    tie.close (tie.spec (λ c. search needs) (λ c. search needs) returns returns-2 returns-3 returns-4)

@@ -9,30 +9,6 @@ use Rattle.framebuffer.proofs.PartLaws.{row-shown}
 use Rattle.framebuffer.proofs.write_line.Statement.{statement}
 use Rattle.framebuffer.proofs.write_line.Tie as tie
 
-mul-start : tie.Need-mul-start
-mul-start c = search needs
-
-add-start : tie.Need-add-start
-add-start c = search needs
-
-add-end : tie.Need-add-end
-add-end c = search needs
-
-sub-write-row : tie.Need-sub-write-row
-sub-write-row c = search needs
-
-part-write-row-start : tie.Need-part-write-row-start
-part-write-row-start c = search needs
-
-part-write-row-end : tie.Need-part-write-row-end
-part-write-row-end c = search needs
-
-write-row-requires : tie.Need-write-row-requires
-write-row-requires c κs = search needs
-
-same-length : tie.Need-same-length
-same-length c = search needs
-
 returns : tie.Need-returns
 returns c =
     let s = c .before .before .before .before .before .before in
@@ -44,12 +20,12 @@ pub write-line-spec : {M : Type 1} → statement M
 write-line-spec =
     tie.close
     (tie.spec
-    mul-start
-    add-start
-    add-end
-    sub-write-row
-    part-write-row-start
-    part-write-row-end
-    write-row-requires
-    same-length
+    (λ c. search needs)
+    (λ c. search needs)
+    (λ c. search needs)
+    (λ c. search needs)
+    (λ c. search needs)
+    (λ c. search needs)
+    (λ c κs. search needs)
+    (λ c. search needs)
     returns)

@@ -18,33 +18,12 @@ abbrev μ-loop : tie.MeasureT-loop
 loop-holds : tie.Need-loop-holds Inv-loop μ-loop
 loop-holds c = (omega arith, (refl, refl))
 
-shared-slice-read-paint : tie.Need-shared-slice-read-paint Inv-loop μ-loop
-shared-slice-read-paint c = search needs
-
-slice-read-paint : tie.Need-slice-read-paint Inv-loop μ-loop
-slice-read-paint c = search needs
-
-paint-requires : tie.Need-paint-requires Inv-loop μ-loop
-paint-requires c κs = search needs
-
-slice-write-part : tie.Need-slice-write-part Inv-loop μ-loop
-slice-write-part c = search needs
-
-add-i : tie.Need-add-i Inv-loop μ-loop
-add-i c = search needs
-
-loop-less : tie.Need-loop-less Inv-loop μ-loop
-loop-less c = search needs
-
 loop-again : tie.Need-loop-again Inv-loop μ-loop
 loop-again c =
     let a = c .before .before .before .before .before .before .before .args in
     let l = c .before .before .before .before .loop in
     let h : l .i < length (a .part .now) = omega arith in
     (omega arith, (simp length-set (l .inv .1 .0), paint-next (a .color) (a .row .now) (a .part .now) (l .i) h (l .inv .1 .1) (c .paint .ensures)))
-
-same-length : tie.Need-same-length Inv-loop μ-loop
-same-length c = search needs
 
 returns : tie.Need-returns Inv-loop μ-loop
 returns c =
@@ -58,12 +37,12 @@ write-row-spec =
     Inv-loop
     μ-loop
     loop-holds
-    shared-slice-read-paint
-    slice-read-paint
-    paint-requires
-    slice-write-part
-    add-i
-    loop-less
+    (λ c. search needs)
+    (λ c. search needs)
+    (λ c κs. search needs)
+    (λ c. search needs)
+    (λ c. search needs)
+    (λ c. search needs)
     loop-again
-    same-length
+    (λ c. search needs)
     returns)

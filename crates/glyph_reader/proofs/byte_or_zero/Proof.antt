@@ -6,9 +6,6 @@ use borrow.Author.Needs.{needs}
 use Rattle.glyph_reader.proofs.byte_or_zero.Statement.{statement}
 use Rattle.glyph_reader.proofs.byte_or_zero.Tie as tie
 
-shared-slice-read-result : tie.Need-shared-slice-read-result
-shared-slice-read-result c = search needs
-
 cast-result : tie.Need-cast-result
 cast-result c = omega (arith, c .shared-slice-known .given (c .before .before .args .i))
 
@@ -19,4 +16,4 @@ returns-2 : tie.Need-returns-2
 returns-2 c = (sym (List·getD-eq-default (c .before .args .font .now) 0 (c .if1 .left)), omega arith)
 
 pub byte-or-zero-spec : {M : Type 1} → statement M
-byte-or-zero-spec = tie.close (tie.spec shared-slice-read-result cast-result returns returns-2)
+byte-or-zero-spec = tie.close (tie.spec (λ c. search needs) cast-result returns returns-2)

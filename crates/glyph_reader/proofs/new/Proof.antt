@@ -83,15 +83,6 @@ rest5 c d at = success (metrics (w (P2 (P3 (P4 c)))) (h (P3 (P4 c))) (x (P4 c)) 
 
 -- ---- the needs
 
-mul-t16 : tie.Need-mul-t16
-mul-t16 c = search needs
-
-read-unsigned-requires : tie.Need-read-unsigned-requires
-read-unsigned-requires c κs = search needs
-
-enum-known-glyph-width : tie.Need-enum-known-glyph-width
-enum-known-glyph-width c = search needs
-
 enum-told : tie.Need-enum-told
 enum-told c = search needs
 
@@ -103,12 +94,6 @@ read-unsigned-requires-2 : tie.Need-read-unsigned-requires-2
 read-unsigned-requires-2 c κs =
     let next = unsigned-next _ _ _ (c .before .before .before .read-unsigned .ensures) (c .before .glyph-width .given .1) in
     (S1 c .pre .0 .h, (S1 c .pre .0 .most, omega (arith, S1 c .pre .0 .most, next)))
-
-enum-known-glyph-height : tie.Need-enum-known-glyph-height
-enum-known-glyph-height c = search needs
-
-enum-told-2 : tie.Need-enum-told-2
-enum-told-2 c = search needs
 
 left1 : (c : tie.After-known-told) → Whole (S1 c) ≡ rest1 (S1 c) (w c) (c .before .glyph-width .given .0 .1 .0 .«bit_pos»)
 unfolding fields
@@ -122,12 +107,6 @@ read-signed-requires c κs =
     let next = unsigned-next _ _ _ (c .before .before .before .read-unsigned2 .ensures) (c .before .glyph-height .given .1) in
     (S2 c .pre .0 .x, (S2 c .pre .0 .most, omega (arith, S2 c .pre .0 .most, next)))
 
-enum-known-offset-x : tie.Need-enum-known-offset-x
-enum-known-offset-x c = search needs
-
-enum-told-3 : tie.Need-enum-told-3
-enum-told-3 c = search needs
-
 left2 : (c : tie.After-known-told2) → Whole (S2 c) ≡ rest2 (P2 c) (h c) (c .before .glyph-height .given .0 .1 .0 .«bit_pos»)
 left2 c = left1 (P2 c) ∙ unsigned-step _ _ _ (c .before .before .before .read-unsigned2 .ensures) (c .before .glyph-height .given .1) _ (rest2 (P2 c))
 
@@ -139,12 +118,6 @@ read-signed-requires-2 c κs =
     let next = signed-next _ _ _ (c .before .before .before .read-signed .ensures) (c .before .offset-x .given .1) in
     (S3 c .pre .0 .y, (S3 c .pre .0 .most, omega (arith, S3 c .pre .0 .most, next)))
 
-enum-known-offset-y : tie.Need-enum-known-offset-y
-enum-known-offset-y c = search needs
-
-enum-told-4 : tie.Need-enum-told-4
-enum-told-4 c = search needs
-
 left3 : (c : tie.After-known-told3) → Whole (S3 c) ≡ rest3 (P3 c) (x c) (c .before .offset-x .given .0 .1 .0 .«bit_pos»)
 left3 c = left2 (P3 c) ∙ signed-step _ _ _ (c .before .before .before .read-signed .ensures) (c .before .offset-x .given .1) _ (rest3 (P3 c))
 
@@ -155,12 +128,6 @@ read-signed-requires-3 : tie.Need-read-signed-requires-3
 read-signed-requires-3 c κs =
     let next = signed-next _ _ _ (c .before .before .before .read-signed2 .ensures) (c .before .offset-y .given .1) in
     (S4 c .pre .0 .d, (S4 c .pre .0 .most, omega (arith, S4 c .pre .0 .most, next)))
-
-enum-known-advance : tie.Need-enum-known-advance
-enum-known-advance c = search needs
-
-enum-told-5 : tie.Need-enum-told-5
-enum-told-5 c = search needs
 
 left4 : (c : tie.After-known-told4) → Whole (S4 c) ≡ rest4 (P4 c) (y c) (c .before .offset-y .given .0 .1 .0 .«bit_pos»)
 left4 c = left3 (P4 c) ∙ signed-step _ _ _ (c .before .before .before .read-signed2 .ensures) (c .before .offset-y .given .1) _ (rest4 (P4 c))
@@ -182,25 +149,25 @@ pub new-spec : {M : Type 1} → statement M
 new-spec =
     tie.close
     (tie.spec
-    mul-t16
-    read-unsigned-requires
-    enum-known-glyph-width
+    (λ c. search needs)
+    (λ c κs. search needs)
+    (λ c. search needs)
     enum-told
     returns
     read-unsigned-requires-2
-    enum-known-glyph-height
-    enum-told-2
+    (λ c. search needs)
+    (λ c. search needs)
     returns-2
     read-signed-requires
-    enum-known-offset-x
-    enum-told-3
+    (λ c. search needs)
+    (λ c. search needs)
     returns-3
     read-signed-requires-2
-    enum-known-offset-y
-    enum-told-4
+    (λ c. search needs)
+    (λ c. search needs)
     returns-4
     read-signed-requires-3
-    enum-known-advance
-    enum-told-5
+    (λ c. search needs)
+    (λ c. search needs)
     returns-5
     returns-6)

@@ -20,12 +20,6 @@ Inv-loop font head missing₀ runs₀ missing runs =
 abbrev μ-loop : tie.MeasureT-loop
 μ-loop font head missing₀ runs₀ missing runs = 8 * length font - runs .«bit_pos»
 
-cast-missing : tie.Need-cast-missing Inv-loop μ-loop
-cast-missing c = search needs
-
-cast-missing-2 : tie.Need-cast-missing-2 Inv-loop μ-loop
-cast-missing-2 c = search needs
-
 mul-missing : tie.Need-mul-missing Inv-loop μ-loop
 mul-missing c =
     let g = c .before .before .before .args .glyph in
@@ -37,12 +31,6 @@ returns : tie.Need-returns Inv-loop μ-loop
 returns c =
     let a = c .before .before .before .before .args in
     sym (ap isWhole (no-pixels (a .font .now) (a .head) (a .glyph) (c .if1 .taken)))
-
-read-pair-requires : tie.Need-read-pair-requires Inv-loop μ-loop
-read-pair-requires c κs = search needs
-
-enum-known-first : tie.Need-enum-known-first Inv-loop μ-loop
-enum-known-first c = search needs
 
 enum-told : tie.Need-enum-told Inv-loop μ-loop
 enum-told c = search needs
@@ -67,24 +55,6 @@ gives-first c =
     let a = c .before .before .before .before .before .before .before .before .before .args in
     let e = sym (c .before .before .before .before .read-pair .ensures) ∙ c .before .before .first .given .1 in
     ap isWhole (glyph-gives (a .font .now) (a .head) (a .glyph) (c .before .before .before .before .before .if1 .left)) ∙ rw e
-
-count-requires : tie.Need-count-requires Inv-loop μ-loop
-count-requires c κs = search needs
-
-count-requires-2 : tie.Need-count-requires-2 Inv-loop μ-loop
-count-requires-2 c κs = search needs
-
-sub-missing : tie.Need-sub-missing Inv-loop μ-loop
-sub-missing c = search needs
-
-next-pair-requires : tie.Need-next-pair-requires Inv-loop μ-loop
-next-pair-requires c κs = search needs
-
-enum-known-next : tie.Need-enum-known-next Inv-loop μ-loop
-enum-known-next c = search needs
-
-enum-told-2 : tie.Need-enum-told-2 Inv-loop μ-loop
-enum-told-2 c = search needs
 
 returns-3 : tie.Need-returns-3 Inv-loop μ-loop
 returns-3 c =
@@ -121,21 +91,21 @@ check-runs-spec =
     (tie.spec
     Inv-loop
     μ-loop
-    cast-missing
-    cast-missing-2
+    (λ c. search needs)
+    (λ c. search needs)
     mul-missing
     returns
-    read-pair-requires
-    enum-known-first
+    (λ c κs. search needs)
+    (λ c. search needs)
     enum-told
     returns-2
     loop-holds
-    count-requires
-    count-requires-2
-    sub-missing
-    next-pair-requires
-    enum-known-next
-    enum-told-2
+    (λ c κs. search needs)
+    (λ c κs. search needs)
+    (λ c. search needs)
+    (λ c κs. search needs)
+    (λ c. search needs)
+    (λ c. search needs)
     returns-3
     loop-less
     loop-again

@@ -21,9 +21,6 @@ use Rattle.glyph_renderer.proofs.BoxLaws.{box-area, hidden-rows, visibl
 use Rattle.glyph_renderer.proofs.render_glyph.Statement.{statement}
 use Rattle.glyph_renderer.proofs.render_glyph.Tie as tie
 
-enum-known-bounding-box : tie.Need-enum-known-bounding-box
-enum-known-bounding-box c = search needs
-
 enum-told : tie.Need-enum-told
 enum-told c = search needs
 
@@ -70,9 +67,6 @@ returns-2 c =
     let a = s .args in
     sym (hidden-rows (a .buffer .now) (s .pre .1 .1) (a .color) (pixelsOf (u8g2 (a .font .now)) (a .glyph)) (area (q .before)) (rows-are q) (q .get-visible-rows .result .past) (omega arith)) ∙ shows q
 
-cast-seek : tie.Need-cast-seek
-cast-seek c = search needs
-
 -- the first visible row lies in the glyph
 inside : (c : tie.Else1) → let g = c .before .before .before .before .before .before .before .before .before .before .args .glyph in c .before .before .get-visible-rows .result .past ≤ g .«glyph_height»
 inside c =
@@ -112,9 +106,6 @@ draw-rows-requires c κs =
       above = hidden-rows (a .buffer .now) (s .pre .1 .1) (a .color) (pixelsOf (u8g2 (a .font .now)) (a .glyph)) (area (q .before)) (rows-are q) (q .get-visible-rows .result .first) (omega arith);
     }
 
-same-length : tie.Need-same-length
-same-length c = search needs
-
 returns-3 : tie.Need-returns-3
 returns-3 c = c .before .before .draw-rows .ensures ∙ shows (c .before .before .before .before .before .before .before .before .before)
 
@@ -122,14 +113,14 @@ pub render-glyph-spec : {M : Type 1} → statement M
 render-glyph-spec =
     tie.close
     (tie.spec
-    enum-known-bounding-box
+    (λ c. search needs)
     enum-told
     returns
     get-visible-rows-requires
     returns-2
-    cast-seek
+    (λ c. search needs)
     mul-seek
     seek-requires
     draw-rows-requires
-    same-length
+    (λ c. search needs)
     returns-3)

@@ -9,21 +9,6 @@ use Rattle.measure_line.proofs.WriterLaws.{spelled-as, four-words}
 use Rattle.measure_line.proofs.append_rectangle.Statement.{statement}
 use Rattle.measure_line.proofs.append_rectangle.Tie as tie
 
-append-signed-requires : tie.Need-append-signed-requires
-append-signed-requires c κs = search needs
-
-append-signed-requires-2 : tie.Need-append-signed-requires-2
-append-signed-requires-2 c κs = search needs
-
-append-unsigned-requires : tie.Need-append-unsigned-requires
-append-unsigned-requires c κs = search needs
-
-append-unsigned-requires-2 : tie.Need-append-unsigned-requires-2
-append-unsigned-requires-2 c κs = search needs
-
-same-length : tie.Need-same-length
-same-length c = search needs
-
 returns : tie.Need-returns
 returns c =
     let r = c .before .before .before .before .before .before .before .before .before .before .before .before .before .before .before .before .before .before .before .args .r in
@@ -42,9 +27,9 @@ pub append-rectangle-spec : {M : Type 1} → statement M
 append-rectangle-spec =
     tie.close
     (tie.spec
-    append-signed-requires
-    append-signed-requires-2
-    append-unsigned-requires
-    append-unsigned-requires-2
-    same-length
+    (λ c κs. search needs)
+    (λ c κs. search needs)
+    (λ c κs. search needs)
+    (λ c κs. search needs)
+    (λ c. search needs)
     returns)

@@ -7,12 +7,6 @@ use Rattle.measure_line.proofs.WriterLaws.{spelled-as, counted}
 use Rattle.measure_line.proofs.measure_line.Statement.{statement}
 use Rattle.measure_line.proofs.measure_line.Tie as tie
 
-measured-requires : tie.Need-measured-requires
-measured-requires c κs = search needs
-
-result-line-requires : tie.Need-result-line-requires
-result-line-requires c κs = search needs
-
 returns : tie.Need-returns
 unfolding measuringLine
 returns c =
@@ -20,4 +14,4 @@ returns c =
     (counted (omega arith) w, spelled-as (ap outcomeLine (c .before .before .measured .ensures)) w)
 
 pub measure-line-spec : {M : Type 1} → statement M
-measure-line-spec = tie.close (tie.spec measured-requires result-line-requires returns)
+measure-line-spec = tie.close (tie.spec (λ c κs. search needs) (λ c κs. search needs) returns)

@@ -11,18 +11,6 @@ use Rattle.measure_line.proofs.measured.Tie as tie
 returns : tie.Need-returns
 returns c = let a = c .before .before .before .args in sym (font-too-long (a .font .now) (a .text .now) (omega arith))
 
-new-from-raw-data-requires : tie.Need-new-from-raw-data-requires
-new-from-raw-data-requires c κs = search needs
-
-enum-known-error : tie.Need-enum-known-error
-enum-known-error c = search needs
-
-enum-known-head : tie.Need-enum-known-head
-enum-known-head c = search needs
-
-get-rendered-dimensions-requires : tie.Need-get-rendered-dimensions-requires
-get-rendered-dimensions-requires c κs = search needs
-
 returns-2 : tie.Need-returns-2
 returns-2 c =
     let a = c .before .before .before .before .before .before .before .args in
@@ -44,9 +32,9 @@ measured-spec =
     tie.close
     (tie.spec
     returns
-    new-from-raw-data-requires
-    enum-known-error
-    enum-known-head
-    get-rendered-dimensions-requires
+    (λ c κs. search needs)
+    (λ c. search needs)
+    (λ c. search needs)
+    (λ c κs. search needs)
     returns-2
     returns-3)

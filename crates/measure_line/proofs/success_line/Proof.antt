@@ -8,27 +8,6 @@ use Rattle.measure_line.proofs.WriterLaws.{spelled-as, success-ends}
 use Rattle.measure_line.proofs.success_line.Statement.{statement}
 use Rattle.measure_line.proofs.success_line.Tie as tie
 
-slice-aggregate-append : tie.Need-slice-aggregate-append
-slice-aggregate-append c = search needs
-
-append-requires : tie.Need-append-requires
-append-requires c κs = search needs
-
-append-signed-requires : tie.Need-append-signed-requires
-append-signed-requires c κs = search needs
-
-append-signed-requires-2 : tie.Need-append-signed-requires-2
-append-signed-requires-2 c κs = search needs
-
-append-bounding-box-requires : tie.Need-append-bounding-box-requires
-append-bounding-box-requires c κs = search needs
-
-slice-aggregate-append-2 : tie.Need-slice-aggregate-append-2
-slice-aggregate-append-2 c = search needs
-
-append-requires-2 : tie.Need-append-requires-2
-append-requires-2 c κs = search needs
-
 returns : tie.Need-returns
 returns c =
     let d = c .before .before .before .before .before .before .before .before .before .before .before .before .before .before .args .d in
@@ -46,11 +25,11 @@ pub success-line-spec : {M : Type 1} → statement M
 success-line-spec =
     tie.close
     (tie.spec
-    slice-aggregate-append
-    append-requires
-    append-signed-requires
-    append-signed-requires-2
-    append-bounding-box-requires
-    slice-aggregate-append-2
-    append-requires-2
+    (λ c. search needs)
+    (λ c κs. search needs)
+    (λ c κs. search needs)
+    (λ c κs. search needs)
+    (λ c κs. search needs)
+    (λ c. search needs)
+    (λ c κs. search needs)
     returns)

@@ -4,21 +4,6 @@ use borrow.Author.Needs.{needs}
 use Rattle.utils.proofs.combine_bounding_boxes.Statement.{statement}
 use Rattle.utils.proofs.combine_bounding_boxes.Tie as tie
 
-enum-known-bb1 : tie.Need-enum-known-bb1
-enum-known-bb1 c = search needs
-
-enum-told : tie.Need-enum-told
-enum-told c = search needs
-
-returns : tie.Need-returns
-returns c = search needs
-
-enum-known-bb2 : tie.Need-enum-known-bb2
-enum-known-bb2 c = search needs
-
-enum-told-2 : tie.Need-enum-told-2
-enum-told-2 c = search needs
-
 returns-2 : tie.Need-returns-2
 returns-2 c = simp (c .before .before .before .bb1 .given .1, c .enum-told2 .given .1)
 
@@ -34,11 +19,11 @@ pub combine-bounding-boxes-spec : {M : Type 1} → statement M
 combine-bounding-boxes-spec =
     tie.close
     (tie.spec
-    enum-known-bb1
-    enum-told
-    returns
-    enum-known-bb2
-    enum-told-2
+    (λ c. search needs)
+    (λ c. search needs)
+    (λ c. search needs)
+    (λ c. search needs)
+    (λ c. search needs)
     returns-2
     combine-rectangles-requires
     returns-3)

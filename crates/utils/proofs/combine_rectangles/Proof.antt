@@ -8,18 +8,6 @@ use borrow.Author.Needs.{needs}
 use Rattle.utils.proofs.combine_rectangles.Statement.{statement}
 use Rattle.utils.proofs.combine_rectangles.Tie as tie
 
-min-requires : tie.Need-min-requires
-min-requires c κs = search needs
-
-min-requires-2 : tie.Need-min-requires-2
-min-requires-2 c κs = search needs
-
-span-length-requires : tie.Need-span-length-requires
-span-length-requires c κs = search needs
-
-span-length-requires-2 : tie.Need-span-length-requires-2
-span-length-requires-2 c κs = search needs
-
 returns : tie.Need-returns
 returns c =
     let s = c .before .before .before .before .before .before .before .before .before .before .before .before .before .before .before .before in
@@ -36,4 +24,4 @@ returns c =
 pub combine-rectangles-spec : {M : Type 1} → statement M
 combine-rectangles-spec =
     tie.close
-    (tie.spec min-requires min-requires-2 span-length-requires span-length-requires-2 returns)
+    (tie.spec (λ c κs. search needs) (λ c κs. search needs) (λ c κs. search needs) (λ c κs. search needs) returns)

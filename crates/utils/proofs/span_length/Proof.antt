@@ -40,12 +40,6 @@ cast-max-2 c = let l = length-below (c .pre .1) in search needs
 add-max-2 : tie.Need-add-max-2
 add-max-2 c = simp (end-stored (c .pre .1) (c .fits .start2)) (end-fits (c .pre .1))
 
-max-requires : tie.Need-max-requires
-max-requires c κs = search needs
-
-min-requires : tie.Need-min-requires
-min-requires c κs = search needs
-
 sub-result : tie.Need-sub-result
 sub-result c = simp (subtracted c) (fits (c .before .before))
 
@@ -65,8 +59,8 @@ span-length-spec =
     add-max
     cast-max-2
     add-max-2
-    max-requires
-    min-requires
+    (λ c κs. search needs)
+    (λ c κs. search needs)
     sub-result
     cast-result
     returns)

@@ -5,11 +5,8 @@ use borrow.Author.Needs.{needs}
 use Rattle.c_api.proofs.header.byte.Statement.{statement}
 use Rattle.c_api.proofs.header.byte.Tie as tie
 
-cast-result : tie.Need-cast-result
-cast-result c = search needs
-
 returns : tie.Need-returns
 returns c = toZ-pos w64 (search needs)
 
 pub byte-spec : {M : Type 1} → statement M
-byte-spec = tie.close (tie.spec cast-result returns)
+byte-spec = tie.close (tie.spec (λ c. search needs) returns)

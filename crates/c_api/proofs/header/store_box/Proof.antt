@@ -9,21 +9,6 @@ use borrow.Author.Needs.{needs}
 use Rattle.c_api.proofs.header.store_box.Statement.{statement}
 use Rattle.c_api.proofs.header.store_box.Tie as tie
 
-small-requires : tie.Need-small-requires
-small-requires c κs = search needs
-
-small-requires-2 : tie.Need-small-requires-2
-small-requires-2 c κs = search needs
-
-small-requires-3 : tie.Need-small-requires-3
-small-requires-3 c κs = search needs
-
-small-requires-4 : tie.Need-small-requires-4
-small-requires-4 c κs = search needs
-
-slice-set-from-font-bounding-box-width : tie.Need-slice-set-from-font-bounding-box-width
-slice-set-from-font-bounding-box-width c = search needs
-
 slice-set-from-font-bounding-box-height : tie.Need-slice-set-from-font-bounding-box-height
 slice-set-from-font-bounding-box-height c = simp length-set (omega (arith, c .before .before .before .before .before .before .before .before .pre))
 
@@ -32,9 +17,6 @@ slice-set-from-font-bounding-box-x-offset c = simp length-set (omega (arith, c .
 
 slice-set-from-font-bounding-box-y-offset : tie.Need-slice-set-from-font-bounding-box-y-offset
 slice-set-from-font-bounding-box-y-offset c = simp length-set (omega (arith, c .before .before .before .before .before .before .before .before .pre))
-
-same-length : tie.Need-same-length
-same-length c = search needs
 
 returns : tie.Need-returns
 returns c =
@@ -50,13 +32,13 @@ pub store-box-spec : {M : Type 1} → statement M
 store-box-spec =
     tie.close
     (tie.spec
-    small-requires
-    small-requires-2
-    small-requires-3
-    small-requires-4
-    slice-set-from-font-bounding-box-width
+    (λ c κs. search needs)
+    (λ c κs. search needs)
+    (λ c κs. search needs)
+    (λ c κs. search needs)
+    (λ c. search needs)
     slice-set-from-font-bounding-box-height
     slice-set-from-font-bounding-box-x-offset
     slice-set-from-font-bounding-box-y-offset
-    same-length
+    (λ c. search needs)
     returns)

@@ -4,21 +4,6 @@ use borrow.Author.Needs.{needs}
 use Rattle.c_api.proofs.header.store_header.Statement.{statement}
 use Rattle.c_api.proofs.header.store_header.Tie as tie
 
-store-widths-requires : tie.Need-store-widths-requires
-store-widths-requires c κs = search needs
-
-store-box-requires : tie.Need-store-box-requires
-store-box-requires c κs = search needs
-
-store-heights-requires : tie.Need-store-heights-requires
-store-heights-requires c κs = search needs
-
-store-offsets-requires : tie.Need-store-offsets-requires
-store-offsets-requires c κs = search needs
-
-same-length : tie.Need-same-length
-same-length c = search needs
-
 returns : tie.Need-returns
 returns c =
     c .before .store-offsets .ensures
@@ -28,9 +13,9 @@ pub store-header-spec : {M : Type 1} → statement M
 store-header-spec =
     tie.close
     (tie.spec
-    store-widths-requires
-    store-box-requires
-    store-heights-requires
-    store-offsets-requires
-    same-length
+    (λ c κs. search needs)
+    (λ c κs. search needs)
+    (λ c κs. search needs)
+    (λ c κs. search needs)
+    (λ c. search needs)
     returns)

@@ -21,21 +21,6 @@ ascent-of-parentheses-fits c = search needs
 descent-of-parentheses-fits : (c : tie.Start) → SFits w8 (c .args .head .«descent_of_parentheses»)
 descent-of-parentheses-fits c = search needs
 
-small-requires : tie.Need-small-requires
-small-requires c κs = search needs
-
-small-requires-2 : tie.Need-small-requires-2
-small-requires-2 c κs = search needs
-
-small-requires-3 : tie.Need-small-requires-3
-small-requires-3 c κs = search needs
-
-small-requires-4 : tie.Need-small-requires-4
-small-requires-4 c κs = search needs
-
-slice-set-from-ascent : tie.Need-slice-set-from-ascent
-slice-set-from-ascent c = search needs
-
 slice-set-from-descent : tie.Need-slice-set-from-descent
 slice-set-from-descent c = simp length-set (omega (arith, c .before .before .before .before .before .before .before .before .pre))
 
@@ -44,9 +29,6 @@ slice-set-from-ascent-of-parentheses c = simp length-set (omega (arith, c .befor
 
 slice-set-from-descent-of-parentheses : tie.Need-slice-set-from-descent-of-parentheses
 slice-set-from-descent-of-parentheses c = simp length-set (omega (arith, c .before .before .before .before .before .before .before .before .pre))
-
-same-length : tie.Need-same-length
-same-length c = search needs
 
 returns : tie.Need-returns
 returns c =
@@ -62,13 +44,13 @@ pub store-heights-spec : {M : Type 1} → statement M
 store-heights-spec =
     tie.close
     (tie.spec
-    small-requires
-    small-requires-2
-    small-requires-3
-    small-requires-4
-    slice-set-from-ascent
+    (λ c κs. search needs)
+    (λ c κs. search needs)
+    (λ c κs. search needs)
+    (λ c κs. search needs)
+    (λ c. search needs)
     slice-set-from-descent
     slice-set-from-ascent-of-parentheses
     slice-set-from-descent-of-parentheses
-    same-length
+    (λ c. search needs)
     returns)

@@ -7,36 +7,6 @@ use borrow.Author.Needs.{needs}
 use Rattle.c_api.proofs.header.store_widths.Statement.{statement}
 use Rattle.c_api.proofs.header.store_widths.Tie as tie
 
-byte-requires : tie.Need-byte-requires
-byte-requires c κs = search needs
-
-flag-requires : tie.Need-flag-requires
-flag-requires c κs = search needs
-
-byte-requires-2 : tie.Need-byte-requires-2
-byte-requires-2 c κs = search needs
-
-byte-requires-3 : tie.Need-byte-requires-3
-byte-requires-3 c κs = search needs
-
-byte-requires-4 : tie.Need-byte-requires-4
-byte-requires-4 c κs = search needs
-
-byte-requires-5 : tie.Need-byte-requires-5
-byte-requires-5 c κs = search needs
-
-byte-requires-6 : tie.Need-byte-requires-6
-byte-requires-6 c κs = search needs
-
-byte-requires-7 : tie.Need-byte-requires-7
-byte-requires-7 c κs = search needs
-
-byte-requires-8 : tie.Need-byte-requires-8
-byte-requires-8 c κs = search needs
-
-slice-set-from-glyph-count : tie.Need-slice-set-from-glyph-count
-slice-set-from-glyph-count c = search needs
-
 slice-set-from-supports-background-color : tie.Need-slice-set-from-supports-background-color
 slice-set-from-supports-background-color c = simp length-set (omega arith)
 
@@ -73,16 +43,16 @@ pub store-widths-spec : {M : Type 1} → statement M
 store-widths-spec =
     tie.close
     (tie.spec
-    byte-requires
-    flag-requires
-    byte-requires-2
-    byte-requires-3
-    byte-requires-4
-    byte-requires-5
-    byte-requires-6
-    byte-requires-7
-    byte-requires-8
-    slice-set-from-glyph-count
+    (λ c κs. search needs)
+    (λ c κs. search needs)
+    (λ c κs. search needs)
+    (λ c κs. search needs)
+    (λ c κs. search needs)
+    (λ c κs. search needs)
+    (λ c κs. search needs)
+    (λ c κs. search needs)
+    (λ c κs. search needs)
+    (λ c. search needs)
     slice-set-from-supports-background-color
     slice-set-from-m0
     slice-set-from-m1

@@ -7,24 +7,6 @@ use borrow.Author.Needs.{needs}
 use Rattle.c_api.proofs.reply.boxed.Statement.{statement}
 use Rattle.c_api.proofs.reply.boxed.Tie as tie
 
-signed-requires : tie.Need-signed-requires
-signed-requires c κs = search needs
-
-signed-requires-2 : tie.Need-signed-requires-2
-signed-requires-2 c κs = search needs
-
-signed-requires-3 : tie.Need-signed-requires-3
-signed-requires-3 c κs = search needs
-
-signed-requires-4 : tie.Need-signed-requires-4
-signed-requires-4 c κs = search needs
-
-unsigned-requires : tie.Need-unsigned-requires
-unsigned-requires c κs = search needs
-
-unsigned-requires-2 : tie.Need-unsigned-requires-2
-unsigned-requires-2 c κs = search needs
-
 returns : tie.Need-returns
 returns c =
     let a : SFits w32 (c .before .before .before .before .before .before .before .before .before .before .args .advance .x) = search needs in
@@ -39,10 +21,10 @@ pub boxed-spec : {M : Type 1} → statement M
 boxed-spec =
     tie.close
     (tie.spec
-    signed-requires
-    signed-requires-2
-    signed-requires-3
-    signed-requires-4
-    unsigned-requires
-    unsigned-requires-2
+    (λ c κs. search needs)
+    (λ c κs. search needs)
+    (λ c κs. search needs)
+    (λ c κs. search needs)
+    (λ c κs. search needs)
+    (λ c κs. search needs)
     returns)

@@ -8,12 +8,6 @@ use borrow.Author.Needs.{needs}
 use Rattle.c_api.proofs.reply.of_bounds.Statement.{statement}
 use Rattle.c_api.proofs.reply.of_bounds.Tie as tie
 
-enum-known-bounding-box : tie.Need-enum-known-bounding-box
-enum-known-bounding-box c = search needs
-
-boxed-requires : tie.Need-boxed-requires
-boxed-requires c κs = search needs
-
 enum-told : tie.Need-enum-told
 enum-told c = search needs
 
@@ -26,12 +20,6 @@ returns-2 c =
     let b : SFits w32 (c .before .before .before .before .before .before .args .advance .y) = search needs in
     simp (stored w64 (c .before .before .signed .ok) (c .before .before .signed .ensures), stored w64 (c .signed2 .ok) (c .signed2 .ensures), c .before .before .before .before .enum-told .given .1) (simp (toZ-ofZ, a, b))
 
-signed-requires : tie.Need-signed-requires
-signed-requires c κs = search needs
-
-signed-requires-2 : tie.Need-signed-requires-2
-signed-requires-2 c κs = search needs
-
 pub of-bounds-spec : {M : Type 1} → statement M
 of-bounds-spec =
-    tie.close (tie.spec enum-known-bounding-box boxed-requires enum-told signed-requires signed-requires-2 returns returns-2)
+    tie.close (tie.spec (λ c. search needs) (λ c κs. search needs) enum-told (λ c κs. search needs) (λ c κs. search needs) returns returns-2)

@@ -6,18 +6,6 @@ use borrow.Author.Needs.{needs}
 use Rattle.c_api.proofs.reply.of_rectangle.Statement.{statement}
 use Rattle.c_api.proofs.reply.of_rectangle.Tie as tie
 
-enum-known-result : tie.Need-enum-known-result
-enum-known-result c = search needs
-
-boxed-requires : tie.Need-boxed-requires
-boxed-requires c κs = search needs
-
-enum-known-result-2 : tie.Need-enum-known-result-2
-enum-known-result-2 c = search needs
-
-of-error-requires : tie.Need-of-error-requires
-of-error-requires c κs = search needs
-
 returns : tie.Need-returns
 returns c = c .boxed .ensures ∙ ap (λ r. boxReply (rectangleOutcome r)) (sym (c .before .before .result .given .1))
 
@@ -28,9 +16,9 @@ pub of-rectangle-spec : {M : Type 1} → statement M
 of-rectangle-spec =
     tie.close
     (tie.spec
-    enum-known-result
-    boxed-requires
-    enum-known-result-2
-    of-error-requires
+    (λ c. search needs)
+    (λ c κs. search needs)
+    (λ c. search needs)
+    (λ c κs. search needs)
     returns
     returns-2)

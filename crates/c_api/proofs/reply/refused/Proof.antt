@@ -5,11 +5,8 @@ use borrow.Author.Needs.{needs}
 use Rattle.c_api.proofs.reply.refused.Statement.{statement}
 use Rattle.c_api.proofs.reply.refused.Tie as tie
 
-unsigned-requires : tie.Need-unsigned-requires
-unsigned-requires c κs = search needs
-
 returns : tie.Need-returns
 returns c = simp (stored w64 (c .unsigned .ok) (c .unsigned .ensures))
 
 pub refused-spec : {M : Type 1} → statement M
-refused-spec = tie.close (tie.spec unsigned-requires returns)
+refused-spec = tie.close (tie.spec (λ c κs. search needs) returns)

@@ -5,9 +5,6 @@ use borrow.Author.Needs.{needs}
 use Rattle.c_api.proofs.reply.store.Statement.{statement}
 use Rattle.c_api.proofs.reply.store.Tie as tie
 
-slice-set-from-code-point : tie.Need-slice-set-from-code-point
-slice-set-from-code-point c = search needs
-
 slice-set-from-x : tie.Need-slice-set-from-x
 slice-set-from-x c = simp length-set (omega arith)
 
@@ -32,14 +29,11 @@ slice-set-from-height c = simp length-set (omega arith)
 same-length : tie.Need-same-length
 same-length c = simp length-set
 
-returns : tie.Need-returns
-returns c = search needs
-
 pub store-spec : {M : Type 1} → statement M
 store-spec =
     tie.close
     (tie.spec
-    slice-set-from-code-point
+    (λ c. search needs)
     slice-set-from-x
     slice-set-from-y
     slice-set-from-boxed
@@ -48,4 +42,4 @@ store-spec =
     slice-set-from-width
     slice-set-from-height
     same-length
-    returns)
+    (λ c. search needs))

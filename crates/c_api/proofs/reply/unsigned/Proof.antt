@@ -5,11 +5,8 @@ use mir.Facts.{toZ-pos}
 use Rattle.c_api.proofs.reply.unsigned.Statement.{statement}
 use Rattle.c_api.proofs.reply.unsigned.Tie as tie
 
-cast-result : tie.Need-cast-result
-cast-result c = search needs
-
 returns : tie.Need-returns
 returns c = toZ-pos w64 (search needs)
 
 pub unsigned-spec : {M : Type 1} → statement M
-unsigned-spec = tie.close (tie.spec cast-result returns)
+unsigned-spec = tie.close (tie.spec (λ c. search needs) returns)

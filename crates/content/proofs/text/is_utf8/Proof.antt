@@ -25,12 +25,6 @@ here c = position _ _ (sym (c .before .before .before .next-char .ensures) ∙ a
 loop-holds : tie.Need-loop-holds Inv-loop μ-loop
 loop-holds c = (omega arith, refl)
 
-next-char-requires : tie.Need-next-char-requires Inv-loop μ-loop
-next-char-requires c κs = search needs
-
-enum-known-next : tie.Need-enum-known-next Inv-loop μ-loop
-enum-known-next c = search needs
-
 enum-told : tie.Need-enum-told Inv-loop μ-loop
 enum-told c = search needs
 
@@ -60,8 +54,8 @@ is-utf8-spec =
     Inv-loop
     μ-loop
     loop-holds
-    next-char-requires
-    enum-known-next
+    (λ c κs. search needs)
+    (λ c. search needs)
     enum-told
     returns
     add-at

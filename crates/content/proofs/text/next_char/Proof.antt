@@ -17,56 +17,11 @@ known : (c : tie.After-row-of) {r : Row} {x : Character} → c .row-of .result �
     → x ≡ firstCharacter (drop (c .before .before .before .before .before .before .args .at) (c .before .before .before .before .before .before .args .text .now))
 known c e = first-by _ _ (c .before .before .before .before .before .before .pre .0) (sym (c .row-of .ensures) ∙ ap asRow e) (c .before .before .before .byte-at .ensures) (c .before .before .byte-at2 .ensures) (c .before .byte-at3 .ensures)
 
-shared-slice-read-lead : tie.Need-shared-slice-read-lead
-shared-slice-read-lead c = search needs
-
-add-byte-at : tie.Need-add-byte-at
-add-byte-at c = search needs
-
-byte-at-requires : tie.Need-byte-at-requires
-byte-at-requires c κs = search needs
-
-add-byte-at-2 : tie.Need-add-byte-at-2
-add-byte-at-2 c = search needs
-
-byte-at-requires-2 : tie.Need-byte-at-requires-2
-byte-at-requires-2 c κs = search needs
-
-add-byte-at-3 : tie.Need-add-byte-at-3
-add-byte-at-3 c = search needs
-
-byte-at-requires-3 : tie.Need-byte-at-requires-3
-byte-at-requires-3 c κs = search needs
-
-row-of-requires : tie.Need-row-of-requires
-row-of-requires c κs = search needs
-
 enum-told : tie.Need-enum-told
 enum-told c = search needs
 
 cast-t18 : tie.Need-cast-t18
 cast-t18 c = omega (arith, c .before .before .before .before .before .before .shared-slice-known2 .given (c .before .before .before .before .before .before .before .before .args .at))
-
-enum-known-row : tie.Need-enum-known-row
-enum-known-row c = search needs
-
-two-bytes-requires : tie.Need-two-bytes-requires
-two-bytes-requires c κs = search needs
-
-enum-known-row-2 : tie.Need-enum-known-row-2
-enum-known-row-2 c = search needs
-
-three-bytes-requires : tie.Need-three-bytes-requires
-three-bytes-requires c κs = search needs
-
-enum-known-row-3 : tie.Need-enum-known-row-3
-enum-known-row-3 c = search needs
-
-four-bytes-requires : tie.Need-four-bytes-requires
-four-bytes-requires c κs = search needs
-
-enum-told-2 : tie.Need-enum-told-2
-enum-told-2 c = search needs
 
 returns : tie.Need-returns
 returns c = known (c .before .before) (c .enum-told .given .1) refl
@@ -87,23 +42,23 @@ pub next-char-spec : {M : Type 1} → statement M
 next-char-spec =
     tie.close
     (tie.spec
-    shared-slice-read-lead
-    add-byte-at
-    byte-at-requires
-    add-byte-at-2
-    byte-at-requires-2
-    add-byte-at-3
-    byte-at-requires-3
-    row-of-requires
+    (λ c. search needs)
+    (λ c. search needs)
+    (λ c κs. search needs)
+    (λ c. search needs)
+    (λ c κs. search needs)
+    (λ c. search needs)
+    (λ c κs. search needs)
+    (λ c κs. search needs)
     enum-told
     cast-t18
-    enum-known-row
-    two-bytes-requires
-    enum-known-row-2
-    three-bytes-requires
-    enum-known-row-3
-    four-bytes-requires
-    enum-told-2
+    (λ c. search needs)
+    (λ c κs. search needs)
+    (λ c. search needs)
+    (λ c κs. search needs)
+    (λ c. search needs)
+    (λ c κs. search needs)
+    (λ c. search needs)
     returns
     returns-2
     returns-3

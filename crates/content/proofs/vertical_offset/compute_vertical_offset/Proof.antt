@@ -66,14 +66,8 @@ cast-total-newline-advance c = omega (zarith, t-limit c)
 enum-told : tie.Need-enum-told
 enum-told c = search needs
 
-enum-told-2 : tie.Need-enum-told-2
-enum-told-2 c = search needs
-
 add-result : tie.Need-add-result
 add-result c = let s = c .before .before in simp (a-read s) (next-fits (s .fits .ascent) (omega arith))
-
-enum-told-3 : tie.Need-enum-told-3
-enum-told-3 c = search needs
 
 add-result-2 : tie.Need-add-result-2
 add-result-2 c = center-read (c .before .before) {k = 1} tt .sum
@@ -92,9 +86,6 @@ add-result-4 c = center-read (c .before .before) tt .lowered
 
 sub-result-2 : tie.Need-sub-result-2
 sub-result-2 c = center-read (c .before .before) tt .offset
-
-enum-told-4 : tie.Need-enum-told-4
-enum-told-4 c = search needs
 
 sub-result-3 : tie.Need-sub-result-3
 sub-result-3 c =
@@ -124,16 +115,16 @@ compute-vertical-offset-spec =
     mul-total-newline-advance
     cast-total-newline-advance
     enum-told
-    enum-told-2
+    (λ c. search needs)
     add-result
-    enum-told-3
+    (λ c. search needs)
     add-result-2
     sub-result
     add-result-3
     div-result
     add-result-4
     sub-result-2
-    enum-told-4
+    (λ c. search needs)
     sub-result-3
     returns
     returns-2

@@ -29,12 +29,6 @@ byte c = unsigned-range (S c .args .font .now) _ _ _ (S c .pre .0 .1) (read c .0
 bounds : (c : tie.After-known-told) → let half = (1 * 2 ^ (S c .args .bits - 1)) % 2 ^ 32 in (half ≤ 128) × (value c ≤ 127 + half)
 bounds c = half-bounds (S c .args .bits) (value c) (S c .pre .0) (small c)
 
-read-unsigned-requires : tie.Need-read-unsigned-requires
-read-unsigned-requires c κs = search needs
-
-enum-known-value : tie.Need-enum-known-value
-enum-known-value c = search needs
-
 enum-told : tie.Need-enum-told
 enum-told c = search needs
 
@@ -43,18 +37,6 @@ unfolding signedRead
 returns c =
     let s = c .before .before .before .before in
     simp (unsigned-ends (readAt (s .args .font .now) (s .args .self .«bit_pos») (s .args .bits)) _ (c .before .before .read-unsigned .ensures) (c .enum-told .given .1))
-
-sub-half : tie.Need-sub-half
-sub-half c = search needs
-
-cast-half : tie.Need-cast-half
-cast-half c = search needs
-
-shl-half : tie.Need-shl-half
-shl-half c = search needs
-
-cast-t10 : tie.Need-cast-t10
-cast-t10 c = search needs
 
 cast-t11 : tie.Need-cast-t11
 cast-t11 c = omega (zarith, bounds c)
@@ -73,14 +55,14 @@ pub read-signed-spec : {M : Type 1} → statement M
 read-signed-spec =
     tie.close
     (tie.spec
-    read-unsigned-requires
-    enum-known-value
+    (λ c κs. search needs)
+    (λ c. search needs)
     enum-told
     returns
-    sub-half
-    cast-half
-    shl-half
-    cast-t10
+    (λ c. search needs)
+    (λ c. search needs)
+    (λ c. search needs)
+    (λ c. search needs)
     cast-t11
     sub-t12
     cast-t13

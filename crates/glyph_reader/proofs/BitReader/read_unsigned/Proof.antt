@@ -9,44 +9,11 @@ use borrow.Author.Needs.{needs}
 use Rattle.glyph_reader.proofs.BitReader.read_unsigned.Statement.{statement}
 use Rattle.glyph_reader.proofs.BitReader.read_unsigned.Tie as tie
 
-add-end : tie.Need-add-end
-add-end c = search needs
-
-mul-if1 : tie.Need-mul-if1
-mul-if1 c = search needs
-
-add-if1 : tie.Need-add-if1
-add-if1 c = search needs
-
 returns : tie.Need-returns
 unfolding unsignedRead
 returns c =
     let s = c .before .before in
     simp (read-ends (s .args .font .now) (s .args .self .«bit_pos») (s .args .bits) (omega arith))
-
-byte-or-zero-requires : tie.Need-byte-or-zero-requires
-byte-or-zero-requires c κs = search needs
-
-add-byte-or-zero : tie.Need-add-byte-or-zero
-add-byte-or-zero c = search needs
-
-byte-or-zero-requires-2 : tie.Need-byte-or-zero-requires-2
-byte-or-zero-requires-2 c κs = search needs
-
-mul-word : tie.Need-mul-word
-mul-word c = search needs
-
-add-word : tie.Need-add-word
-add-word c = search needs
-
-cast-value : tie.Need-cast-value
-cast-value c = search needs
-
-shr-value : tie.Need-shr-value
-shr-value c = search needs
-
-shl-value : tie.Need-shl-value
-shl-value c = search needs
 
 rem-value : tie.Need-rem-value
 rem-value c = power-pos _ (omega arith)
@@ -66,18 +33,18 @@ pub read-unsigned-spec : {M : Type 1} → statement M
 read-unsigned-spec =
     tie.close
     (tie.spec
-    add-end
-    mul-if1
-    add-if1
+    (λ c. search needs)
+    (λ c. search needs)
+    (λ c. search needs)
     returns
-    byte-or-zero-requires
-    add-byte-or-zero
-    byte-or-zero-requires-2
-    mul-word
-    add-word
-    cast-value
-    shr-value
-    shl-value
+    (λ c κs. search needs)
+    (λ c. search needs)
+    (λ c κs. search needs)
+    (λ c. search needs)
+    (λ c. search needs)
+    (λ c. search needs)
+    (λ c. search needs)
+    (λ c. search needs)
     rem-value
     cast-value-2
     returns-2)

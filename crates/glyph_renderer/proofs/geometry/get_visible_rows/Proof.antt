@@ -29,20 +29,11 @@ cast-clamp c = simp (toZ-ofZ, c .fits .top) (wide c)
 sub-clamp : tie.Need-sub-clamp
 sub-clamp c = rw (above-is c) (difference-fits 0 (c .args .top) (omega arith) (c .pre .0))
 
-clamp-requires : tie.Need-clamp-requires
-clamp-requires c κs = search needs
-
-cast-clamp-2 : tie.Need-cast-clamp-2
-cast-clamp-2 c = search needs
-
 cast-clamp-3 : tie.Need-cast-clamp-3
 cast-clamp-3 c = cast-clamp (c .before)
 
 sub-clamp-2 : tie.Need-sub-clamp-2
 sub-clamp-2 c = let s = c .before in rw (below-is s) (difference-fits (s .args .height) (s .args .top) (s .pre .1) (s .pre .0))
-
-clamp-requires-2 : tie.Need-clamp-requires-2
-clamp-requires-2 c κs = search needs
 
 returns : tie.Need-returns
 returns c =
@@ -57,9 +48,9 @@ get-visible-rows-spec =
     (tie.spec
     cast-clamp
     sub-clamp
-    clamp-requires
-    cast-clamp-2
+    (λ c κs. search needs)
+    (λ c. search needs)
     cast-clamp-3
     sub-clamp-2
-    clamp-requires-2
+    (λ c κs. search needs)
     returns)

@@ -71,23 +71,11 @@ pairs-holds c = (c .before .before .before .pre .order, (refl, none-drawn (c .be
 loop-holds : tie.Need-loop-holds Inv-loop μ-loop Inv-pairs μ-pairs
 loop-holds c = (omega arith, (refl, λ old d. d))
 
-count-requires : tie.Need-count-requires Inv-loop μ-loop Inv-pairs μ-pairs
-count-requires c κs = search needs
-
-pixel-requires : tie.Need-pixel-requires Inv-loop μ-loop Inv-pairs μ-pairs
-pixel-requires c κs = search needs
-
 array-write-bits : tie.Need-array-write-bits Inv-loop μ-loop Inv-pairs μ-pairs
 array-write-bits c = omega (arith, here (loop c) .in-row, narrow (start (loop c)))
 
-add-offset : tie.Need-add-offset Inv-loop μ-loop Inv-pairs μ-pairs
-add-offset c = search needs
-
 add-column : tie.Need-add-column Inv-loop μ-loop Inv-pairs μ-pairs
 add-column c = omega (arith, here (loop c) .in-row, narrow (start (loop c)))
-
-cast-glyph-width : tie.Need-cast-glyph-width Inv-loop μ-loop Inv-pairs μ-pairs
-cast-glyph-width c = search needs
 
 array-share-prefix-bits : tie.Need-array-share-prefix-bits Inv-loop μ-loop Inv-pairs μ-pairs
 array-share-prefix-bits c =
@@ -127,17 +115,8 @@ row-drawn c e old d =
     next-row (s .pre) (l .loop .inv .1 .1 old d) (l .loop .inv .0) (omega (arith, x .before .if2 .taken, x .before .before .count .ensures)) _ (x .pixel .ensures) (narrow s) e _
     (c .draw-row .ensures ∙ row-place (s .pre) (l .loop .row) (row-small l) (cells x) (l .loop .buffer))
 
-add-row : tie.Need-add-row Inv-loop μ-loop Inv-pairs μ-pairs
-add-row c = search needs
-
-loop-less : tie.Need-loop-less Inv-loop μ-loop Inv-pairs μ-pairs
-loop-less c = search needs
-
 loop-again : tie.Need-loop-again Inv-loop μ-loop Inv-pairs μ-pairs
 loop-again c = (omega arith, (search needs, row-drawn (c .before .before .before .before) (c .before .before .before .before .before .before .before .before .before .before .before .if3 .taken)))
-
-loop-less-2 : tie.Need-loop-less-2 Inv-loop μ-loop Inv-pairs μ-pairs
-loop-less-2 c = search needs
 
 loop-again-2 : tie.Need-loop-again-2 Inv-loop μ-loop Inv-pairs μ-pairs
 loop-again-2 c =
@@ -145,9 +124,6 @@ loop-again-2 c =
     let l = loop x in
     let s = start l in
     (l .loop .inv .0, (l .loop .inv .1 .0, λ old d. next-column (s .pre) (l .loop .inv .1 .1 old d) (l .loop .inv .0) (omega arith) _ (x .pixel .ensures) (narrow s) (c .if3 .left)))
-
-next-pair-requires : tie.Need-next-pair-requires Inv-loop μ-loop Inv-pairs μ-pairs
-next-pair-requires c κs = search needs
 
 checked-requires : tie.Need-checked-requires Inv-loop μ-loop Inv-pairs μ-pairs
 checked-requires c κs = let l = c .before .before .before in λ e. pair-known (start l .pre) (here l) (l .loop .inv .0) (omega arith) (sym (c .next-pair .ensures) ∙ e)
@@ -163,17 +139,11 @@ pairs-again c =
     let l = c .before .before .before .before in
     (omega arith, (same-size l, next-runs (start l .pre) (here l) (l .loop .inv .0) (omega arith) (sym (c .before .next-pair .ensures) ∙ c .checked .ensures)))
 
-same-length : tie.Need-same-length Inv-loop μ-loop Inv-pairs μ-pairs
-same-length c = search needs
-
 returns : tie.Need-returns Inv-loop μ-loop Inv-pairs μ-pairs
 returns c =
     let o = c .before .before .pairs in
     let e : o .row ≡ c .before .before .before .before .before .before .args .rows .past = omega arith in
     o .inv .1 .1 .buffer ∙ rw e
-
-same-length-2 : tie.Need-same-length-2 Inv-loop μ-loop Inv-pairs μ-pairs
-same-length-2 c = search needs
 
 returns-2 : tie.Need-returns-2 Inv-loop μ-loop Inv-pairs μ-pairs
 returns-2 c =
@@ -192,27 +162,27 @@ draw-rows-spec =
     μ-pairs
     pairs-holds
     loop-holds
-    count-requires
-    pixel-requires
+    (λ c κs. search needs)
+    (λ c κs. search needs)
     array-write-bits
-    add-offset
+    (λ c. search needs)
     add-column
-    cast-glyph-width
+    (λ c. search needs)
     array-share-prefix-bits
     slice-aggregate-draw-row
     cast-draw-row
     add-draw-row
     draw-row-requires
-    add-row
-    loop-less
+    (λ c. search needs)
+    (λ c. search needs)
     loop-again
-    loop-less-2
+    (λ c. search needs)
     loop-again-2
-    next-pair-requires
+    (λ c κs. search needs)
     checked-requires
     pairs-less
     pairs-again
-    same-length
+    (λ c. search needs)
     returns
-    same-length-2
+    (λ c. search needs)
     returns-2)

@@ -11,12 +11,6 @@ use borrow.Author.Tests.{eq-eqb, ne-eqb}
 use Rattle.glyph_renderer.proofs.runs.next_pair.Statement.{statement}
 use Rattle.glyph_renderer.proofs.runs.next_pair.Tie as tie
 
-read-unsigned-requires : tie.Need-read-unsigned-requires
-read-unsigned-requires c κs = search needs
-
-enum-known-repeat : tie.Need-enum-known-repeat
-enum-known-repeat c = search needs
-
 enum-told : tie.Need-enum-told
 enum-told c = search needs
 
@@ -52,8 +46,8 @@ pub next-pair-spec : {M : Type 1} → statement M
 next-pair-spec =
     tie.close
     (tie.spec
-    read-unsigned-requires
-    enum-known-repeat
+    (λ c κs. search needs)
+    (λ c. search needs)
     enum-told
     returns
     returns-2

@@ -9,12 +9,6 @@ use borrow.Author.Needs.{needs}
 use Rattle.glyph_renderer.proofs.runs.read_pair.Statement.{statement}
 use Rattle.glyph_renderer.proofs.runs.read_pair.Tie as tie
 
-read-unsigned-requires : tie.Need-read-unsigned-requires
-read-unsigned-requires c κs = search needs
-
-enum-known-zeros : tie.Need-enum-known-zeros
-enum-known-zeros c = search needs
-
 enum-told : tie.Need-enum-told
 enum-told c = search needs
 
@@ -31,12 +25,6 @@ zeros c = unsigned-value _ _ (c .before .before .before .read-unsigned .ensures)
 
 read-unsigned-requires-2 : tie.Need-read-unsigned-requires-2
 read-unsigned-requires-2 c κs = omega (arith, zeros c .1)
-
-enum-known-ones : tie.Need-enum-known-ones
-enum-known-ones c = search needs
-
-enum-told-2 : tie.Need-enum-told-2
-enum-told-2 c = search needs
 
 returns-2 : tie.Need-returns-2
 unfolding pairAt
@@ -56,12 +44,12 @@ pub read-pair-spec : {M : Type 1} → statement M
 read-pair-spec =
     tie.close
     (tie.spec
-    read-unsigned-requires
-    enum-known-zeros
+    (λ c κs. search needs)
+    (λ c. search needs)
     enum-told
     returns
     read-unsigned-requires-2
-    enum-known-ones
-    enum-told-2
+    (λ c. search needs)
+    (λ c. search needs)
     returns-2
     returns-3)

@@ -18,9 +18,6 @@ Inv-loop font head pixel runs₀ offset₀ runs offset =
 abbrev μ-loop : tie.MeasureT-loop
 μ-loop font head pixel runs₀ offset₀ runs offset = 8 * length font - runs .«bit_pos»
 
-read-pair-requires : tie.Need-read-pair-requires Inv-loop μ-loop
-read-pair-requires c κs = search needs
-
 checked-requires : tie.Need-checked-requires Inv-loop μ-loop
 checked-requires c κs =
     let s = c .before .before in
@@ -37,15 +34,6 @@ standing c =
     c .loop .inv _ _ (s .pre .1)
     (stands-first (s .args .font .now) (s .args .head) (s .args .glyph) (s .pre .0 .opened .read) (s .pre .0 .whole) (s .args .pixel) (s .pre .1)
     (sym (c .before .before .read-pair .ensures) ∙ c .before .checked .ensures))
-
-count-requires : tie.Need-count-requires Inv-loop μ-loop
-count-requires c κs = search needs
-
-count-requires-2 : tie.Need-count-requires-2 Inv-loop μ-loop
-count-requires-2 c κs = search needs
-
-sub-offset : tie.Need-sub-offset Inv-loop μ-loop
-sub-offset c = search needs
 
 next-pair-requires : tie.Need-next-pair-requires Inv-loop μ-loop
 next-pair-requires c κs = let s = standing (c .before .before .before) in search needs
@@ -73,12 +61,12 @@ seek-spec =
     (tie.spec
     Inv-loop
     μ-loop
-    read-pair-requires
+    (λ c κs. search needs)
     checked-requires
     loop-holds
-    count-requires
-    count-requires-2
-    sub-offset
+    (λ c κs. search needs)
+    (λ c κs. search needs)
+    (λ c. search needs)
     next-pair-requires
     checked-requires-2
     loop-less

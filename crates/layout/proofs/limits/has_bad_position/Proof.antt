@@ -6,12 +6,6 @@ use borrow.Author.Needs.{needs}
 use Rattle.layout.proofs.limits.has_bad_position.Statement.{statement}
 use Rattle.layout.proofs.limits.has_bad_position.Tie as tie
 
-has-bad-coordinate-requires : tie.Need-has-bad-coordinate-requires
-has-bad-coordinate-requires c κs = search needs
-
-has-bad-coordinate-requires-2 : tie.Need-has-bad-coordinate-requires-2
-has-bad-coordinate-requires-2 c κs = search needs
-
 returns : tie.Need-returns
 returns c =
     let p = c .before .before .before .before .args .position in
@@ -21,4 +15,4 @@ returns c =
 
 pub has-bad-position-spec : {M : Type 1} → statement M
 has-bad-position-spec =
-    tie.close (tie.spec has-bad-coordinate-requires has-bad-coordinate-requires-2 returns)
+    tie.close (tie.spec (λ c κs. search needs) (λ c κs. search needs) returns)

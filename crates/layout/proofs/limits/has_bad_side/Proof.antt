@@ -3,8 +3,5 @@ use borrow.Author.Needs.{needs}
 use Rattle.layout.proofs.limits.has_bad_side.Statement.{statement}
 use Rattle.layout.proofs.limits.has_bad_side.Tie as tie
 
-returns : tie.Need-returns
-returns c = search needs
-
 pub has-bad-side-spec : {M : Type 1} → statement M
-has-bad-side-spec = tie.close (tie.spec returns)
+has-bad-side-spec = tie.close (tie.spec (λ c. search needs))

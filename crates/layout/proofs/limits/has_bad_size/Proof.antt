@@ -7,14 +7,8 @@ use borrow.Author.Needs.{needs}
 use Rattle.layout.proofs.limits.has_bad_size.Statement.{statement}
 use Rattle.layout.proofs.limits.has_bad_size.Tie as tie
 
-has-bad-side-requires : tie.Need-has-bad-side-requires
-has-bad-side-requires c κs = search needs
-
 returns : tie.Need-returns
 returns c = simp (sym (c .before .has-bad-side .ensures), c .if1 .taken)
-
-has-bad-side-requires-2 : tie.Need-has-bad-side-requires-2
-has-bad-side-requires-2 c κs = search needs
 
 returns-2 : tie.Need-returns-2
 returns-2 c = simp (sym (c .before .before .before .has-bad-side .ensures), c .before .before .if1 .left, sym (c .before .has-bad-side2 .ensures), c .if2 .taken)
@@ -31,4 +25,4 @@ returns-3 c = simp (sym (c .before .before .before .has-bad-side .ensures), c .b
 pub has-bad-size-spec : {M : Type 1} → statement M
 has-bad-size-spec =
     tie.close
-    (tie.spec has-bad-side-requires returns has-bad-side-requires-2 returns-2 mul-result returns-3)
+    (tie.spec (λ c κs. search needs) returns (λ c κs. search needs) returns-2 mul-result returns-3)

@@ -10,8 +10,5 @@ returns-2 c = simp (le-ltb _ _ (c .before .if1 .left), c .is-utf8 .ensures)
 returns : tie.Need-returns
 returns c = simp (lt-ltb _ _ (c .if1 .taken))
 
-is-utf8-requires : tie.Need-is-utf8-requires
-is-utf8-requires c κs = search needs
-
 pub has-bad-text-spec : {M : Type 1} → statement M
-has-bad-text-spec = tie.close (tie.spec returns is-utf8-requires returns-2)
+has-bad-text-spec = tie.close (tie.spec returns (λ c κs. search needs) returns-2)

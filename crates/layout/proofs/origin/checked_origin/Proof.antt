@@ -5,12 +5,6 @@ use borrow.Author.Needs.{needs}
 use Rattle.layout.proofs.origin.checked_origin.Statement.{statement}
 use Rattle.layout.proofs.origin.checked_origin.Tie as tie
 
-has-bad-text-requires : tie.Need-has-bad-text-requires
-has-bad-text-requires c κs = search needs
-
-has-bad-position-requires : tie.Need-has-bad-position-requires
-has-bad-position-requires c κs = search needs
-
 returns : tie.Need-returns
 returns c = simp (sym (c .before .before .has-bad-text .ensures), c .if1 .taken)
 
@@ -31,8 +25,8 @@ pub checked-origin-spec : {M : Type 1} → statement M
 checked-origin-spec =
     tie.close
     (tie.spec
-    has-bad-text-requires
-    has-bad-position-requires
+    (λ c κs. search needs)
+    (λ c κs. search needs)
     returns
     returns-2
     text-origin-requires

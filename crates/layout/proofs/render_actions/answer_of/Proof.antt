@@ -4,15 +4,6 @@ use borrow.Author.Needs.{needs}
 use Rattle.layout.proofs.render_actions.answer_of.Statement.{statement}
 use Rattle.layout.proofs.render_actions.answer_of.Tie as tie
 
-enum-known-lookup : tie.Need-enum-known-lookup
-enum-known-lookup c = search needs
-
-enum-known-lookup-2 : tie.Need-enum-known-lookup-2
-enum-known-lookup-2 c = search needs
-
-skip-unknown-requires : tie.Need-skip-unknown-requires
-skip-unknown-requires c κs = search needs
-
 returns : tie.Need-returns
 returns c = simp (c .before .lookup .given .1)
 
@@ -22,4 +13,4 @@ returns-2 c = c .skip-unknown .ensures ∙ simp (c .before .before .lookup2 .giv
 pub answer-of-spec : {M : Type 1} → statement M
 answer-of-spec =
     tie.close
-    (tie.spec enum-known-lookup enum-known-lookup-2 skip-unknown-requires returns returns-2)
+    (tie.spec (λ c. search needs) (λ c. search needs) (λ c κs. search needs) returns returns-2)

@@ -43,17 +43,11 @@ module _ (c : tie.After-struct-told) where
   negated-fits : SFits w32 (negℤ middle)
   negated-fits = let k = columns in omega (zarith, plus (left box) (pos (box .size .width)), plus (pos (box .size .width / 2)) (left box), neg middle)
 
-enum-known-line-box : tie.Need-enum-known-line-box
-enum-known-line-box c = search needs
-
 enum-told : tie.Need-enum-told
 enum-told c = search needs
 
 returns : tie.Need-returns
 returns c = simp (c .enum-told .given .1)
-
-cast-result : tie.Need-cast-result
-cast-result c = search needs
 
 add-result : tie.Need-add-result
 add-result c = simp (half-is c, toZ-ofZ, left-fits c) (middle-fits c)
@@ -69,4 +63,4 @@ returns-2 c =
 pub compute-center-offset-spec : {M : Type 1} → statement M
 compute-center-offset-spec =
     tie.close
-    (tie.spec enum-known-line-box enum-told returns cast-result add-result sub-result returns-2)
+    (tie.spec (λ c. search needs) enum-told returns (λ c. search needs) add-result sub-result returns-2)

@@ -32,15 +32,6 @@ center-is (Some r) advance = refl
 enum-told : tie.Need-enum-told
 enum-told c = search needs
 
-enum-told-2 : tie.Need-enum-told-2
-enum-told-2 c = search needs
-
-compute-center-offset-requires : tie.Need-compute-center-offset-requires
-compute-center-offset-requires c κs = search needs
-
-enum-told-3 : tie.Need-enum-told-3
-enum-told-3 c = search needs
-
 sub-result : tie.Need-sub-result
 sub-result c = let s = c .before .before in simp (toZ-ofZ, s .fits .advance) (last-fits s)
 
@@ -67,9 +58,9 @@ compute-horizontal-offset-spec =
     tie.close
     (tie.spec
     enum-told
-    enum-told-2
-    compute-center-offset-requires
-    enum-told-3
+    (λ c. search needs)
+    (λ c κs. search needs)
+    (λ c. search needs)
     sub-result
     sub-result-2
     returns

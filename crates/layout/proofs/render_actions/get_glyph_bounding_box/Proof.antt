@@ -25,18 +25,6 @@ returns-2 c =
 returns : tie.Need-returns
 returns c = simp (c .if1 .taken)
 
-moved-requires : tie.Need-moved-requires
-moved-requires c κs = search needs
-
-top-requires : tie.Need-top-requires
-top-requires c κs = search needs
-
-cast-t10 : tie.Need-cast-t10
-cast-t10 c = search needs
-
-cast-t11 : tie.Need-cast-t11
-cast-t11 c = search needs
-
 pub get-glyph-bounding-box-spec : {M : Type 1} → statement M
 get-glyph-bounding-box-spec =
-    tie.close (tie.spec returns moved-requires top-requires cast-t10 cast-t11 returns-2)
+    tie.close (tie.spec returns (λ c κs. search needs) (λ c κs. search needs) (λ c. search needs) (λ c. search needs) returns-2)

@@ -21,9 +21,6 @@ module _ (c : tie.Start) where
       omega
       (zarith, plus (pos (c .args .height)) (c .args .offset-y), minus (c .args .y) (pos (c .args .height) +ℤ c .args .offset-y), range (c .fits .offset-y))
 
-cast-result : tie.Need-cast-result
-cast-result c = search needs
-
 cast-result-2 : tie.Need-cast-result-2
 cast-result-2 c = simp (toZ-ofZ, c .fits .offset-y) (widens (c .fits .offset-y))
 
@@ -37,4 +34,4 @@ returns : tie.Need-returns
 returns c = simp (height-is c, widened (c .fits .offset-y), toZ-ofZ, c .fits .y, sum-fits c, top-fits c)
 
 pub top-spec : {M : Type 1} → statement M
-top-spec = tie.close (tie.spec cast-result cast-result-2 add-result sub-result returns)
+top-spec = tie.close (tie.spec (λ c. search needs) cast-result-2 add-result sub-result returns)

@@ -6,18 +6,6 @@ use Rattle.definitions.specs.Text.{answer}
 use Rattle.layout.proofs.render_actions.try_retrieve_glyph_data.Statement.{statement}
 use Rattle.layout.proofs.render_actions.try_retrieve_glyph_data.Tie as tie
 
-retrieve-glyph-data-requires : tie.Need-retrieve-glyph-data-requires
-retrieve-glyph-data-requires c κs = search needs
-
-enum-known-lookup : tie.Need-enum-known-lookup
-enum-known-lookup c = search needs
-
-enum-told : tie.Need-enum-told
-enum-told c = search needs
-
-answer-of-requires : tie.Need-answer-of-requires
-answer-of-requires c κs = search needs
-
 returns : tie.Need-returns
 returns c = c .answer-of .ensures ∙ ap (answer _) (c .before .before .before .retrieve-glyph-data .ensures)
 
@@ -29,4 +17,4 @@ returns-2 c =
 pub try-retrieve-glyph-data-spec : {M : Type 1} → statement M
 try-retrieve-glyph-data-spec =
     tie.close
-    (tie.spec retrieve-glyph-data-requires enum-known-lookup enum-told answer-of-requires returns returns-2)
+    (tie.spec (λ c κs. search needs) (λ c. search needs) (λ c. search needs) (λ c κs. search needs) returns returns-2)

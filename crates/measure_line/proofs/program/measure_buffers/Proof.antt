@@ -6,15 +6,6 @@ use Rattle.measure_line.proofs.WriterLaws.{spelled-as}
 use Rattle.measure_line.proofs.program.measure_buffers.Statement.{statement}
 use Rattle.measure_line.proofs.program.measure_buffers.Tie as tie
 
-slice-aggregate-measure-line : tie.Need-slice-aggregate-measure-line
-slice-aggregate-measure-line c = search needs
-
-slice-aggregate-measure-line-2 : tie.Need-slice-aggregate-measure-line-2
-slice-aggregate-measure-line-2 c = search needs
-
-measure-line-requires : tie.Need-measure-line-requires
-measure-line-requires c κs = search needs
-
 returns : tie.Need-returns
 returns c =
     let a = c .before .before .before .before .before .before .args in
@@ -25,7 +16,7 @@ pub measure-buffers-spec : {M : Type 1} → statement M
 measure-buffers-spec =
     tie.close
     (tie.spec
-    slice-aggregate-measure-line
-    slice-aggregate-measure-line-2
-    measure-line-requires
+    (λ c. search needs)
+    (λ c. search needs)
+    (λ c κs. search needs)
     returns)

@@ -7,20 +7,8 @@ use Rattle.measure_line.proofs.WriterLaws.{spelled-as}
 use Rattle.measure_line.proofs.writer.append_decimal.Statement.{statement}
 use Rattle.measure_line.proofs.writer.append_decimal.Tie as tie
 
-decimal-requires : tie.Need-decimal-requires
-decimal-requires c κs = search needs
-
-array-share-prefix-digits : tie.Need-array-share-prefix-digits
-array-share-prefix-digits c = search needs
-
-slice-aggregate-append : tie.Need-slice-aggregate-append
-slice-aggregate-append c = search needs
-
 append-requires : tie.Need-append-requires
 append-requires c κs = let k = c .before .before .decimal in omega (arith, at-most-ten (k .result) (c .before .before .before .before .before .args .n) (search needs) (k .ensures .1 .0))
-
-same-length : tie.Need-same-length
-same-length c = search needs
 
 returns : tie.Need-returns
 returns c =
@@ -35,9 +23,9 @@ pub append-decimal-spec : {M : Type 1} → statement M
 append-decimal-spec =
     tie.close
     (tie.spec
-    decimal-requires
-    array-share-prefix-digits
-    slice-aggregate-append
+    (λ c κs. search needs)
+    (λ c. search needs)
+    (λ c. search needs)
     append-requires
-    same-length
+    (λ c. search needs)
     returns)

@@ -11,21 +11,6 @@ use Rattle.measure_line.proofs.WriterLaws.{then, spelled-as}
 use Rattle.measure_line.proofs.writer.append_signed.Statement.{statement}
 use Rattle.measure_line.proofs.writer.append_signed.Tie as tie
 
-slice-aggregate-append : tie.Need-slice-aggregate-append
-slice-aggregate-append c = search needs
-
-append-requires : tie.Need-append-requires
-append-requires c κs = search needs
-
-magnitude-requires : tie.Need-magnitude-requires
-magnitude-requires c κs = search needs
-
-append-decimal-requires : tie.Need-append-decimal-requires
-append-decimal-requires c κs = search needs
-
-same-length : tie.Need-same-length
-same-length c = search needs
-
 returns : tie.Need-returns
 returns c =
     let k = c .before .before .before .before .before .before .before .before .before .before .before .before in
@@ -36,15 +21,6 @@ returns c =
       spelled-as (ap (λ (n : ℕ). 32 ∷ 45 ∷ decimal n) size ∙ ap (λ (l : List ℕ). 32 ∷ l) (sym (minus-sign (k .args .n) sign)))
           (then (omega arith) (c .before .before .before .before .before .before .before .append .ensures) (c .before .before .append-decimal .ensures .1)),
     )
-
-magnitude-requires-2 : tie.Need-magnitude-requires-2
-magnitude-requires-2 c κs = search needs
-
-append-unsigned-requires : tie.Need-append-unsigned-requires
-append-unsigned-requires c κs = search needs
-
-same-length-2 : tie.Need-same-length-2
-same-length-2 c = search needs
 
 returns-2 : tie.Need-returns-2
 returns-2 c =
@@ -60,13 +36,13 @@ pub append-signed-spec : {M : Type 1} → statement M
 append-signed-spec =
     tie.close
     (tie.spec
-    slice-aggregate-append
-    append-requires
-    magnitude-requires
-    append-decimal-requires
-    same-length
+    (λ c. search needs)
+    (λ c κs. search needs)
+    (λ c κs. search needs)
+    (λ c κs. search needs)
+    (λ c. search needs)
     returns
-    magnitude-requires-2
-    append-unsigned-requires
-    same-length-2
+    (λ c κs. search needs)
+    (λ c κs. search needs)
+    (λ c. search needs)
     returns-2)

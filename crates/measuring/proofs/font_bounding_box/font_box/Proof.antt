@@ -14,9 +14,6 @@ use Rattle.definitions.proofs.VerticalOffsetLaws.{offset-bounds}
 use Rattle.measuring.proofs.font_bounding_box.font_box.Statement.{statement}
 use Rattle.measuring.proofs.font_bounding_box.font_box.Tie as tie
 
-compute-vertical-offset-requires : tie.Need-compute-vertical-offset-requires
-compute-vertical-offset-requires c κs = search needs
-
 -- where the baseline is known
 module _ (c : tie.After-compute-vertical-offset) where
   abbrev head : FontReader
@@ -60,9 +57,6 @@ cast-t4 c = let f = x-fits (c .before .before) in simp (toZ-ofZ, f) (widens f)
 box-top-requires : tie.Need-box-top-requires
 box-top-requires c κs = let k = c .before .before .before .before in simp (baseline k) (near k)
 
-side-requires : tie.Need-side-requires
-side-requires c κs = search needs
-
 side-requires-2 : tie.Need-side-requires-2
 side-requires-2 c κs =
     let k = c .before .before .before .before .before .before .before .before in
@@ -80,9 +74,9 @@ pub font-box-spec : {M : Type 1} → statement M
 font-box-spec =
     tie.close
     (tie.spec
-    compute-vertical-offset-requires
+    (λ c κs. search needs)
     cast-t4
     box-top-requires
-    side-requires
+    (λ c κs. search needs)
     side-requires-2
     returns)

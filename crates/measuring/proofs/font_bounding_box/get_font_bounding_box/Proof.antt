@@ -20,15 +20,6 @@ module _ (c : tie.After-known-told2) where
   limits : Opened (c .before .before .before .before .before .args .font .now) head
   limits = opened _ head opens
 
-new-from-raw-data-requires : tie.Need-new-from-raw-data-requires
-new-from-raw-data-requires c κs = search needs
-
-enum-known-error : tie.Need-enum-known-error
-enum-known-error c = search needs
-
-enum-known-head : tie.Need-enum-known-head
-enum-known-head c = search needs
-
 font-box-requires : tie.Need-font-box-requires
 font-box-requires c κs = (limits c .width, limits c .height)
 
@@ -50,4 +41,4 @@ returns-2 c =
 pub get-font-bounding-box-spec : {M : Type 1} → statement M
 get-font-bounding-box-spec =
     tie.close
-    (tie.spec new-from-raw-data-requires enum-known-error enum-known-head font-box-requires returns returns-2)
+    (tie.spec (λ c κs. search needs) (λ c. search needs) (λ c. search needs) font-box-requires returns returns-2)

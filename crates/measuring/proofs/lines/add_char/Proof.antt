@@ -13,23 +13,11 @@ use Rattle.measuring.proofs.LineLaws.{answer-room}
 use Rattle.measuring.proofs.lines.add_char.Statement.{statement}
 use Rattle.measuring.proofs.lines.add_char.Tie as tie
 
-add-newline-requires : tie.Need-add-newline-requires
-add-newline-requires c κs = search needs
-
 returns : tie.Need-returns
 returns c = simp (c .add-newline .ensures, eq-eqb _ _ (c .before .if1 .taken))
 
-try-retrieve-glyph-data-requires : tie.Need-try-retrieve-glyph-data-requires
-try-retrieve-glyph-data-requires c κs = search needs
-
 add-answer-requires : tie.Need-add-answer-requires
 add-answer-requires c κs = answer-room (c .before .before .before .before .pre .1 .0)
-
-enum-known-error : tie.Need-enum-known-error
-enum-known-error c = search needs
-
-enum-known-line : tie.Need-enum-known-line
-enum-known-line c = search needs
 
 -- the letter is added to the line
 module _ (c : tie.After-add-answer) where
@@ -55,11 +43,11 @@ pub add-char-spec : {M : Type 1} → statement M
 add-char-spec =
     tie.close
     (tie.spec
-    add-newline-requires
+    (λ c κs. search needs)
     returns
-    try-retrieve-glyph-data-requires
+    (λ c κs. search needs)
     add-answer-requires
-    enum-known-error
-    enum-known-line
+    (λ c. search needs)
+    (λ c. search needs)
     returns-2
     returns-3)

@@ -20,19 +20,10 @@ module _ (c : tie.Start) where
   sum-fits : SFits w32 (c .args .state .«advance_y» +ℤ pos (c .args .line-height))
   sum-fits = let y = c .pre .0 .y in omega (zarith, plus (c .args .state .«advance_y») (pos (c .args .line-height)))
 
-empty-line-requires : tie.Need-empty-line-requires
-empty-line-requires c κs = search needs
-
-cast-t6 : tie.Need-cast-t6
-cast-t6 c = search needs
-
 add-t7 : tie.Need-add-t7
 add-t7 c =
     let s = c .before .before .before in
     simp (line-is s, toZ-ofZ, y-fits s) (sum-fits s)
-
-end-line-requires : tie.Need-end-line-requires
-end-line-requires c κs = search needs
 
 returns : tie.Need-returns
 returns c =
@@ -40,4 +31,4 @@ returns c =
     simp (line-is s, toZ-ofZ, y-fits s, sum-fits s, c .before .before .before .empty-line .ensures, c .end-line .ensures)
 
 pub add-newline-spec : {M : Type 1} → statement M
-add-newline-spec = tie.close (tie.spec empty-line-requires cast-t6 add-t7 end-line-requires returns)
+add-newline-spec = tie.close (tie.spec (λ c κs. search needs) (λ c. search needs) add-t7 (λ c κs. search needs) returns)

@@ -45,24 +45,6 @@ module _ (c : tie.After-known-told4) where
   passes : tested (entry font-known .args .font .now) (opens font-known) (asked font-known) ≡ success (c .before .origin .given .0 .0)
   passes = sym (simp (toZ-ofZ, ascent-fits font-known, descent-fits font-known) at (c .before .before .before .checked-origin .ensures)) ∙ ap originOutcome (c .before .origin .given .1)
 
-new-from-raw-data-requires : tie.Need-new-from-raw-data-requires
-new-from-raw-data-requires c κs = search needs
-
-enum-known-error : tie.Need-enum-known-error
-enum-known-error c = search needs
-
-enum-known-head : tie.Need-enum-known-head
-enum-known-head c = search needs
-
-checked-origin-requires : tie.Need-checked-origin-requires
-checked-origin-requires c κs = search needs
-
-enum-known-error-2 : tie.Need-enum-known-error-2
-enum-known-error-2 c = search needs
-
-enum-known-origin : tie.Need-enum-known-origin
-enum-known-origin c = search needs
-
 measure-lines-requires : tie.Need-measure-lines-requires
 measure-lines-requires c κs =
     let k = font-known c in
@@ -91,12 +73,12 @@ pub aligned-dimensions-spec : {M : Type 1} → statement M
 aligned-dimensions-spec =
     tie.close
     (tie.spec
-    new-from-raw-data-requires
-    enum-known-error
-    enum-known-head
-    checked-origin-requires
-    enum-known-error-2
-    enum-known-origin
+    (λ c κs. search needs)
+    (λ c. search needs)
+    (λ c. search needs)
+    (λ c κs. search needs)
+    (λ c. search needs)
+    (λ c. search needs)
     measure-lines-requires
     returns
     returns-2

@@ -6,13 +6,10 @@ use Rattle.measuring.proofs.LineLaws.{x-near}
 use Rattle.measuring.proofs.lines.end_text.Statement.{statement}
 use Rattle.measuring.proofs.lines.end_text.Tie as tie
 
-end-line-requires : tie.Need-end-line-requires
-end-line-requires c κs = search needs
-
 returns : tie.Need-returns
 returns c =
     let s = c .before .before .before .before .before in
     simp (toZ-ofZ, near-fits (x-near (s .pre)), near-fits (s .pre .y), c .end-line .ensures)
 
 pub end-text-spec : {M : Type 1} → statement M
-end-text-spec = tie.close (tie.spec end-line-requires returns)
+end-text-spec = tie.close (tie.spec (λ c κs. search needs) returns)

@@ -39,17 +39,8 @@ here : (c : tie.After-known-told3 Inv-loop μ-loop)
     (c .before .before .before .before .before .next .given .0 .1 .0)
 here c = position _ _ (first (c .before .before .before .before))
 
-empty-line-requires : tie.Need-empty-line-requires Inv-loop μ-loop
-empty-line-requires c κs = search needs
-
 loop-holds : tie.Need-loop-holds Inv-loop μ-loop
 loop-holds c = simp (c .empty-line .ensures) (aligned-start (c .before .before .before .pre .1))
-
-next-char-requires : tie.Need-next-char-requires Inv-loop μ-loop
-next-char-requires c κs = search needs
-
-enum-known-next : tie.Need-enum-known-next Inv-loop μ-loop
-enum-known-next c = search needs
 
 enum-told : tie.Need-enum-told Inv-loop μ-loop
 enum-told c = search needs
@@ -66,18 +57,12 @@ add-char-requires c κs =
     let s = l .before .before .before .before in
     (s .pre .0, (aligned-room (s .pre .1) (l .loop .inv), s .pre .1 .line))
 
-enum-known-added : tie.Need-enum-known-added Inv-loop μ-loop
-enum-known-added c = search needs
-
 returns-2 : tie.Need-returns-2 Inv-loop μ-loop
 returns-2 c =
     let k = c .before .before .before .before in
     let l = k .before .before .before .before .before in
     aligned-stops (l .before .before .before .before .pre .1) (l .loop .inv) (first k)
     (sym (c .before .before .before .add-char .ensures) ∙ ap stateOutcome (c .before .added .given .1))
-
-enum-known-added-2 : tie.Need-enum-known-added-2 Inv-loop μ-loop
-enum-known-added-2 c = search needs
 
 add-at : tie.Need-add-at Inv-loop μ-loop
 add-at c =
@@ -110,16 +95,16 @@ measure-lines-spec =
     (tie.spec
     Inv-loop
     μ-loop
-    empty-line-requires
+    (λ c κs. search needs)
     loop-holds
-    next-char-requires
-    enum-known-next
+    (λ c κs. search needs)
+    (λ c. search needs)
     enum-told
     returns
     add-char-requires
-    enum-known-added
+    (λ c. search needs)
     returns-2
-    enum-known-added-2
+    (λ c. search needs)
     add-at
     loop-less
     loop-again

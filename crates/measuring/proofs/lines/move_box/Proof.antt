@@ -18,15 +18,6 @@ module _ (c : tie.After-known-told) where
   in-reach : LineRectangle box
   in-reach = simp (c .before .bounding-box .given .1) at (entry .pre .0)
 
-enum-known-bounding-box : tie.Need-enum-known-bounding-box
-enum-known-bounding-box c = search needs
-
-enum-told : tie.Need-enum-told
-enum-told c = search needs
-
-returns : tie.Need-returns
-returns c = search needs
-
 add-t7 : tie.Need-add-t7
 add-t7 c =
     let k = c .before .before .before .before in
@@ -49,4 +40,4 @@ returns-2 c =
 
 pub move-box-spec : {M : Type 1} → statement M
 move-box-spec =
-    tie.close (tie.spec enum-known-bounding-box enum-told returns add-t7 add-t8 returns-2)
+    tie.close (tie.spec (λ c. search needs) (λ c. search needs) (λ c. search needs) add-t7 add-t8 returns-2)

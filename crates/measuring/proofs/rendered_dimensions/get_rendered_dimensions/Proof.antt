@@ -9,9 +9,6 @@ use Rattle.measuring.proofs.rendered_dimensions.get_rendered_dimensions
 }
 use Rattle.measuring.proofs.rendered_dimensions.get_rendered_dimensions.Tie as tie
 
-aligned-dimensions-requires : tie.Need-aligned-dimensions-requires
-aligned-dimensions-requires c κs = search needs
-
 returns : tie.Need-returns
 returns c =
     let a = c .before .before .before .args in
@@ -19,4 +16,4 @@ returns c =
     ∙ plain-is-left (u8g2 (a .font .now)) (plain (a .text .now) (a .position) (a .vertical-pos) (a .line-height) (a .ignore-unknown-chars))
 
 pub get-rendered-dimensions-spec : {M : Type 1} → statement M
-get-rendered-dimensions-spec = tie.close (tie.spec aligned-dimensions-requires returns)
+get-rendered-dimensions-spec = tie.close (tie.spec (λ c κs. search needs) returns)

@@ -13,15 +13,6 @@ use Rattle.measuring.proofs.rendered_dimensions_aligned.get_rendered_di
 }
 use Rattle.measuring.proofs.rendered_dimensions_aligned.get_rendered_dimensions_aligned.Tie as tie
 
-aligned-dimensions-requires : tie.Need-aligned-dimensions-requires
-aligned-dimensions-requires c κs = search needs
-
-enum-known-measured : tie.Need-enum-known-measured
-enum-known-measured c = search needs
-
-enum-known-measured-2 : tie.Need-enum-known-measured-2
-enum-known-measured-2 c = search needs
-
 abbrev box : DimensionsResult → Outcome BoundingBox
 box r = boxAlone (dimensionsOutcome r)
 
@@ -47,8 +38,8 @@ pub get-rendered-dimensions-aligned-spec : {M : Type 1} → statement M
 get-rendered-dimensions-aligned-spec =
     tie.close
     (tie.spec
-    aligned-dimensions-requires
-    enum-known-measured
-    enum-known-measured-2
+    (λ c κs. search needs)
+    (λ c. search needs)
+    (λ c. search needs)
     returns
     returns-2)

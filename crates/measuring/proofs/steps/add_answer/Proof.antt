@@ -3,17 +3,8 @@ use borrow.Author.Needs.{needs}
 use Rattle.measuring.proofs.steps.add_answer.Statement.{statement}
 use Rattle.measuring.proofs.steps.add_answer.Tie as tie
 
-enum-known-answer : tie.Need-enum-known-answer
-enum-known-answer c = search needs
-
-add-glyph-requires : tie.Need-add-glyph-requires
-add-glyph-requires c κs = search needs
-
 enum-told : tie.Need-enum-told
 enum-told c = search needs
-
-enum-known-answer-2 : tie.Need-enum-known-answer-2
-enum-known-answer-2 c = search needs
 
 returns : tie.Need-returns
 returns c = simp (c .add-glyph .ensures, c .before .before .answer .given .1)
@@ -28,10 +19,10 @@ pub add-answer-spec : {M : Type 1} → statement M
 add-answer-spec =
     tie.close
     (tie.spec
-    enum-known-answer
-    add-glyph-requires
+    (λ c. search needs)
+    (λ c κs. search needs)
     enum-told
-    enum-known-answer-2
+    (λ c. search needs)
     returns
     returns-2
     returns-3)

@@ -11,12 +11,6 @@ use Rattle.measuring.proofs.steps.add_glyph.Tie as tie
 glyph-advance : (c : tie.Start) → SFits w8 (c .args .glyph .advance)
 glyph-advance c = search needs
 
-get-next-bounding-box-requires : tie.Need-get-next-bounding-box-requires
-get-next-bounding-box-requires c κs = search needs
-
-moved-requires : tie.Need-moved-requires
-moved-requires c κs = search needs
-
 combine-bounding-boxes-requires : tie.Need-combine-bounding-boxes-requires
 combine-bounding-boxes-requires c κs = (c .before .before .before .before .before .before .pre .box, c .before .before .before .before .get-next-bounding-box .ensures .1)
 
@@ -31,7 +25,7 @@ pub add-glyph-spec : {M : Type 1} → statement M
 add-glyph-spec =
     tie.close
     (tie.spec
-    get-next-bounding-box-requires
-    moved-requires
+    (λ c κs. search needs)
+    (λ c κs. search needs)
     combine-bounding-boxes-requires
     returns)

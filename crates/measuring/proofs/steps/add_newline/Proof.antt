@@ -20,9 +20,6 @@ module _ (c : tie.Start) where
   sum-fits : SFits w32 (c .args .dimensions .advance .y +ℤ pos (c .args .line-height))
   sum-fits = omega (zarith, plus (c .args .dimensions .advance .y) (pos (c .args .line-height)))
 
-cast-t5 : tie.Need-cast-t5
-cast-t5 c = search needs
-
 add-t6 : tie.Need-add-t6
 add-t6 c =
     let s = c .before .before .before in
@@ -34,4 +31,4 @@ returns c =
     simp (line-is s, toZ-ofZ, y-fits s, sum-fits s)
 
 pub add-newline-spec : {M : Type 1} → statement M
-add-newline-spec = tie.close (tie.spec cast-t5 add-t6 returns)
+add-newline-spec = tie.close (tie.spec (λ c. search needs) add-t6 returns)

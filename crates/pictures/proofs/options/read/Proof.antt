@@ -19,20 +19,8 @@ Inv-loop options₀ n i₀ options i = (words : List (List ℕ)) × (options ≡
 abbrev μ-loop : tie.MeasureT-loop
 μ-loop options₀ n i₀ options i = n - i
 
-arg-count-requires : tie.Need-arg-count-requires Inv-loop μ-loop
-arg-count-requires c κs = search needs
-
 loop-holds : tie.Need-loop-holds Inv-loop μ-loop
 loop-holds c = ([], no-words)
-
-with-argument-requires : tie.Need-with-argument-requires Inv-loop μ-loop
-with-argument-requires c κs = search needs
-
-add-i : tie.Need-add-i Inv-loop μ-loop
-add-i c = search needs
-
-loop-less : tie.Need-loop-less Inv-loop μ-loop
-loop-less c = search needs
 
 loop-again : tie.Need-loop-again Inv-loop μ-loop
 loop-again c =
@@ -49,10 +37,10 @@ read-spec =
     (tie.spec
     Inv-loop
     μ-loop
-    arg-count-requires
+    (λ c κs. search needs)
     loop-holds
-    with-argument-requires
-    add-i
-    loop-less
+    (λ c κs. search needs)
+    (λ c. search needs)
+    (λ c. search needs)
     loop-again
     returns)

@@ -6,22 +6,10 @@ use Rattle.pictures.specs.Words.{pgm, background}
 use Rattle.pictures.proofs.options.with_word.Statement.{statement}
 use Rattle.pictures.proofs.options.with_word.Tie as tie
 
-slice-aggregate-is-same : tie.Need-slice-aggregate-is-same
-slice-aggregate-is-same c = search needs
-
-is-same-requires : tie.Need-is-same-requires
-is-same-requires c κs = search needs
-
 returns : tie.Need-returns
 returns c =
     let first = c .before .is-same in
     rw (same-is _ pgm (first .result) (first .ensures .0) (first .ensures .1) ∙ c .if1 .taken)
-
-slice-aggregate-is-same-2 : tie.Need-slice-aggregate-is-same-2
-slice-aggregate-is-same-2 c = search needs
-
-is-same-requires-2 : tie.Need-is-same-requires-2
-is-same-requires-2 c κs = search needs
 
 returns-2 : tie.Need-returns-2
 returns-2 c =
@@ -39,10 +27,10 @@ pub with-word-spec : {M : Type 1} → statement M
 with-word-spec =
     tie.close
     (tie.spec
-    slice-aggregate-is-same
-    is-same-requires
+    (λ c. search needs)
+    (λ c κs. search needs)
     returns
-    slice-aggregate-is-same-2
-    is-same-requires-2
+    (λ c. search needs)
+    (λ c κs. search needs)
     returns-2
     returns-3)

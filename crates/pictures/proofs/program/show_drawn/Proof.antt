@@ -6,15 +6,6 @@ use Rattle.pictures.proofs.DrawingLaws.{area-most, shown-length}
 use Rattle.pictures.proofs.program.show_drawn.Statement.{statement}
 use Rattle.pictures.proofs.program.show_drawn.Tie as tie
 
-answer-requires : tie.Need-answer-requires
-answer-requires c κs = search needs
-
-cast-n : tie.Need-cast-n
-cast-n c = search needs
-
-cast-n-2 : tie.Need-cast-n-2
-cast-n-2 c = search needs
-
 mul-n : tie.Need-mul-n
 mul-n c = let p = c .before .before .before .before .pre in omega (arith, area-most (p .0) (p .1 .0))
 
@@ -28,17 +19,14 @@ show-pixels-requires c κs =
     let s = c .before .before .before .before .before in
     (s .pre .0, (s .pre .1 .0, shown-length (s .args .size) (s .args .buffer .now) (s .pre .0) (s .pre .1 .0) (s .pre .1 .1)))
 
-returns : tie.Need-returns
-returns c = search needs
-
 pub show-drawn-spec : {M : Type 1} → statement M
 show-drawn-spec =
     tie.close
     (tie.spec
-    answer-requires
-    cast-n
-    cast-n-2
+    (λ c κs. search needs)
+    (λ c. search needs)
+    (λ c. search needs)
     mul-n
     slice-aggregate-show-pixels
     show-pixels-requires
-    returns)
+    (λ c. search needs))

@@ -8,42 +8,6 @@ use Rattle.font_file.specs.Files.{EndsWithin}
 use Rattle.pictures.proofs.program.start.Statement.{statement}
 use Rattle.pictures.proofs.program.start.Tie as tie
 
-read-requires : tie.Need-read-requires
-read-requires c κs = search needs
-
-slice-aggregate-text : tie.Need-slice-aggregate-text
-slice-aggregate-text c = search needs
-
-text-requires : tie.Need-text-requires
-text-requires c κs = search needs
-
-returns : tie.Need-returns
-returns c = search needs
-
-buffer-requires : tie.Need-buffer-requires
-buffer-requires c κs = search needs
-
-slice-aggregate-read : tie.Need-slice-aggregate-read
-slice-aggregate-read c = search needs
-
-read-requires-2 : tie.Need-read-requires-2
-read-requires-2 c κs = search needs
-
-enum-told : tie.Need-enum-told
-enum-told c = search needs
-
-fail-requires : tie.Need-fail-requires
-fail-requires c κs = search needs
-
-enum-told-2 : tie.Need-enum-told-2
-enum-told-2 c = search needs
-
-refusal-line-requires : tie.Need-refusal-line-requires
-refusal-line-requires c κs = search needs
-
-enum-known-n : tie.Need-enum-known-n
-enum-known-n c = search needs
-
 array-share-prefix-font : tie.Need-array-share-prefix-font
 array-share-prefix-font c =
     let h = subst (EndsWithin (length (c .before .before .before .before .read2 .last .1 .0))) (c .before .n .given .1) (c .before .before .before .before .read2 .ensures) in
@@ -55,37 +19,25 @@ slice-aggregate-draw-input c =
     let h = subst (EndsWithin (length font)) (c .before .before .n .given .1) (c .before .before .before .before .before .read2 .ensures) in
     sym (length-take-le (c .before .before .n .given .0 .0) font (omega arith))
 
-draw-input-requires : tie.Need-draw-input-requires
-draw-input-requires c κs = search needs
-
-returns-2 : tie.Need-returns-2
-returns-2 c = search needs
-
-returns-3 : tie.Need-returns-3
-returns-3 c = search needs
-
-returns-4 : tie.Need-returns-4
-returns-4 c = search needs
-
 pub start-spec : {M : Type 1} → statement M
 start-spec =
     tie.close
     (tie.spec
-    read-requires
-    slice-aggregate-text
-    text-requires
-    returns
-    buffer-requires
-    slice-aggregate-read
-    read-requires-2
-    enum-told
-    fail-requires
-    enum-told-2
-    refusal-line-requires
-    enum-known-n
+    (λ c κs. search needs)
+    (λ c. search needs)
+    (λ c κs. search needs)
+    (λ c. search needs)
+    (λ c κs. search needs)
+    (λ c. search needs)
+    (λ c κs. search needs)
+    (λ c. search needs)
+    (λ c κs. search needs)
+    (λ c. search needs)
+    (λ c κs. search needs)
+    (λ c. search needs)
     array-share-prefix-font
     slice-aggregate-draw-input
-    draw-input-requires
-    returns-2
-    returns-3
-    returns-4)
+    (λ c κs. search needs)
+    (λ c. search needs)
+    (λ c. search needs)
+    (λ c. search needs))

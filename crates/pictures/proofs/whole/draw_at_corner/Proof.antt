@@ -33,12 +33,6 @@ opposite-requires-2 c κs =
     let s = c .before .before .before .before .before .before in
     search (needs, near-x s, near-y s)
 
-render-requires : tie.Need-render-requires
-render-requires c κs = search needs
-
-same-length : tie.Need-same-length
-same-length c = search needs
-
 returns : tie.Need-returns
 returns c =
     let s = c .before .before .before .before .before .before .before .before .before .before .before in
@@ -53,4 +47,4 @@ returns c =
 
 pub draw-at-corner-spec : {M : Type 1} → statement M
 draw-at-corner-spec =
-    tie.close (tie.spec opposite-requires opposite-requires-2 render-requires same-length returns)
+    tie.close (tie.spec opposite-requires opposite-requires-2 (λ c κs. search needs) (λ c. search needs) returns)

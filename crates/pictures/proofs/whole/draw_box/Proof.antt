@@ -8,12 +8,6 @@ use Rattle.pictures.proofs.DrawingLaws.{area-most, part-length, framed,
 use Rattle.pictures.proofs.whole.draw_box.Statement.{statement}
 use Rattle.pictures.proofs.whole.draw_box.Tie as tie
 
-cast-width : tie.Need-cast-width
-cast-width c = search needs
-
-cast-height : tie.Need-cast-height
-cast-height c = search needs
-
 returns : tie.Need-returns
 returns c =
     let m = c .before .before .before .before .before .before .before .pre .0 in
@@ -40,24 +34,12 @@ draw-at-corner-requires c κs =
     let s = c .before .before .before .before .before .before .before .before .before in
     (s .pre .0, framed (s .args .rectangle) (s .args .buffer .now) (c .before .before .if1 .left) (c .before .if2 .left) (s .pre .1))
 
-enum-known-answer : tie.Need-enum-known-answer
-enum-known-answer c = search needs
-
-enum-known-answer-2 : tie.Need-enum-known-answer-2
-enum-known-answer-2 c = search needs
-
-same-length : tie.Need-same-length
-same-length c = search needs
-
 returns-3 : tie.Need-returns-3
 returns-3 c =
     let s = c .before .before .before .before .before .before .before .before .before .before .before .before .before .before .before in
     let call = c .before .before .before .before .before .draw-at-corner .ensures in
     inr
     (s .args .rectangle, called (s .args .rectangle) (s .args .buffer .now) (c .before .before .before .before .before .before .before .before .if1 .left) (c .before .before .before .before .before .before .before .if2 .left) (s .pre .1) (s .args .color) (s .pre .0) (ap dimensionsOutcome (c .before .answer .given .1)) (call .0) (call .1 .0) (call .1 .1))
-
-same-length-2 : tie.Need-same-length-2
-same-length-2 c = search needs
 
 returns-4 : tie.Need-returns-4
 returns-4 c =
@@ -69,17 +51,17 @@ pub draw-box-spec : {M : Type 1} → statement M
 draw-box-spec =
     tie.close
     (tie.spec
-    cast-width
-    cast-height
+    (λ c. search needs)
+    (λ c. search needs)
     returns
     returns-2
     mul-n
     slice-relend-prefix-draw-at-corner
     slice-aggregate-draw-at-corner
     draw-at-corner-requires
-    enum-known-answer
-    enum-known-answer-2
-    same-length
+    (λ c. search needs)
+    (λ c. search needs)
+    (λ c. search needs)
     returns-3
-    same-length-2
+    (λ c. search needs)
     returns-4)

@@ -7,20 +7,8 @@ use Rattle.pictures.proofs.DrawingLaws.{measured-box}
 use Rattle.pictures.proofs.whole.draw_measured.Statement.{statement}
 use Rattle.pictures.proofs.whole.draw_measured.Tie as tie
 
-get-rendered-dimensions-requires : tie.Need-get-rendered-dimensions-requires
-get-rendered-dimensions-requires c κs = search needs
-
-enum-known-error : tie.Need-enum-known-error
-enum-known-error c = search needs
-
-enum-known-dimensions : tie.Need-enum-known-dimensions
-enum-known-dimensions c = search needs
-
 enum-told : tie.Need-enum-told
 enum-told c = search needs
-
-enum-known-bounding-box : tie.Need-enum-known-bounding-box
-enum-known-bounding-box c = search needs
 
 draw-box-requires : tie.Need-draw-box-requires
 draw-box-requires c κs =
@@ -33,9 +21,6 @@ returns c = inl (refl, sym (c .before .before .before .get-rendered-dimensions .
 returns-2 : tie.Need-returns-2
 returns-2 c = (refl, (sym (c .before .before .before .before .before .get-rendered-dimensions .ensures) ∙ ap dimensionsOutcome (c .before .before .before .dimensions .given .1), c .enum-told .given .1))
 
-same-length : tie.Need-same-length
-same-length c = search needs
-
 returns-3 : tie.Need-returns-3
 returns-3 c = c .before .before .draw-box .ensures
 
@@ -43,13 +28,13 @@ pub draw-measured-spec : {M : Type 1} → statement M
 draw-measured-spec =
     tie.close
     (tie.spec
-    get-rendered-dimensions-requires
-    enum-known-error
-    enum-known-dimensions
+    (λ c κs. search needs)
+    (λ c. search needs)
+    (λ c. search needs)
     enum-told
-    enum-known-bounding-box
+    (λ c. search needs)
     draw-box-requires
     returns
     returns-2
-    same-length
+    (λ c. search needs)
     returns-3)

@@ -11,15 +11,6 @@ use Rattle.pictures.specs.Drawings.{IsDrawing}
 use Rattle.pictures.proofs.whole.draw_text.Statement.{statement}
 use Rattle.pictures.proofs.whole.draw_text.Tie as tie
 
-new-from-raw-data-requires : tie.Need-new-from-raw-data-requires
-new-from-raw-data-requires c κs = search needs
-
-enum-known-error : tie.Need-enum-known-error
-enum-known-error c = search needs
-
-enum-known-head : tie.Need-enum-known-head
-enum-known-head c = search needs
-
 draw-measured-requires : tie.Need-draw-measured-requires
 draw-measured-requires c κs =
     let s = c .before .before .before .before .before .before .before .before in
@@ -30,9 +21,6 @@ returns : tie.Need-returns
 returns c =
     let s = c .before .before .before .before .before .before .before in
     inl (refl, opening-refused (s .args .font .now) (s .args .text .now) (header (s .args .font .now) .«line_height») (sym (c .before .before .before .new-from-raw-data .ensures) ∙ ap fontReaderOutcome (c .before .error .given .1)))
-
-same-length : tie.Need-same-length
-same-length c = search needs
 
 returns-2 : tie.Need-returns-2
 returns-2 c =
@@ -46,10 +34,10 @@ pub draw-text-spec : {M : Type 1} → statement M
 draw-text-spec =
     tie.close
     (tie.spec
-    new-from-raw-data-requires
-    enum-known-error
-    enum-known-head
+    (λ c κs. search needs)
+    (λ c. search needs)
+    (λ c. search needs)
     draw-measured-requires
     returns
-    same-length
+    (λ c. search needs)
     returns-2)

@@ -14,9 +14,6 @@ Inv-loop c out₀ rest₀ left₀ start₀ out rest left start = Written (hexDig
 abbrev μ-loop : tie.MeasureT-loop
 μ-loop c out₀ rest₀ left₀ start₀ out rest left start = left
 
-digit-count-requires : tie.Need-digit-count-requires Inv-loop μ-loop
-digit-count-requires c κs = search needs
-
 loop-holds : tie.Need-loop-holds Inv-loop μ-loop
 loop-holds c =
     let a = c .before .before .args in
@@ -24,20 +21,11 @@ loop-holds c =
     subst (λ (n : ℕ). Written (hexDigits n (a .c)) (a .out .now) (a .c) (c .digit-count .result) 8) (e .0)
     (written-none (a .out .now) (c .digit-count .result) (a .c) (c .before .before .pre) (e .1))
 
-sub-left : tie.Need-sub-left Inv-loop μ-loop
-sub-left c = search needs
-
 sub-start : tie.Need-sub-start Inv-loop μ-loop
 sub-start c = omega (arith, c .before .loop .inv .room)
 
-hex-digit-requires : tie.Need-hex-digit-requires Inv-loop μ-loop
-hex-digit-requires c κs = search needs
-
 slice-write-out : tie.Need-slice-write-out Inv-loop μ-loop
 slice-write-out c = let w = c .before .before .loop .inv in omega (arith, w .room, w .within, w .size)
-
-loop-less : tie.Need-loop-less Inv-loop μ-loop
-loop-less c = search needs
 
 loop-again : tie.Need-loop-again Inv-loop μ-loop
 loop-again c = let l = c .before .before .loop in written-next (l .left) (l .start) (c .before .loop-test .taken) (c .hex-digit .ensures) (l .inv)
@@ -54,13 +42,13 @@ write-digits-spec =
     (tie.spec
     Inv-loop
     μ-loop
-    digit-count-requires
+    (λ c κs. search needs)
     loop-holds
-    sub-left
+    (λ c. search needs)
     sub-start
-    hex-digit-requires
+    (λ c κs. search needs)
     slice-write-out
-    loop-less
+    (λ c. search needs)
     loop-again
     same-length
     returns)

@@ -7,6 +7,7 @@ use Prim.Native.Nat.{ℕ}
 use native.Mathlib.Omega.{arith}
 use borrow.Author.Tests.{eq-eqb, eqb-true}
 use lib.ListN.{length}
+use Rattle.integers.proofs.Choices.{impossible}
 use Rattle.redraw.specs.Differences.{differences}
 use Rattle.redraw.proofs.DifferenceLaws.{same-if-none, none-if-same}
 use Rattle.redraw.proofs.comparison.is_same.Statement.{statement}
@@ -14,10 +15,7 @@ use Rattle.redraw.proofs.comparison.is_same.Tie as tie
 
 returns : tie.Need-returns
 returns c =
-    (λ e. let z : _≡_ {A = ℕ} 0 1 = cc in absurd (omega arith), λ e. absurd (c .if1 .taken (ap length e)))
-
-count-differences-requires : tie.Need-count-differences-requires
-count-differences-requires c κs = search needs
+    (λ e. impossible cc, λ e. absurd (c .if1 .taken (ap length e)))
 
 returns-2 : tie.Need-returns-2
 returns-2 c =
@@ -28,4 +26,4 @@ returns-2 c =
     )
 
 pub is-same-spec : {M : Type 1} → statement M
-is-same-spec = tie.close (tie.spec returns count-differences-requires returns-2)
+is-same-spec = tie.close (tie.spec returns (λ c κs. search needs) returns-2)

@@ -23,17 +23,11 @@ sum-fits c = let h : c .args .len < 2 ^ 32 = omega arith in omega (zarith, plus 
 cast-clamp : tie.Need-cast-clamp
 cast-clamp c = simp (toZ-ofZ, c .fits .start) (wide c)
 
-cast-clamp-2 : tie.Need-cast-clamp-2
-cast-clamp-2 c = search needs
-
 add-clamp : tie.Need-add-clamp
 add-clamp c = simp (toZ-ofZ, c .fits .start, wide c, len-plain c) (sum-fits c)
-
-clamp-requires : tie.Need-clamp-requires
-clamp-requires c κs = search needs
 
 returns : tie.Need-returns
 returns c = c .clamp .ensures ∙ simp (toZ-ofZ, c .before .fits .start, wide (c .before), len-plain (c .before), sum-fits (c .before))
 
 pub clamp-end-spec : {M : Type 1} → statement M
-clamp-end-spec = tie.close (tie.spec cast-clamp cast-clamp-2 add-clamp clamp-requires returns)
+clamp-end-spec = tie.close (tie.spec cast-clamp (λ c. search needs) add-clamp (λ c κs. search needs) returns)

@@ -13,11 +13,8 @@ wide c = sfits-widen tt (c .fits .start)
 cast-clamp : tie.Need-cast-clamp
 cast-clamp c = simp (toZ-ofZ, c .fits .start) (wide c)
 
-clamp-requires : tie.Need-clamp-requires
-clamp-requires c κs = search needs
-
 returns : tie.Need-returns
 returns c = c .clamp .ensures ∙ simp (toZ-ofZ, c .before .fits .start, wide (c .before))
 
 pub clamp-start-spec : {M : Type 1} → statement M
-clamp-start-spec = tie.close (tie.spec cast-clamp clamp-requires returns)
+clamp-start-spec = tie.close (tie.spec cast-clamp (λ c κs. search needs) returns)

@@ -48,17 +48,11 @@ Inv-loop buffer₀ width left right top bottom color ones n y₀ buffer y =
 abbrev μ-loop : tie.MeasureT-loop
 μ-loop buffer₀ width left right top bottom color ones n y₀ buffer y = bottom - y
 
-sub-n : tie.Need-sub-n Inv-loop μ-loop
-sub-n c = search needs
-
 loop-holds : tie.Need-loop-holds Inv-loop μ-loop
 loop-holds c =
     let a = c .before .args in
     let p = c .before .pre in
     (omega arith, (omega (arith, p .rows), (omega arith, sym (no-line-shown (p .some) (a .color) (a .left) (a .right) (a .top) (a .buffer .now)))))
-
-array-share-prefix-ones : tie.Need-array-share-prefix-ones Inv-loop μ-loop
-array-share-prefix-ones c = search needs
 
 slice-aggregate-write-line : tie.Need-slice-aggregate-write-line Inv-loop μ-loop
 slice-aggregate-write-line c =
@@ -72,12 +66,6 @@ write-line-requires c κs =
     let l = c .before .before .before .loop in
     let w : s .args .right - s .args .left ≤ 256 = omega (arith, s .pre .within, s .pre .wide) in
     line-fits (s .pre) (l .y) _ _ (c .before .before .loop-test .taken) (l .inv .1 .1 .0) (ones-length (s .args .right - s .args .left) w)
-
-add-y : tie.Need-add-y Inv-loop μ-loop
-add-y c = search needs
-
-loop-less : tie.Need-loop-less Inv-loop μ-loop
-loop-less c = search needs
 
 loop-again : tie.Need-loop-again Inv-loop μ-loop
 loop-again c =
@@ -98,9 +86,6 @@ loop-again c =
       ),
     )
 
-same-length : tie.Need-same-length Inv-loop μ-loop
-same-length c = search needs
-
 returns : tie.Need-returns Inv-loop μ-loop
 returns c =
     let a = c .before .before .before .args in
@@ -114,13 +99,13 @@ fill-area-spec =
     (tie.spec
     Inv-loop
     μ-loop
-    sub-n
+    (λ c. search needs)
     loop-holds
-    array-share-prefix-ones
+    (λ c. search needs)
     slice-aggregate-write-line
     write-line-requires
-    add-y
-    loop-less
+    (λ c. search needs)
+    (λ c. search needs)
     loop-again
-    same-length
+    (λ c. search needs)
     returns)

@@ -10,17 +10,8 @@ use Rattle.definitions.proofs.FramebufferLaws.{shown-blank}
 use Rattle.redraw.proofs.fill.fill_box.Statement.{statement}
 use Rattle.redraw.proofs.fill.fill_box.Tie as tie
 
-enum-known-bounding-box : tie.Need-enum-known-bounding-box
-enum-known-bounding-box c = search needs
-
-fill-rectangle-requires : tie.Need-fill-rectangle-requires
-fill-rectangle-requires c κs = search needs
-
 enum-told : tie.Need-enum-told
 enum-told c = search needs
-
-same-length : tie.Need-same-length
-same-length c = search needs
 
 returns : tie.Need-returns
 returns c =
@@ -37,9 +28,9 @@ pub fill-box-spec : {M : Type 1} → statement M
 fill-box-spec =
     tie.close
     (tie.spec
-    enum-known-bounding-box
-    fill-rectangle-requires
+    (λ c. search needs)
+    (λ c κs. search needs)
     enum-told
-    same-length
+    (λ c. search needs)
     returns
     returns-2)

@@ -12,18 +12,6 @@ use Rattle.redraw.proofs.FillLaws.{edges-fit, edges-shown}
 use Rattle.redraw.proofs.fill.fill_rectangle.Statement.{statement}
 use Rattle.redraw.proofs.fill.fill_rectangle.Tie as tie
 
-clamp-start-requires : tie.Need-clamp-start-requires
-clamp-start-requires c κs = search needs
-
-clamp-end-requires : tie.Need-clamp-end-requires
-clamp-end-requires c κs = search needs
-
-clamp-start-requires-2 : tie.Need-clamp-start-requires-2
-clamp-start-requires-2 c κs = search needs
-
-clamp-end-requires-2 : tie.Need-clamp-end-requires-2
-clamp-end-requires-2 c κs = search needs
-
 -- the edges
 x-fits : (s : tie.Start) → SFits w32 (s .args .rectangle .«top_left» .x)
 x-fits s = search needs
@@ -57,9 +45,6 @@ fill-area-requires c κs =
     let s = d .before .before .before .before .before .before .before .before .before in
     edges-fit (s .args .rectangle) (s .pre) (left-is (d .before .before .before .before .before .before)) (right-is (d .before .before .before .before)) (top-is (d .before .before)) (bottom-is d)
 
-same-length : tie.Need-same-length
-same-length c = search needs
-
 returns : tie.Need-returns
 returns c =
     let d = c .before .before .before .before in
@@ -73,10 +58,10 @@ pub fill-rectangle-spec : {M : Type 1} → statement M
 fill-rectangle-spec =
     tie.close
     (tie.spec
-    clamp-start-requires
-    clamp-end-requires
-    clamp-start-requires-2
-    clamp-end-requires-2
+    (λ c κs. search needs)
+    (λ c κs. search needs)
+    (λ c κs. search needs)
+    (λ c κs. search needs)
     fill-area-requires
-    same-length
+    (λ c. search needs)
     returns)

@@ -5,23 +5,11 @@ use borrow.Author.Needs.{needs}
 use Rattle.redraw.proofs.reading.clear_reading.Statement.{statement}
 use Rattle.redraw.proofs.reading.clear_reading.Tie as tie
 
-get-drawn-dimensions-requires : tie.Need-get-drawn-dimensions-requires
-get-drawn-dimensions-requires c κs = search needs
-
-enum-known-drawn : tie.Need-enum-known-drawn
-enum-known-drawn c = search needs
-
 enum-told : tie.Need-enum-told
 enum-told c = search needs
 
 returns : tie.Need-returns
 returns c = let e = sym (c .before .before .get-drawn-dimensions .ensures) ∙ ap dimensionsOutcome (c .enum-told .given .1) in rw e
-
-fill-box-requires : tie.Need-fill-box-requires
-fill-box-requires c κs = search needs
-
-same-length : tie.Need-same-length
-same-length c = search needs
 
 returns-2 : tie.Need-returns-2
 returns-2 c =
@@ -32,10 +20,10 @@ pub clear-reading-spec : {M : Type 1} → statement M
 clear-reading-spec =
     tie.close
     (tie.spec
-    get-drawn-dimensions-requires
-    enum-known-drawn
+    (λ c κs. search needs)
+    (λ c. search needs)
     enum-told
     returns
-    fill-box-requires
-    same-length
+    (λ c κs. search needs)
+    (λ c. search needs)
     returns-2)

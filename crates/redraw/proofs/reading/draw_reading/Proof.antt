@@ -5,26 +5,14 @@ use borrow.Author.Needs.{needs}
 use Rattle.redraw.proofs.reading.draw_reading.Statement.{statement}
 use Rattle.redraw.proofs.reading.draw_reading.Tie as tie
 
-get-drawn-dimensions-requires : tie.Need-get-drawn-dimensions-requires
-get-drawn-dimensions-requires c κs = search needs
-
 enum-told : tie.Need-enum-told
 enum-told c = search needs
-
-enum-told-2 : tie.Need-enum-told-2
-enum-told-2 c = search needs
 
 returns : tie.Need-returns
 returns c =
     let g = c .before .before .get-drawn-dimensions .ensures in
     let e = sym g ∙ ap dimensionsOutcome (c .enum-told2 .given .1) in
     (g, rw e)
-
-draw-text-requires : tie.Need-draw-text-requires
-draw-text-requires c κs = search needs
-
-same-length : tie.Need-same-length
-same-length c = search needs
 
 returns-2 : tie.Need-returns-2
 returns-2 c =
@@ -36,10 +24,10 @@ pub draw-reading-spec : {M : Type 1} → statement M
 draw-reading-spec =
     tie.close
     (tie.spec
-    get-drawn-dimensions-requires
+    (λ c κs. search needs)
     enum-told
-    enum-told-2
+    (λ c. search needs)
     returns
-    draw-text-requires
-    same-length
+    (λ c κs. search needs)
+    (λ c. search needs)
     returns-2)

@@ -47,15 +47,6 @@ module _ (c : tie.After-known-told2) where
   is-ready : Ready (entry .args .font .now) (entry .args .old-text .now) (new entry) (screen entry) step
   is-ready = ready _ _ (new entry) (screen entry) step passes (λ i. omega (arith, c .before .before .before .before .before .before .before .before .shared-slice-known .given i))
 
-check-step-requires : tie.Need-check-step-requires
-check-step-requires c κs = search needs
-
-enum-known-checked : tie.Need-enum-known-checked
-enum-known-checked c = search needs
-
-enum-known-checked-2 : tie.Need-enum-known-checked-2
-enum-known-checked-2 c = search needs
-
 clear-reading-requires : tie.Need-clear-reading-requires
 clear-reading-requires c κs = let r = is-ready (c .before .before .before .before) in search needs
 
@@ -66,9 +57,6 @@ draw-reading-requires c κs =
     let a = entry k .args in
     (r .opens, (r .new-checked, subst (λ (n : ℕ). BufferFits n (a .width) (a .height)) (sym (c .before .before .buffer .given)) (r .fits)))
 
-same-length : tie.Need-same-length
-same-length c = search needs
-
 returns : tie.Need-returns
 returns c =
     let s = c .before .before .before .before .before .before .before .before .before in
@@ -77,9 +65,6 @@ returns c =
     let answered = stops (a .font .now) (a .old-text .now) (new s) (a .background) (screen s) e in
     let shown = stays (a .font .now) (a .old-text .now) (new s) (a .background) (screen s) e in
     (answered, (shown, leaves-reading (field s) (a .old-text .now) (reading s) answered shown))
-
-same-length-2 : tie.Need-same-length-2
-same-length-2 c = search needs
 
 returns-2 : tie.Need-returns-2
 unfolding redrawnBuffer
@@ -98,12 +83,12 @@ pub redraw-spec : {M : Type 1} → statement M
 redraw-spec =
     tie.close
     (tie.spec
-    check-step-requires
-    enum-known-checked
-    enum-known-checked-2
+    (λ c κs. search needs)
+    (λ c. search needs)
+    (λ c. search needs)
     clear-reading-requires
     draw-reading-requires
-    same-length
+    (λ c. search needs)
     returns
-    same-length-2
+    (λ c. search needs)
     returns-2)

@@ -72,26 +72,11 @@ module _ (c : tie.After-known-told4) where
   color-tested : let k = font-known old-known in let a = entry k .args in backgroundCause (a .style .color) (u8g2 (a .font .now) .background) .applies ≡ backgroundOff (a .style .color) (head k .«supports_background_color»)
   color-tested = let k = font-known old-known in sym (color-is (opened _ (head k) (opens k)) (entry k .args .style .color))
 
-new-from-raw-data-requires : tie.Need-new-from-raw-data-requires
-new-from-raw-data-requires c κs = search needs
-
-enum-known-error : tie.Need-enum-known-error
-enum-known-error c = search needs
-
-enum-known-head : tie.Need-enum-known-head
-enum-known-head c = search needs
-
-has-bad-size-requires : tie.Need-has-bad-size-requires
-has-bad-size-requires c κs = search needs
-
 returns : tie.Need-returns
 returns c =
     let k = c .before .before in
     let e = entry k in
     size-refused (e .args .font .now) (e .args .old-text .now) (new e) (screen e) (opens k) (sym (c .before .has-bad-size .ensures) ∙ c .if1 .taken)
-
-has-bad-text-requires : tie.Need-has-bad-text-requires
-has-bad-text-requires c κs = search needs
 
 returns-2 : tie.Need-returns-2
 returns-2 c =
@@ -99,18 +84,6 @@ returns-2 c =
     let e = entry k in
     let size = sym (c .before .before .before .has-bad-size .ensures) ∙ c .before .before .if1 .left in
     old-refused (e .args .font .now) (e .args .old-text .now) (new e) (screen e) (opens k) size (sym (c .before .has-bad-text .ensures) ∙ c .if2 .taken)
-
-checked-origin-requires : tie.Need-checked-origin-requires
-checked-origin-requires c κs = search needs
-
-enum-known-error-2 : tie.Need-enum-known-error-2
-enum-known-error-2 c = search needs
-
-enum-known-new-origin : tie.Need-enum-known-new-origin
-enum-known-new-origin c = search needs
-
-has-bad-color-requires : tie.Need-has-bad-color-requires
-has-bad-color-requires c κs = search needs
 
 returns-3 : tie.Need-returns-3
 returns-3 c =
@@ -157,17 +130,17 @@ pub check-step-spec : {M : Type 1} → statement M
 check-step-spec =
     tie.close
     (tie.spec
-    new-from-raw-data-requires
-    enum-known-error
-    enum-known-head
-    has-bad-size-requires
+    (λ c κs. search needs)
+    (λ c. search needs)
+    (λ c. search needs)
+    (λ c κs. search needs)
     returns
-    has-bad-text-requires
+    (λ c κs. search needs)
     returns-2
-    checked-origin-requires
-    enum-known-error-2
-    enum-known-new-origin
-    has-bad-color-requires
+    (λ c κs. search needs)
+    (λ c. search needs)
+    (λ c. search needs)
+    (λ c κs. search needs)
     returns-3
     text-origin-requires
     returns-4

@@ -4,17 +4,8 @@ use borrow.Author.Tests.{eq-eqb, ne-eqb}
 use Rattle.renderer.proofs.drawn_dimensions.add_char.Statement.{statement}
 use Rattle.renderer.proofs.drawn_dimensions.add_char.Tie as tie
 
-add-newline-requires : tie.Need-add-newline-requires
-add-newline-requires c κs = search needs
-
 returns : tie.Need-returns
 returns c = simp (c .add-newline .ensures, eq-eqb _ _ (c .before .if1 .taken))
-
-retrieve-answer-requires : tie.Need-retrieve-answer-requires
-retrieve-answer-requires c κs = search needs
-
-add-answer-requires : tie.Need-add-answer-requires
-add-answer-requires c κs = search needs
 
 returns-2 : tie.Need-returns-2
 returns-2 c = simp (c .add-answer .ensures, c .before .retrieve-answer .ensures, ne-eqb _ _ (c .before .before .if1 .left))
@@ -22,4 +13,4 @@ returns-2 c = simp (c .add-answer .ensures, c .before .retrieve-answer .ensures,
 pub add-char-spec : {M : Type 1} → statement M
 add-char-spec =
     tie.close
-    (tie.spec add-newline-requires returns retrieve-answer-requires add-answer-requires returns-2)
+    (tie.spec (λ c κs. search needs) returns (λ c κs. search needs) (λ c κs. search needs) returns-2)

@@ -38,12 +38,6 @@ module _ (c : tie.After-known-told Inv-loop μ-loop) where
 loop-holds : tie.Need-loop-holds Inv-loop μ-loop
 loop-holds c = measured-start (c .before .before .pre .1)
 
-next-char-requires : tie.Need-next-char-requires Inv-loop μ-loop
-next-char-requires c κs = search needs
-
-enum-known-next : tie.Need-enum-known-next Inv-loop μ-loop
-enum-known-next c = search needs
-
 enum-told : tie.Need-enum-told Inv-loop μ-loop
 enum-told c = search needs
 
@@ -56,12 +50,6 @@ add-char-requires : tie.Need-add-char-requires Inv-loop μ-loop
 add-char-requires c κs =
     let s = entry c in
     (s .pre .0, (measured-room (s .pre .1) (at-loop c .loop .inv), s .pre .1 .line))
-
-enum-known-added : tie.Need-enum-known-added Inv-loop μ-loop
-enum-known-added c = search needs
-
-enum-told-2 : tie.Need-enum-told-2 Inv-loop μ-loop
-enum-told-2 c = search needs
 
 returns-2 : tie.Need-returns-2 Inv-loop μ-loop
 returns-2 c =
@@ -92,13 +80,13 @@ get-drawn-dimensions-spec =
     Inv-loop
     μ-loop
     loop-holds
-    next-char-requires
-    enum-known-next
+    (λ c κs. search needs)
+    (λ c. search needs)
     enum-told
     returns
     add-char-requires
-    enum-known-added
-    enum-told-2
+    (λ c. search needs)
+    (λ c. search needs)
     returns-2
     add-at
     loop-less

@@ -6,12 +6,6 @@ use borrow.Author.Needs.{needs}
 use Rattle.renderer.proofs.render.draw_answer.Statement.{statement}
 use Rattle.renderer.proofs.render.draw_answer.Tie as tie
 
-enum-known-answer : tie.Need-enum-known-answer
-enum-known-answer c = search needs
-
-get-next-bounding-box-requires : tie.Need-get-next-bounding-box-requires
-get-next-bounding-box-requires c κs = search needs
-
 render-glyph-requires : tie.Need-render-glyph-requires
 render-glyph-requires c κs =
     let s = c .before .before .before .before .before .before .before in
@@ -31,12 +25,6 @@ render-glyph-requires c κs =
 enum-told : tie.Need-enum-told
 enum-told c = search needs
 
-enum-told-2 : tie.Need-enum-told-2
-enum-told-2 c = search needs
-
-same-length : tie.Need-same-length
-same-length c = search needs
-
 returns : tie.Need-returns
 returns c = c .before .before .render-glyph .ensures ∙ simp (c .before .before .before .before .get-next-bounding-box .ensures .0, c .before .before .before .before .before .before .answer .given .1)
 
@@ -50,12 +38,12 @@ pub draw-answer-spec : {M : Type 1} → statement M
 draw-answer-spec =
     tie.close
     (tie.spec
-    enum-known-answer
-    get-next-bounding-box-requires
+    (λ c. search needs)
+    (λ c κs. search needs)
     render-glyph-requires
     enum-told
-    enum-told-2
-    same-length
+    (λ c. search needs)
+    (λ c. search needs)
     returns
     returns-2
     returns-3)

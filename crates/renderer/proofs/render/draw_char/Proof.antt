@@ -6,14 +6,8 @@ use borrow.Author.Needs.{needs}
 use Rattle.renderer.proofs.render.draw_char.Statement.{statement}
 use Rattle.renderer.proofs.render.draw_char.Tie as tie
 
-add-newline-requires : tie.Need-add-newline-requires
-add-newline-requires c κs = search needs
-
 returns : tie.Need-returns
 returns c = (simp (c .add-newline .ensures, eq-eqb _ _ (c .before .if1 .taken)), simp (eq-eqb _ _ (c .before .if1 .taken)))
-
-retrieve-answer-requires : tie.Need-retrieve-answer-requires
-retrieve-answer-requires c κs = search needs
 
 draw-answer-requires : tie.Need-draw-answer-requires
 draw-answer-requires c κs =
@@ -21,12 +15,6 @@ draw-answer-requires c κs =
       λ g e. runs-checked (s .pre .0) (s .args .ignore-unknown-chars) (s .args .ch) g (sym (c .before .retrieve-answer .ensures) ∙ e),
       (s .pre .1 .0, s .pre .1 .1 .1),
     )
-
-add-answer-requires : tie.Need-add-answer-requires
-add-answer-requires c κs = search needs
-
-same-length : tie.Need-same-length
-same-length c = search needs
 
 returns-2 : tie.Need-returns-2
 returns-2 c =
@@ -38,10 +26,10 @@ pub draw-char-spec : {M : Type 1} → statement M
 draw-char-spec =
     tie.close
     (tie.spec
-    add-newline-requires
+    (λ c κs. search needs)
     returns
-    retrieve-answer-requires
+    (λ c κs. search needs)
     draw-answer-requires
-    add-answer-requires
-    same-length
+    (λ c κs. search needs)
+    (λ c. search needs)
     returns-2)

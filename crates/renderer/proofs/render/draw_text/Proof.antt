@@ -36,12 +36,6 @@ here c = position _ _ (first (c .before .before .before .before .before .before 
 loop-holds : tie.Need-loop-holds Inv-loop μ-loop
 loop-holds c = drawn-start _ _ _ _ _ _ _ _ (c .before .before .before .pre .1 .0)
 
-next-char-requires : tie.Need-next-char-requires Inv-loop μ-loop
-next-char-requires c κs = search needs
-
-enum-known-next : tie.Need-enum-known-next Inv-loop μ-loop
-enum-known-next c = search needs
-
 enum-told : tie.Need-enum-told Inv-loop μ-loop
 enum-told c = search needs
 
@@ -58,12 +52,6 @@ draw-char-requires c κs =
     let l = c .before .before .before .before .before .before in
     let s = c .before .before .before .before .before .before .before .before .before .before in
     (s .pre .0, (measured-room (s .pre .1 .0) (l .loop .inv .reached), (s .pre .1 .0 .line, subst (λ (n : ℕ). BufferFits n (s .args .width) (s .args .height)) (sym (l .loop .inv .kept)) (s .pre .1 .1))))
-
-enum-known-drawn : tie.Need-enum-known-drawn Inv-loop μ-loop
-enum-known-drawn c = search needs
-
-enum-told-2 : tie.Need-enum-told-2 Inv-loop μ-loop
-enum-told-2 c = search needs
 
 same-length-2 : tie.Need-same-length-2 Inv-loop μ-loop
 same-length-2 c = c .before .before .before .buffer .given ∙ c .before .before .before .before .before .before .before .before .before .before .before .loop .inv .kept
@@ -111,14 +99,14 @@ draw-text-spec =
     Inv-loop
     μ-loop
     loop-holds
-    next-char-requires
-    enum-known-next
+    (λ c κs. search needs)
+    (λ c. search needs)
     enum-told
     same-length
     returns
     draw-char-requires
-    enum-known-drawn
-    enum-told-2
+    (λ c. search needs)
+    (λ c. search needs)
     same-length-2
     returns-2
     add-at

@@ -60,35 +60,11 @@ module _ (c : tie.After-known-told4) where
   color-tested : let a = entry font-known .args in backgroundCause (a .style .color) (u8g2 (a .font .now) .background) .applies ≡ backgroundOff (a .style .color) (head font-known .«supports_background_color»)
   color-tested = sym (color-is (opened _ (head font-known) (opens font-known)) (entry font-known .args .style .color))
 
-new-from-raw-data-requires : tie.Need-new-from-raw-data-requires
-new-from-raw-data-requires c κs = search needs
-
-enum-known-error : tie.Need-enum-known-error
-enum-known-error c = search needs
-
-enum-known-head : tie.Need-enum-known-head
-enum-known-head c = search needs
-
-has-bad-size-requires : tie.Need-has-bad-size-requires
-has-bad-size-requires c κs = search needs
-
 returns : tie.Need-returns
 returns c =
     let k = c .before .before in
     let a = entry k .args in
     size-refused (a .font .now) (asked k) (a .style .color) (sized (a .width) (a .height)) (a .buffer .now) (opens k) (sym (c .before .has-bad-size .ensures) ∙ c .if1 .taken)
-
-checked-origin-requires : tie.Need-checked-origin-requires
-checked-origin-requires c κs = search needs
-
-enum-known-error-2 : tie.Need-enum-known-error-2
-enum-known-error-2 c = search needs
-
-enum-known-origin : tie.Need-enum-known-origin
-enum-known-origin c = search needs
-
-has-bad-color-requires : tie.Need-has-bad-color-requires
-has-bad-color-requires c κs = search needs
 
 returns-2 : tie.Need-returns-2
 returns-2 c =
@@ -119,9 +95,6 @@ returns-4 c =
     let a = entry k .args in
     position-refused (a .font .now) (asked k) (a .style .color) (sized (a .width) (a .height)) (a .buffer .now) (opens k) (size-in e) (sym (simp (toZ-ofZ, ascent-fits k, descent-fits k) at (c .before .before .before .checked-origin .ensures)) ∙ ap originOutcome (c .before .error2 .given .1))
 
-same-length : tie.Need-same-length
-same-length c = search needs
-
 returns-5 : tie.Need-returns-5
 returns-5 c =
     let p = c .before .before .before .before .before .before in
@@ -134,18 +107,18 @@ pub render-spec : {M : Type 1} → statement M
 render-spec =
     tie.close
     (tie.spec
-    new-from-raw-data-requires
-    enum-known-error
-    enum-known-head
-    has-bad-size-requires
+    (λ c κs. search needs)
+    (λ c. search needs)
+    (λ c. search needs)
+    (λ c κs. search needs)
     returns
-    checked-origin-requires
-    enum-known-error-2
-    enum-known-origin
-    has-bad-color-requires
+    (λ c κs. search needs)
+    (λ c. search needs)
+    (λ c. search needs)
+    (λ c κs. search needs)
     returns-2
     draw-text-requires
     returns-3
     returns-4
-    same-length
+    (λ c. search needs)
     returns-5)

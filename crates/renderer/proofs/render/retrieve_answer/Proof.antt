@@ -5,15 +5,9 @@ use borrow.Author.Needs.{needs}
 use Rattle.renderer.proofs.render.retrieve_answer.Statement.{statement}
 use Rattle.renderer.proofs.render.retrieve_answer.Tie as tie
 
-retrieve-whole-glyph-requires : tie.Need-retrieve-whole-glyph-requires
-retrieve-whole-glyph-requires c κs = search needs
-
-answer-of-requires : tie.Need-answer-of-requires
-answer-of-requires c κs = search needs
-
 returns : tie.Need-returns
 returns c = c .answer-of .ensures ∙ ap (answer _) (c .before .retrieve-whole-glyph .ensures)
 
 pub retrieve-answer-spec : {M : Type 1} → statement M
 retrieve-answer-spec =
-    tie.close (tie.spec retrieve-whole-glyph-requires answer-of-requires returns)
+    tie.close (tie.spec (λ c κs. search needs) (λ c κs. search needs) returns)

@@ -9,12 +9,6 @@ use borrow.Author.Needs.{needs}
 use Rattle.renderer.proofs.render.retrieve_whole_glyph.Statement.{statement}
 use Rattle.renderer.proofs.render.retrieve_whole_glyph.Tie as tie
 
-retrieve-glyph-data-requires : tie.Need-retrieve-glyph-data-requires
-retrieve-glyph-data-requires c κs = search needs
-
-enum-known-lookup : tie.Need-enum-known-lookup
-enum-known-lookup c = search needs
-
 enum-told : tie.Need-enum-told
 enum-told c = search needs
 
@@ -40,8 +34,8 @@ pub retrieve-whole-glyph-spec : {M : Type 1} → statement M
 retrieve-whole-glyph-spec =
     tie.close
     (tie.spec
-    retrieve-glyph-data-requires
-    enum-known-lookup
+    (λ c κs. search needs)
+    (λ c. search needs)
     enum-told
     returns
     check-runs-requires

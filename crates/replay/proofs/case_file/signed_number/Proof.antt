@@ -19,28 +19,13 @@ fits32 c = omega (zarith, minus (pos (c .before .number .result)) (pos 429496729
 fits64 : (c : tie.Else1) → SFits w64 (pos (c .before .number .result) -ℤ pos 4294967296)
 fits64 c = sfits-widen tt (fits32 c)
 
-number-requires : tie.Need-number-requires
-number-requires c κs = search needs
-
-cast-result : tie.Need-cast-result
-cast-result c = search needs
-
-returns : tie.Need-returns
-returns c = search needs
-
-cast-result-2 : tie.Need-cast-result-2
-cast-result-2 c = search needs
-
 sub-result : tie.Need-sub-result
 sub-result c = simp (plain c) (fits64 c)
 
 cast-result-3 : tie.Need-cast-result-3
 cast-result-3 c = simp (plain c, toZ-ofZ, fits64 c) (fits32 c)
 
-returns-2 : tie.Need-returns-2
-returns-2 c = search needs
-
 pub signed-number-spec : {M : Type 1} → statement M
 signed-number-spec =
     tie.close
-    (tie.spec number-requires cast-result returns cast-result-2 sub-result cast-result-3 returns-2)
+    (tie.spec (λ c κs. search needs) (λ c. search needs) (λ c. search needs) (λ c. search needs) sub-result cast-result-3 (λ c. search needs))

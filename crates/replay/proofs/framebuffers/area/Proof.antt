@@ -8,8 +8,5 @@ use Rattle.replay.proofs.framebuffers.area.Tie as tie
 mul-result : tie.Need-mul-result
 mul-result c = omega (arith, mul-le-mul (c .pre .0) (c .pre .1))
 
-returns : tie.Need-returns
-returns c = search needs
-
 pub area-spec : {M : Type 1} → statement M
-area-spec = tie.close (tie.spec mul-result returns)
+area-spec = tie.close (tie.spec mul-result (λ c. search needs))

@@ -8,11 +8,5 @@ use Rattle.replay.proofs.header.signed_byte.Tie as tie
 cast-signed : tie.Need-cast-signed
 cast-signed c = let f = c .fits .n in simp (toZ-ofZ, f) (widens f)
 
-signed-requires : tie.Need-signed-requires
-signed-requires c κs = search needs
-
-returns : tie.Need-returns
-returns c = search needs
-
 pub signed-byte-spec : {M : Type 1} → statement M
-signed-byte-spec = tie.close (tie.spec cast-signed signed-requires returns)
+signed-byte-spec = tie.close (tie.spec cast-signed (λ c κs. search needs) (λ c. search needs))

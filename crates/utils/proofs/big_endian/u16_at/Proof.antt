@@ -6,17 +6,8 @@ use borrow.Author.Needs.{needs}
 use Rattle.utils.proofs.big_endian.u16_at.Statement.{statement}
 use Rattle.utils.proofs.big_endian.u16_at.Tie as tie
 
-shared-slice-read-high : tie.Need-shared-slice-read-high
-shared-slice-read-high c = search needs
-
 cast-high : tie.Need-cast-high
 cast-high c = omega (arith, c .shared-slice-known .given (c .before .args .i))
-
-add-low : tie.Need-add-low
-add-low c = search needs
-
-shared-slice-read-low : tie.Need-shared-slice-read-low
-shared-slice-read-low c = search needs
 
 cast-low : tie.Need-cast-low
 cast-low c = omega (arith, c .shared-slice-known2 .given (c .before .before .args .i + 1))
@@ -33,18 +24,15 @@ mul-result c = omega (arith, bytes c)
 add-result : tie.Need-add-result
 add-result c = omega (arith, bytes c)
 
-returns : tie.Need-returns
-returns c = search needs
-
 pub u16-at-spec : {M : Type 1} → statement M
 u16-at-spec =
     tie.close
     (tie.spec
-    shared-slice-read-high
+    (λ c. search needs)
     cast-high
-    add-low
-    shared-slice-read-low
+    (λ c. search needs)
+    (λ c. search needs)
     cast-low
     mul-result
     add-result
-    returns)
+    (λ c. search needs))

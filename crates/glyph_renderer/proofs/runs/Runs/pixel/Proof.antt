@@ -4,9 +4,6 @@ use borrow.Author.Needs.{needs}
 use Rattle.glyph_renderer.proofs.runs.Runs.pixel.Statement.{statement}
 use Rattle.glyph_renderer.proofs.runs.Runs.pixel.Tie as tie
 
-cast-if1 : tie.Need-cast-if1
-cast-if1 c = search needs
-
 returns : tie.Need-returns
 returns c = simp (lt-ltb _ _ (c .if1 .taken))
 
@@ -14,4 +11,4 @@ returns-2 : tie.Need-returns-2
 returns-2 c = simp (le-ltb _ _ (c .if1 .left))
 
 pub pixel-spec : {M : Type 1} → statement M
-pixel-spec = tie.close (tie.spec cast-if1 returns returns-2)
+pixel-spec = tie.close (tie.spec (λ c. search needs) returns returns-2)
