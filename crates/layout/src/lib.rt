@@ -1,4 +1,5 @@
-// What a call checks of its input, where its text begins, and what the font answers to each character.
+// What a call checks of its input, where its text begins, what the font answers to each character, and how the text is counted.
 pub mod limits;
 pub mod origin;
 pub mod render_actions;
+pub mod steps;

@@ -1,4 +1,2 @@
 pub mod LineLaws
-pub mod LoopLaws
-pub mod MeasureLaws
 pub mod AlignedLaws

@@ -3,4 +3,3 @@ pub mod font_bounding_box;
 mod lines;
 pub mod rendered_dimensions;
 pub mod rendered_dimensions_aligned;
-pub mod steps;

@@ -36,8 +36,8 @@ use Rattle.layout.specs.Ranges.{Checked}
 use Rattle.layout.specs.Origins.{originBy}
 use Rattle.layout.proofs.OriginLaws.{tested, origin-is}
 use Rattle.layout.proofs.RangeLaws.{Small, in-range-small}
-use Rattle.measuring.proofs.LoopLaws.{reached-start, reached-last, reached-next}
-use Rattle.measuring.proofs.MeasureLaws.{shown-glyph, Measured, measured-start, measured-next}
+use Rattle.layout.proofs.LoopLaws.{reached-start, reached-last, reached-next}
+use Rattle.layout.proofs.MeasureLaws.{shown-glyph, Measured, measured-start, measured-next}
 
 -- ---- a letter
 

@@ -11,7 +11,7 @@ use Rattle.definitions.specs.Utf8.{character, firstCharacter}
 use Rattle.definitions.specs.Font.{u8g2, measuredAnswer}
 use Rattle.definitions.proofs.Utf8Laws.{Position, position, none-malformed}
 use Rattle.measuring.specs.Lines.{asState, stateOutcome}
-use Rattle.measuring.proofs.MeasureLaws.{measured-small}
+use Rattle.layout.proofs.MeasureLaws.{measured-small}
 use Rattle.measuring.proofs.AlignedLaws.{Aligned, aligned-start, aligned-room, aligned-end, aligned-next, aligned-stops}
 use Rattle.measuring.proofs.lines.measure_lines.Statement.{
   statement,

@@ -9,7 +9,7 @@ use Rattle.definitions.specs.Utf8.{character, firstCharacter}
 use Rattle.definitions.specs.Font.{u8g2, drawnAnswer}
 use Rattle.definitions.specs.Calls.{dimensionsOutcome}
 use Rattle.definitions.proofs.Utf8Laws.{Position, position, none-malformed}
-use Rattle.measuring.proofs.MeasureLaws.{Measured, measured-start, measured-room, measured-end, measured-next, measured-stops}
+use Rattle.layout.proofs.MeasureLaws.{Measured, measured-start, measured-room, measured-end, measured-next, measured-stops}
 use Rattle.renderer.proofs.DrawLaws.{drawn-small}
 use Rattle.renderer.proofs.drawn_dimensions.get_drawn_dimensions.Statement.{statement}
 use Rattle.renderer.proofs.drawn_dimensions.get_drawn_dimensions.Tie as tie

@@ -23,9 +23,9 @@ use Rattle.definitions.specs.Font.{u8g2, measuredAnswer}
 use Rattle.definitions.proofs.GlyphLaws.{glyph-range}
 use Rattle.definitions.proofs.TextLaws.{measure-next, measure-stops}
 use Rattle.definitions.proofs.Utf8Laws.{position, utf8-characters, character-count}
 use Rattle.layout.specs.Ranges.{HasRoom, Checked}
-use Rattle.measuring.proofs.LoopLaws.{Reached, reached-start, reached-end, reached-next, reached-stops}
+use Rattle.layout.proofs.LoopLaws.{Reached, reached-start, reached-end, reached-next, reached-stops}
 use Rattle.layout.proofs.RangeLaws.{Small, in-range-small, Within, advanced-start, has-room, within-next}
 
 -- the glyphs that the letters of an opened font show
 pub shown-glyph : (skip : Bool) (o : Outcome GlyphReader) (g : GlyphReader) → answer skip o ≡ shows g → o ≡ success g

@@ -6,9 +6,9 @@ use mir.Val.{SFits, toZ}
 use mir.Facts.{toZ-ofZ, toZ-pos}
 use borrow.Author.Needs.{needs}
 use Rattle.integers.proofs.Laws.{zarith, plus}
 use Rattle.layout.proofs.RangeLaws.{near-fits}
-use Rattle.measuring.proofs.steps.add_newline.Statement.{statement}
-use Rattle.measuring.proofs.steps.add_newline.Tie as tie
+use Rattle.layout.proofs.steps.add_newline.Statement.{statement}
+use Rattle.layout.proofs.steps.add_newline.Tie as tie
 
 module _ (c : tie.Start) where
   line-is : toZ w32 (c .args .line-height) ≡ pos (c .args .line-height)

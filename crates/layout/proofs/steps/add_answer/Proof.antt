@@ -1,7 +1,7 @@
 -- `answerStep` goes by the same cases.
 use borrow.Author.Needs.{needs}
-use Rattle.measuring.proofs.steps.add_answer.Statement.{statement}
-use Rattle.measuring.proofs.steps.add_answer.Tie as tie
+use Rattle.layout.proofs.steps.add_answer.Statement.{statement}
+use Rattle.layout.proofs.steps.add_answer.Tie as tie
 
 enum-told : tie.Need-enum-told
 enum-told c = search needs

@@ -4,9 +4,9 @@ use mir.Val.{SFits}
 use mir.Facts.{toZ-ofZ}
 use borrow.Author.Needs.{needs}
 use Rattle.integers.proofs.Laws.{stored}
 use Rattle.layout.proofs.RangeLaws.{near-fits}
-use Rattle.measuring.proofs.steps.add_glyph.Statement.{statement}
-use Rattle.measuring.proofs.steps.add_glyph.Tie as tie
+use Rattle.layout.proofs.steps.add_glyph.Statement.{statement}
+use Rattle.layout.proofs.steps.add_glyph.Tie as tie
 
 glyph-advance : (c : tie.Start) → SFits w8 (c .args .glyph .advance)
 glyph-advance c = search needs

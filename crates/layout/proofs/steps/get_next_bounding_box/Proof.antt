@@ -7,9 +7,9 @@ use mir.Facts.{toZ-ofZ}
 use borrow.Author.Needs.{needs}
 use Rattle.definitions.specs.Geometry.{InReach}
 use Rattle.definitions.specs.TextSteps.{nextBox}
 use Rattle.layout.proofs.RangeLaws.{Small, near-fits, signed-byte, box-in-reach}
-use Rattle.measuring.proofs.steps.get_next_bounding_box.Statement.{statement}
-use Rattle.measuring.proofs.steps.get_next_bounding_box.Tie as tie
+use Rattle.layout.proofs.steps.get_next_bounding_box.Statement.{statement}
+use Rattle.layout.proofs.steps.get_next_bounding_box.Tie as tie
 
 module _ (c : tie.Start) where
   origin-x : SFits w32 (c .args .origin .x)
