@@ -16,6 +16,7 @@ use lib.Signed.{_≤ℤ_}
 use borrow.Author.Tests.{ltb-true, lt-ltb, le-ltb}
 use Rattle.integers.specs.Integers.{pick}
 use Rattle.integers.proofs.Laws.{zarith, minus}
+use Rattle.integers.proofs.Choices.{impossible}
 use Rattle.definitions.specs.Bits.{lowBits, bits, number, got, ends, readAt, biased}
 
 -- ---- how many
@@ -131,7 +132,7 @@ read-bytes font at b s h l = read-got font at b l ∙ ap got (number-bytes font 
 
 picked : (t : Bool) (m n : ℕ) → pick t (got m) ends ≡ got n → (t ≡ true) × (n ≡ m)
 picked true m n e = (refl, cc)
-picked false m n e = let z : _≡_ {A = ℕ} 0 1 = cc in absurd (omega arith)
+picked false m n e = impossible cc
 
 -- What a read that gives a number says: at least one bit is left after it, and which number it is.
 pub read-inside : (font : List ℕ) (at b n : ℕ) → readAt font at b ≡ got n → (at + b < 8 * length font) × (n ≡ number (take b (drop at (bits font))))

@@ -3,8 +3,8 @@ use mathlib.Core.Path.{_≡_, refl, subst}
 use mathlib.Core.Bool.{Bool, true, false}
 use mathlib.Core.List.{List, [], _∷_, _++_}
 use Prim.Native.Nat.{ℕ}
-use native.Mathlib.Omega.{arith}
 use Rattle.integers.specs.Integers.{pick}
+use Rattle.integers.proofs.Choices.{impossible}
 use Rattle.definitions.specs.Refusals.{Outcome, success, refused, Cause, unlessRefused, anyApplies}
 use Rattle.definitions.proofs.OpenedLaws.{or-false}
 
@@ -30,7 +30,7 @@ module _ {A : Type 0} {rest : Outcome A} {before after : List ℕ} where
 
   pub comes-stopped : {B : Type 0} (b : B) (cs ds : List Cause) {n m : ℕ} → unlessRefused cs (success b) ≡ refused n m
       → Comes (cs ++ ds) rest before after (refused n m) before
-  comes-stopped b [] ds e = let z : _≡_ {A = ℕ} 0 1 = cc in absurd (omega arith)
+  comes-stopped b [] ds e = impossible cc
   comes-stopped b (c ∷ cs) ds {n} {m} e = by (c .applies) refl (comes-stopped b cs ds)
     where
       by : (t : Bool) → c .applies ≡ t → (unlessRefused cs (success b) ≡ refused n m → Comes (cs ++ ds) rest before after (refused n m) before)

@@ -2,12 +2,12 @@
 use mathlib.Core.Path.{_≡_, refl, subst}
 use mathlib.Core.List.{List, _++_}
 use Prim.Native.Nat.{ℕ, _+_, _*_, _≤_, _<_}
-use native.Mathlib.Omega.{arith}
 use lib.ListN.{length, set}
 use Rattle.types.specs.declared.font_reader.FontReader.{FontReader}
 use Rattle.types.specs.declared.glyph_reader.GlyphReader.{GlyphReader}
 use Rattle.definitions.specs.Refusals.{Outcome, success}
 use Rattle.integers.specs.Integers.{signed8}
+use Rattle.integers.proofs.Choices.{impossible}
 use Rattle.definitions.specs.Header.{header, Opened}
 use Rattle.definitions.specs.Bits.{Read, got, ends, lowBits, bits, number, readAt}
 use Rattle.definitions.specs.Lookup.{Search, found, missing, short, record8, chain, search}
@@ -24,7 +24,7 @@ past-the-jump = refl
 taken : (c : ℕ) (r : Read) (rest : ℕ → Outcome GlyphReader) (g : GlyphReader) → unlessEnds c r rest ≡ success g
     → (n : ℕ) × ((r ≡ got n) × (rest n ≡ success g))
 taken c (got n) rest g e = (n, (refl, e))
-taken c ends rest g e = let z : _≡_ {A = ℕ} 0 1 = cc in absurd (omega arith)
+taken c ends rest g e = impossible cc
 
 -- Where one font's field leads to a glyph, a longer font's does.
 field-longer : (font more : List ℕ) (c b at : ℕ) (rest rest′ : ℕ → Outcome GlyphReader) (g : GlyphReader)
@@ -83,5 +83,5 @@ glyph-range font head c g o e = by (search font c) e
   where
     by : (s : Search) → fromSearch font c s ≡ success g → InRange font g
     by (found at) e = fields-range font (header font) c (at * 8) g (subst (λ (h : FontReader). Opened font h) (o .read) o) e
-    by missing e = let z : _≡_ {A = ℕ} 0 1 = cc in absurd (omega arith)
-    by short e = let z : _≡_ {A = ℕ} 0 1 = cc in absurd (omega arith)
+    by missing e = impossible cc
+    by short e = impossible cc

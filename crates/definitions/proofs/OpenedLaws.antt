@@ -12,13 +12,14 @@ use borrow.Author.Tests.{ltb-false, eqb-false}
 use Rattle.types.specs.declared.font_reader.FontReader.{FontReader}
 use Rattle.integers.specs.Integers.{pick}
 use Rattle.integers.proofs.Laws.{zarith}
+use Rattle.integers.proofs.Choices.{impossible}
 use Rattle.definitions.specs.Refusals.{Outcome, success, refused, unlessRefused, anyApplies}
 use Rattle.definitions.specs.Header.{byte, signedByte, header, lengthOff, headerOff, widthOff, signedWidthOff, negative, fontCauses, Opened}
 use Rattle.definitions.specs.Calls.{openFont}
 
 -- both parts of a disjunction that is false
 pub or-false : (s t : Bool) → (s || t) ≡ false → (s ≡ false) × (t ≡ false)
-or-false true t e = let z : _≡_ {A = ℕ} 0 1 = cc in absurd (omega arith)
+or-false true t e = impossible cc
 or-false false t e = (refl, e)
 
 width-in : (b : ℕ) → widthOff b ≡ false → b ≤ 8
@@ -70,8 +71,8 @@ module _ (font : List ℕ) where
   opened-by : (l h : Bool) → lengthOff font ≡ l → headerOff font ≡ h → (head : FontReader)
       → after (success (header font)) l h ≡ success head
       → Opened font head
-  opened-by true h p q head e = let z : _≡_ {A = ℕ} 0 1 = cc in absurd (omega arith)
-  opened-by false true p q head e = let z : _≡_ {A = ℕ} 0 1 = cc in absurd (omega arith)
+  opened-by true h p q head e = impossible cc
+  opened-by false true p q head e = impossible cc
   opened-by false false p q head e = let same : header font ≡ head = cc in subst (λ (x : FontReader). Opened font x) same (opened-limits p q)
 
   pub opened : (head : FontReader) → openFont font ≡ success head → Opened font head
@@ -83,15 +84,15 @@ module _ (font : List ℕ) where
     refused-by : (l h : Bool) (n c : ℕ) → after (success (header font)) l h ≡ refused n c → after rest l h ≡ refused n c
     refused-by true h n c e = cc
     refused-by false true n c e = cc
-    refused-by false false n c e = let z : _≡_ {A = ℕ} 0 1 = cc in absurd (omega arith)
+    refused-by false false n c e = impossible cc
 
     pub open-refused : (n c : ℕ) → openFont font ≡ refused n c → unlessRefused (fontCauses font) rest ≡ refused n c
     unfolding openFont
     open-refused n c e = refused-by (lengthOff font) (headerOff font) n c e
 
     goes-on-by : (l h : Bool) (head : FontReader) → after (success (header font)) l h ≡ success head → after rest l h ≡ rest
-    goes-on-by true h head e = let z : _≡_ {A = ℕ} 0 1 = cc in absurd (omega arith)
-    goes-on-by false true head e = let z : _≡_ {A = ℕ} 0 1 = cc in absurd (omega arith)
+    goes-on-by true h head e = impossible cc
+    goes-on-by false true head e = impossible cc
     goes-on-by false false head e = refl
 
     pub open-goes-on : (head : FontReader) → openFont font ≡ success head → unlessRefused (fontCauses font) rest ≡ rest

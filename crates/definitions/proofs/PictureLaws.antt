@@ -3,12 +3,12 @@ use mathlib.Core.Path.{_≡_, refl, sym}
 use mathlib.Core.Bool.{Bool, true, false, _&&_}
 use mathlib.Core.List.{List, [], _∷_, _++_}
 use Prim.Native.Nat.{ℕ, _+_, _*_}
-use native.Mathlib.Omega.{arith}
 use lib.IntN.{ℤ, pos, natAbs, _-ℤ_}
 use lib.ListN.{getD}
 use lib.Signed.{leZ, ltZ}
 use Rattle.integers.specs.Integers.{pick}
 use Rattle.integers.proofs.Laws.{zarith}
+use Rattle.integers.proofs.Choices.{impossible}
 use Rattle.types.specs.declared.geometry.Rectangle.{Rectangle}
 use Rattle.types.specs.declared.geometry.BoundingBox.{BoundingBox}
 use Rattle.types.specs.declared.geometry.BoundingBox.the-variants.{None, Some}
@@ -39,10 +39,10 @@ edges = refl
 
 all-four : (a b c d : Bool) → (a && b && c && d) ≡ true → ((a ≡ true) × (b ≡ true)) × ((c ≡ true) × (d ≡ true))
 all-four true true true true e = ((refl, refl), (refl, refl))
-all-four true true true false e = let z : _≡_ {A = ℕ} 0 1 = cc in absurd (omega arith)
-all-four true true false d e = let z : _≡_ {A = ℕ} 0 1 = cc in absurd (omega arith)
-all-four true false c d e = let z : _≡_ {A = ℕ} 0 1 = cc in absurd (omega arith)
-all-four false b c d e = let z : _≡_ {A = ℕ} 0 1 = cc in absurd (omega arith)
+all-four true true true false e = impossible cc
+all-four true true false d e = impossible cc
+all-four true false c d e = impossible cc
+all-four false b c d e = impossible cc
 
 pub covers-inside : (column row : ℤ) (r : Rectangle) → covers r column row ≡ true → Inside column row r
 covers-inside column row r e =

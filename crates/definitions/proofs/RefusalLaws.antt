@@ -4,10 +4,10 @@ use mathlib.Core.Path.{_≡_, refl}
 use mathlib.Core.Bool.{Bool, true, false}
 use mathlib.Core.List.{List, [], _∷_, _++_}
 use Prim.Native.Nat.{ℕ}
-use native.Mathlib.Omega.{arith}
 use lib.IntN.{ℤ, pos}
 use lib.ListN.{take, set}
 use Rattle.integers.specs.Integers.{signed8}
+use Rattle.integers.proofs.Choices.{impossible}
 use Rattle.types.specs.declared.framebuffer.Framebuffer.{Framebuffer}
 use Rattle.types.specs.declared.geometry.RenderedDimensions.{RenderedDimensions}
 use Rattle.types.specs.declared.style.FontColor.{FontColor}
@@ -36,7 +36,7 @@ module _ {A : Type 0} (rest : Outcome A) where
     where
       by : (t : Bool) → c .applies ≡ t → (unlessRefused cs rest ≡ success a → (anyApplies cs ≡ false) × (rest ≡ success a))
           → (anyApplies (c ∷ cs) ≡ false) × (rest ≡ success a)
-      by true k next = let z : _≡_ {A = ℕ} 0 1 = cc (rw k at e) in absurd (omega arith)
+      by true k next = impossible (cc (rw k at e))
       by false k next = let h = next (rw k at e) in (rw k (h .0), h .1)
 
   -- causes none of which applies, tested before others

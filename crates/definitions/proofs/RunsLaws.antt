@@ -11,6 +11,7 @@ use lib.ListN.{length, take, drop, getD, replicate, length-append, length-drop, 
 use lib.Seq.{take-append-le, drop-append-le, length-take-le, drop-drop, drop-at, getD-append-add, getD-take}
 use borrow.Author.Tests.{ltb-true, leb-true, leb-false, eqb-true, lt-ltb, le-ltb, lt-leb}
 use Rattle.integers.specs.Integers.{pick}
+use Rattle.integers.proofs.Choices.{impossible}
 use Rattle.types.specs.declared.font_reader.FontReader.{FontReader}
 use Rattle.types.specs.declared.glyph_reader.GlyphReader.{GlyphReader}
 use Rattle.definitions.specs.Bits.{Read, got, ends, bits, number, read, readAt}
@@ -30,12 +31,12 @@ pairPixels zeros ones = replicate zeros 0 ++ replicate ones 1
 -- a number that was read, and what came of it
 taken : (r : Read) (rest : ℕ → Pixels) (ps : List ℕ) → unlessCut r rest ≡ pixels ps → (n : ℕ) × ((r ≡ got n) × (rest n ≡ pixels ps))
 taken (got n) rest ps e = (n, (refl, e))
-taken ends rest ps e = let z : _≡_ {A = ℕ} 0 1 = cc in absurd (omega arith)
+taken ends rest ps e = impossible cc
 
 -- what stands after a pair's pixels
 prepended : (xs : List ℕ) (r : Pixels) (ps : List ℕ) → prepend xs r ≡ pixels ps → (qs : List ℕ) × ((r ≡ pixels qs) × (ps ≡ xs ++ qs))
 prepended xs (pixels qs) ps e = (qs, (refl, cc))
-prepended xs cut ps e = let z : _≡_ {A = ℕ} 0 1 = cc in absurd (omega arith)
+prepended xs cut ps e = impossible cc
 
 -- ---- a longer font
 
@@ -57,7 +58,7 @@ pair-same n zeros ones r r′ same ps = split (leb n (zeros + ones))
 
 picked : (t : Bool) (m n : ℕ) → pick t (got m) ends ≡ got n → (t ≡ true) × (m ≡ n)
 picked true m n e = (refl, cc)
-picked false m n e = let z : _≡_ {A = ℕ} 0 1 = cc in absurd (omega arith)
+picked false m n e = impossible cc
 
 -- A read that gives a number lies within the bits, and with more bits gives the same.
 read-longer : (b : ℕ) (s t : List ℕ) (n : ℕ) → read b s ≡ got n → (b < length s) × (read b (s ++ t) ≡ got n)
@@ -100,7 +101,7 @@ repeat-longer m0 m1 zeros ones s t same n ps false =
 after-longer : (m0 m1 : ℕ) (s t : List ℕ) (zeros ones skip : ℕ)
     → Same (λ n. afterPair m0 m1 n zeros ones skip s) (λ n. afterPair m0 m1 n zeros ones skip (s ++ t))
 unfolding Same afterPair
-after-longer m0 m1 [] t zeros ones skip n ps e = let z : _≡_ {A = ℕ} 0 1 = cc in absurd (omega arith)
+after-longer m0 m1 [] t zeros ones skip n ps e = impossible cc
 after-longer m0 m1 (b ∷ s) t zeros ones (suc skip) n ps e = after-longer m0 m1 s t zeros ones skip n ps e
 after-longer m0 m1 (b ∷ s) t zeros ones zero n ps e =
     unless-longer 1 (b ∷ s) t _ _ ps (λ repeat h. repeat-longer m0 m1 zeros ones s t (λ zeros ones skip. after-longer m0 m1 s t zeros ones skip) n ps (eqb repeat 1)) e
@@ -189,7 +190,7 @@ module _
 
   after-all : (m0 m1 : ℕ) (s : List ℕ) (zeros ones skip n : ℕ) (ps : List ℕ) → afterPair m0 m1 n zeros ones skip s ≡ pixels ps → P n ps
   unfolding afterPair
-  after-all m0 m1 [] zeros ones skip n ps e = let z : _≡_ {A = ℕ} 0 1 = cc in absurd (omega arith)
+  after-all m0 m1 [] zeros ones skip n ps e = impossible cc
   after-all m0 m1 (b ∷ s) zeros ones (suc skip) n ps e = after-all m0 m1 s zeros ones skip n ps e
   after-all m0 m1 (b ∷ s) zeros ones zero n ps e =
       let q = taken (read 1 (b ∷ s)) _ ps e in

@@ -4,11 +4,11 @@ use mathlib.Core.Path.{_≡_, refl, sym, ap, _∙_}
 use mathlib.Core.Bool.{Bool, true, false, _||_}
 use mathlib.Core.List.{List, [], _∷_, _++_, map, map-append, append-assoc, append-nil}
 use Prim.Native.Nat.{ℕ}
-use native.Mathlib.Omega.{arith}
 use lib.Dec.{eqb}
 use lib.IntN.{ℤ, pos, _+ℤ_, _-ℤ_}
 use Rattle.integers.specs.Integers.{pick}
 use Rattle.integers.proofs.Laws.{zarith, plus, minus}
+use Rattle.integers.proofs.Choices.{impossible}
 use Rattle.types.specs.declared.geometry.BoundingBox.{BoundingBox}
 use Rattle.types.specs.declared.geometry.BoundingBox.the-variants.{None, Some}
 use Rattle.types.specs.declared.geometry.Point.{Point}
@@ -324,7 +324,7 @@ module _ (answers : ℕ → Answer) (lineHeight : ℕ) (origin : Point) (d : Ren
     stops-shown : {n k : ℕ} (t : Bool) (l : Answer) → pick t (success (newlineStep lineHeight d)) (answerStep origin d l) ≡ refused n k
         → pick t buffer (answerShown width color pixelsOf origin d l buffer) ≡ buffer
     stops-shown true l e = refl
-    stops-shown false (shows g) e = let z : _≡_ {A = ℕ} 0 1 = cc in absurd (omega arith)
+    stops-shown false (shows g) e = impossible cc
     stops-shown false nothing e = refl
     stops-shown false (stops n k) e = refl
 
@@ -365,7 +365,7 @@ module _ {answers letters′ : ℕ → Answer} (follows : Follows answers letter
   same-place cs rest advance last c (shows g) e k =
       rw (follows .same c g e, rest (point (advance .x +ℤ g .advance) (advance .y)) last k)
   same-place cs rest advance last c nothing e k = absurd (follows .some c e)
-  same-place cs rest advance last c (stops n d) e k = let z : _≡_ {A = ℕ} 0 1 = cc in absurd (omega arith)
+  same-place cs rest advance last c (stops n d) e k = impossible cc
 
   same-char : (cs : List ℕ) → Alike cs → (advance last : Point) (c : ℕ) (t : Bool)
       → pick t (layout answers lineHeight origin (newline lineHeight advance) cs) (place origin advance (answers c) (λ next. layout answers lineHeight origin next cs)) .advance ≡ success last

@@ -9,6 +9,7 @@ use native.Mathlib.Omega.{arith}
 use lib.ListN.{length, getD, take, List·getD-eq-default}
 use borrow.Author.Tests.{le-leb, lt-leb}
 use Rattle.integers.specs.Integers.{pick}
+use Rattle.integers.proofs.Choices.{impossible}
 use Rattle.definitions.specs.Utf8.{isIn, continues, Row, one, two, three, four, none, rowOf, character, malformed, sequence, firstCharacter, Scalar, encode}
 use Rattle.definitions.proofs.Utf8Rows.{if-less, both, within, bounds, by-rows, row-one, row-two, row-three-E0, row-three-E1, row-three-ED, row-three-EE, row-four-F0, row-four-F1, row-four-F4}
 
@@ -55,7 +56,7 @@ by-test P true {x} {n} {p} {k} q e =
     let code : x ≡ p = cc in
     let size : n ≡ k = cc in
     subst (λ (m : ℕ). P m k) code (subst (λ (m : ℕ). P x m) size (q refl))
-by-test P false q e = let z : _≡_ {A = ℕ} 0 1 = cc in absurd (omega arith)
+by-test P false q e = impossible cc
 
 module _ (a b c d : ℕ) where
   -- the code points of two, three and four bytes
@@ -166,7 +167,7 @@ module _ (a b c d : ℕ) where
       nothing
     where
       nothing : Right none
-      nothing p k e = let z : _≡_ {A = ℕ} 0 1 = cc in absurd (omega arith)
+      nothing p k e = impossible cc
 
 -- a byte that is not 0 lies within the bytes
 inside : (s : List ℕ) (i : ℕ) → 0 < getD s i 0 → i < length s
@@ -204,7 +205,7 @@ pub record Head (s : List ℕ) (c k : ℕ) : Type 0 where
 
 pub head : (s : List ℕ) {c k : ℕ} → firstCharacter s ≡ character c k → Head s c k
 unfolding firstCharacter
-head [] e = let z : _≡_ {A = ℕ} 0 1 = cc in absurd (omega arith)
+head [] e = impossible cc
 head (a ∷ s) {c} {k} e =
     let b = right a (getD s 0 0) (getD s 1 0) (getD s 2 0) c k e in
     let l = counted k s (b .most) (b .second) (b .third) (b .fourth) in

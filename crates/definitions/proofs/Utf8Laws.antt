@@ -13,6 +13,7 @@ use lib.ListN.{length, getD, drop, length-append, length-drop, take-append-drop,
 use lib.Seq.{drop-cons, drop-drop, drop-append-seam, getD-drop}
 use borrow.Author.Tests.{eq-eqb, ne-eqb}
 use Rattle.integers.specs.Integers.{pick}
+use Rattle.integers.proofs.Choices.{impossible}
 use Rattle.definitions.specs.Utf8.{Row, rowOf, Character, character, malformed, sequence, firstCharacter, Scalar, encode, encodeAll, Scalars, nil, cons, Decoded, characters, notUtf8, prepend, decodeFrom, decode, isUtf8, codePoints, newlines}
 use Rattle.definitions.proofs.Utf8Rows.{if-less}
 use Rattle.definitions.proofs.Utf8Encoding.{encode-one, encode-two, encode-three, encode-four, encode-some, head, first-encode}
@@ -57,11 +58,11 @@ decode-first (b ∷ s) {c} {k} e = rw e (ap (prepend c) (skipped (k - 1) s ∙ a
 
 prepended : (c : ℕ) (d : Decoded) (cs : List ℕ) → prepend c d ≡ characters cs → (rest : List ℕ) × ((cs ≡ c ∷ rest) × (d ≡ characters rest))
 prepended c (characters rest) cs e = (rest, (cc, refl))
-prepended c notUtf8 cs e = let z : _≡_ {A = ℕ} 0 1 = cc in absurd (omega arith)
+prepended c notUtf8 cs e = impossible cc
 
 pub utf8-characters : (d : Decoded) → isUtf8 d ≡ true → d ≡ characters (codePoints d)
 utf8-characters (characters cs) e = refl
-utf8-characters notUtf8 e = let z : _≡_ {A = ℕ} 0 1 = cc in absurd (omega arith)
+utf8-characters notUtf8 e = impossible cc
 
 -- The encoding of a scalar value decodes to it, and what follows does not matter.
 pub decode-encode : (c : ℕ) (rest : List ℕ) → Scalar c → decode (encode c ++ rest) ≡ prepend c (decode rest)
@@ -115,7 +116,7 @@ module _ (text : List ℕ) (at : ℕ) where
   next {c} {k} {cs} e d = prepended c (decode (drop (at + k) text)) cs (sym (position e .decoded) ∙ d)
 
   pub none-malformed : {cs : List ℕ} → at < length text → decode (drop at text) ≡ characters cs → firstCharacter (drop at text) ≡ malformed → ⊥
-  none-malformed h d e = let f = not-utf8 h e in let z : _≡_ {A = ℕ} 0 1 = cc in omega arith
+  none-malformed h d e = let f = not-utf8 h e in impossible cc
 
 -- ---- a text and its code points: each is had from the other
 

@@ -10,6 +10,7 @@ use lib.Dec.{leb}
 use lib.ListN.{take, drop}
 use borrow.Author.Tests.{le-leb, lt-leb, leb-true}
 use Rattle.integers.specs.Integers.{pick}
+use Rattle.integers.proofs.Choices.{impossible}
 use Rattle.definitions.specs.Utf8.{isIn, Row, one, two, three, four, none, TableRow, table, findRow, rowOf}
 
 -- ---- ranges of bytes
@@ -27,8 +28,8 @@ and-false false = refl
 
 pub both : (s t : Bool) → (s && t) ≡ true → (s ≡ true) × (t ≡ true)
 both true true e = (refl, refl)
-both true false e = let z : _≡_ {A = ℕ} 0 1 = cc in absurd (omega arith)
-both false t e = let z : _≡_ {A = ℕ} 0 1 = cc in absurd (omega arith)
+both true false e = impossible cc
+both false t e = impossible cc
 
 pub within : (from to b : ℕ) → from ≤ b → b ≤ to → isIn from to b ≡ true
 within from to b p q = simp (le-leb from b p, le-leb b to q)
