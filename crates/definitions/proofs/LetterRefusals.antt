@@ -15,7 +15,7 @@ use Rattle.definitions.specs.Header.{header}
 use Rattle.definitions.specs.Bits.{Read, got, ends, readAt}
 use Rattle.definitions.specs.Lookup.{Search, found, missing, short, search as lookup}
 use Rattle.definitions.specs.Glyph.{unlessEnds, fields, fromSearch, glyph}
-use Rattle.definitions.specs.Text.{Answer, shows, nothing, stops, answer, Layout, point, newline, place, layout, dimensionsOf}
+use Rattle.definitions.specs.Text.{Answer, shows, nothing, stops, answer, Layout, point, dimensionsOf, place, letters, Lines, last, first, lines, newline, thenLines, lineByLine, layout}
 use Rattle.definitions.specs.Runs.{Pixels, pixels, cut}
 use Rattle.definitions.specs.Font.{Font, u8g2, withRuns, drawable, drawnAnswer}
 
@@ -85,17 +85,22 @@ module _ (answers : ℕ → Answer) (each : (c : ℕ) → LateAnswer (answers c)
   late-place advance nothing h rest k = k advance
   late-place advance (stops n c) (ends-late h) rest k = late h
 
-  late-layout : (cs : List ℕ) (advance : Point) → Late (layout answers lineHeight origin advance cs .advance)
-  unfolding layout
-  late-layout [] advance = none
-  late-layout (c ∷ cs) advance = by (late-layout cs) (eqb c 10)
-    where
-      by : ((next : Point) → Late (layout answers lineHeight origin next cs .advance)) → (t : Bool)
-          → Late
-          (pick t (layout answers lineHeight origin (newline lineHeight advance) cs)
-          (place origin advance (answers c) (λ next. layout answers lineHeight origin next cs)) .advance)
-      by rest true = rest (newline lineHeight advance)
-      by rest false = late-place advance (answers c) (each c) (λ next. layout answers lineHeight origin next cs) rest
+  late-letters : (l : List ℕ) (advance : Point) → Late (letters answers origin advance l .advance)
+  unfolding letters
+  late-letters [] advance = none
+  late-letters (c ∷ l) advance = late-place advance (answers c) (each c) (λ next. letters answers origin next l) (late-letters l)
+
+  late-then : (line : Layout) → Late (line .advance) → (o : Outcome Point) (rest : Point → Layout) → ((next : Point) → Late (rest next .advance))
+      → Late (thenLines line o rest .advance)
+  late-then line h (success next) rest k = k next
+  late-then line h (refused n c) rest k = h
+
+  late-lines : (ls : Lines) (advance : Point) → Late (lineByLine (letters answers origin) lineHeight advance ls .advance)
+  unfolding lineByLine
+  late-lines (last l) advance = late-letters l advance
+  late-lines (first l ls) advance =
+      late-then (letters answers origin advance l) (late-letters l advance) (letters answers origin advance l .advance)
+      (λ end. lineByLine (letters answers origin) lineHeight (newline lineHeight end) ls) (λ end. late-lines ls (newline lineHeight end))
 
 late-dimensions : (b : BoundingBox) (o : Outcome Point) → Late o → Late (dimensionsOf b o)
 late-dimensions b (success a) h = none
@@ -106,6 +111,6 @@ pub late-drawn : (font : List ℕ) (skip : Bool) (lineHeight : ℕ) (origin adva
     → Late (dimensionsOf b (layout (drawnAnswer (u8g2 font) skip) lineHeight origin advance cs .advance))
 late-drawn font skip lineHeight origin advance b cs =
     late-dimensions b _
-    (late-layout (drawnAnswer (u8g2 font) skip)
+    (late-lines (drawnAnswer (u8g2 font) skip)
     (λ c. late-answer skip (drawable (u8g2 font) c (glyph font c)) (late-drawable (u8g2 font) c (glyph font c) (late-glyph font c)))
-    lineHeight origin cs advance)
+    lineHeight origin (lines cs) advance)

@@ -8,7 +8,7 @@ use Rattle.definitions.specs.Bits.{lowBits, bits, number, readAt}
 use Rattle.definitions.specs.Lookup.{record8, chain, record16, jumpTable, search}
 use Rattle.definitions.specs.Glyph.{fields, glyph}
 use Rattle.definitions.specs.Utf8.{table, rowOf, firstCharacter, decodeFrom, newlines}
-use Rattle.definitions.specs.Text.{joinAll, layout}
+use Rattle.definitions.specs.Text.{joinAll, letters, lines, lineByLine}
 use Rattle.definitions.specs.Calls.{openFont, measure}
 use Rattle.definitions.specs.Line.{decimalFrom, decimal, measuredByProgram, measuringLine}
 use Rattle.definitions.specs.FontT.{T}
@@ -33,5 +33,5 @@ lineCases =
     ∷ []
 
 pub line-cases-hold : map (λ (c : LineCase). measuringLine (c .font) (c .text)) lineCases ≡ map (λ (c : LineCase). c .line) lineCases
-unfolding lineCases measuringLine measuredByProgram decimal decimalFrom openFont header headerOff signed8 T glyph fields search record8 chain record16 jumpTable readAt bits lowBits number table rowOf firstCharacter decodeFrom newlines joinAll layout measure
+unfolding lineCases measuringLine measuredByProgram decimal decimalFrom openFont header headerOff signed8 T glyph fields search record8 chain record16 jumpTable readAt bits lowBits number table rowOf firstCharacter decodeFrom newlines joinAll letters lines lineByLine measure
 line-cases-hold = refl

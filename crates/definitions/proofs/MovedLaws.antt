@@ -1,7 +1,7 @@
 -- Where a text stands moves its glyphs and its box, and changes nothing else. Assumes nothing.
 use mathlib.Core.Path.{_≡_, refl, sym, ap, _∙_}
 use mathlib.Core.Bool.{Bool, true, false, _||_}
-use mathlib.Core.List.{List, [], _∷_, map}
+use mathlib.Core.List.{List, [], _∷_, map, map-append}
 use Prim.Native.Nat.{ℕ, _*_}
 use lib.Dec.{eqb, ltb}
 use lib.IntN.{ℤ, pos, _+ℤ_}
@@ -12,7 +12,7 @@ use Rattle.types.specs.declared.geometry.BoundingBox.{BoundingBox}
 use Rattle.types.specs.declared.geometry.Point.{Point}
 use Rattle.types.specs.declared.geometry.RenderedDimensions.{RenderedDimensions}
 use Rattle.definitions.specs.Refusals.{Outcome, success, refused, anyApplies}
-use Rattle.definitions.specs.Text.{Answer, shows, nothing, stops, joinAll, Layout, point, newline, place, layout, dimensionsOf, dimensions, moved}
+use Rattle.definitions.specs.Text.{Answer, shows, nothing, stops, joinAll, Layout, point, dimensionsOf, dimensions, place, letters, Lines, last, first, lines, newline, thenLines, lineByLine, layout}
 use Rattle.definitions.specs.TextSteps.{movedBox}
 use Rattle.definitions.specs.VerticalOffset.{verticalOffset}
 use Rattle.definitions.specs.Utf8.{newlines}
@@ -21,7 +21,7 @@ use Rattle.definitions.specs.Font.{Font, measuredAnswer}
 use Rattle.definitions.specs.Calls.{Request, request, characters, origin, laid, measureCauses, measuredText, measure}
 use Rattle.definitions.proofs.OpenedLaws.{or-false}
 use Rattle.definitions.proofs.RefusalLaws.{none-applies, succeeded, NoneApplies, each-off, all-off, any-parts, parts-any}
-use Rattle.definitions.proofs.TextLaws.{join-all-moved}
+use Rattle.definitions.proofs.TextLaws.{moved, join-all-moved}
 
 sum-moved : (x a b : ℤ) → (x +ℤ a) +ℤ b ≡ x +ℤ (a +ℤ b)
 sum-moved x a b = omega (zarith, plus x a, plus a b, plus (x +ℤ a) b, plus x (a +ℤ b))
@@ -48,31 +48,39 @@ module _ (x y : ℤ) where
       ∙ by-advance (joinAll (l .glyphs)) (l .advance)
 
   module _ (answers : ℕ → Answer) (lineHeight : ℕ) (origin : Point) where
-    -- what is to be shown of a list of code points, from each advance
-    abbrev Moves : List ℕ → Type 0
-    Moves cs =
-        (advance : Point)
-        → layout answers lineHeight (movedPoint origin) advance cs ≡ movedLayout (layout answers lineHeight origin advance cs)
-
-    place-moved : (cs : List ℕ) → Moves cs → (advance : Point) (l : Answer)
-        → place (movedPoint origin) advance l (λ next. layout answers lineHeight (movedPoint origin) next cs)
-        ≡ movedLayout (place origin advance l (λ next. layout answers lineHeight origin next cs))
-    place-moved cs rest advance (shows g) =
+    place-moved : (l : List ℕ) (advance : Point) (a : Answer)
+        → ((next : Point) → letters answers (movedPoint origin) next l ≡ movedLayout (letters answers origin next l))
+        → place (movedPoint origin) advance a (λ next. letters answers (movedPoint origin) next l)
+        ≡ movedLayout (place origin advance a (λ next. letters answers origin next l))
+    place-moved l advance (shows g) rest =
         rw (rest (point (advance .x +ℤ g .advance) (advance .y)), sum-moved x (origin .x) (advance .x), sum-moved y (origin .y) (advance .y))
-    place-moved cs rest advance nothing = rest advance
-    place-moved cs rest advance (stops n c) = refl
+    place-moved l advance nothing rest = rest advance
+    place-moved l advance (stops n c) rest = refl
 
-    char-moved : (cs : List ℕ) → Moves cs → (advance : Point) (t : Bool) (l : Answer)
-        → pick t (layout answers lineHeight (movedPoint origin) (newline lineHeight advance) cs) (place (movedPoint origin) advance l (λ next. layout answers lineHeight (movedPoint origin) next cs))
-        ≡ movedLayout (pick t (layout answers lineHeight origin (newline lineHeight advance) cs) (place origin advance l (λ next. layout answers lineHeight origin next cs)))
-    char-moved cs rest advance true l = rest (newline lineHeight advance)
-    char-moved cs rest advance false l = place-moved cs rest advance l
+    letters-moved : (l : List ℕ) (advance : Point) → letters answers (movedPoint origin) advance l ≡ movedLayout (letters answers origin advance l)
+    unfolding letters
+    letters-moved [] advance = refl
+    letters-moved (c ∷ l) advance = place-moved l advance (answers c) (letters-moved l)
+
+    then-moved : (line : Layout) (o : Outcome Point) (rest there : Point → Layout) → ((next : Point) → there next ≡ movedLayout (rest next))
+        → thenLines (movedLayout line) o there ≡ movedLayout (thenLines line o rest)
+    then-moved line (success next) rest there h = rw (h next, map-append (moved x y) (line .glyphs) (rest next .glyphs))
+    then-moved line (refused n c) rest there h = refl
+
+    lines-moved : (ls : Lines) (advance : Point)
+        → lineByLine (letters answers (movedPoint origin)) lineHeight advance ls ≡ movedLayout (lineByLine (letters answers origin) lineHeight advance ls)
+    unfolding lineByLine
+    lines-moved (last l) advance = letters-moved l advance
+    lines-moved (first l ls) advance =
+        rw (letters-moved l advance)
+        (then-moved (letters answers origin advance l) (letters answers origin advance l .advance)
+        (λ end. lineByLine (letters answers origin) lineHeight (newline lineHeight end) ls)
+        (λ end. lineByLine (letters answers (movedPoint origin)) lineHeight (newline lineHeight end) ls)
+        (λ end. lines-moved ls (newline lineHeight end)))
 
     pub layout-moved : (cs : List ℕ) (advance : Point)
         → layout answers lineHeight (movedPoint origin) advance cs ≡ movedLayout (layout answers lineHeight origin advance cs)
-    unfolding layout
-    layout-moved [] advance = refl
-    layout-moved (c ∷ cs) advance = char-moved cs (layout-moved cs) advance (eqb c 10) (answers c)
+    layout-moved cs advance = lines-moved (lines cs) advance
 
 -- ---- the calls
 

@@ -19,7 +19,7 @@ use Rattle.definitions.specs.Bits.{lowBits, bits, number, readAt}
 use Rattle.definitions.specs.Lookup.{record8, chain, search}
 use Rattle.definitions.specs.Glyph.{fields, glyph}
 use Rattle.definitions.specs.Utf8.{table, rowOf, firstCharacter, decodeFrom, newlines}
-use Rattle.definitions.specs.Text.{point, joinAll, layout}
+use Rattle.definitions.specs.Text.{point, joinAll, letters, lines, lineByLine}
 use Rattle.definitions.specs.Calls.{Request, plain, measure, drawCauses, draw, drawBuffer}
 use Rattle.definitions.specs.Font.{Font, u8g2}
 use Rattle.definitions.specs.FontT.{T}
@@ -89,7 +89,7 @@ module _ where
       ∷ drawnOf T (65 ∷ []) (pos 0) (Transparent 1) (0 ∷ [])
       ∷ [])
       ≡ (refused 1 0 ∷ refused 2 0 ∷ refused 3 0 ∷ refused 4 0 ∷ refused 5 0 ∷ refused 6 0 ∷ refused 7 65 ∷ [])
-  unfolding T header headerOff signed8 glyph fields search record8 chain readAt bits lowBits number table rowOf firstCharacter decodeFrom newlines joinAll layout draw
+  unfolding T header headerOff signed8 glyph fields search record8 chain readAt bits lowBits number table rowOf firstCharacter decodeFrom newlines joinAll letters lines lineByLine draw
   draw-order = refl
 
   abbrev measuredOf : List ℕ → List ℕ → ℤ → Outcome RenderedDimensions
@@ -103,7 +103,7 @@ module _ where
       ∷ measuredOf T (65 ∷ []) (pos 0)
       ∷ [])
       ≡ (refused 1 0 ∷ refused 2 0 ∷ refused 4 0 ∷ refused 5 0 ∷ refused 7 65 ∷ [])
-  unfolding T header headerOff signed8 glyph fields search record8 chain readAt bits lowBits number table rowOf firstCharacter decodeFrom newlines joinAll layout measure
+  unfolding T header headerOff signed8 glyph fields search record8 chain readAt bits lowBits number table rowOf firstCharacter decodeFrom newlines joinAll letters lines lineByLine measure
   measure-order = refl
 
 -- ---- the framebuffer of a refused call

@@ -17,11 +17,13 @@ use Rattle.types.specs.declared.geometry.RenderedDimensions.{RenderedDimensions
 use Rattle.types.specs.declared.glyph_reader.GlyphReader.{GlyphReader}
 use Rattle.types.specs.declared.style.FontColor.{FontColor}
 use Rattle.types.specs.declared.style.HorizontalAlignment.{HorizontalAlignment}
-use Rattle.types.specs.declared.style.HorizontalAlignment.the-variants.{Left}
+use Rattle.types.specs.declared.style.HorizontalAlignment.the-variants.{Left, Center, Right}
 use Rattle.definitions.specs.Refusals.{Outcome, success, refused}
 use Rattle.definitions.specs.Geometry.{join}
-use Rattle.definitions.specs.Text.{Answer, shows, nothing, stops, boxAt, Placed, boxOf, joinAll, Layout, point, newline, before, place, layout, dimensionsOf, dimensions, Line, emptyLine, moved, endLine, extend, aligned}
-use Rattle.definitions.specs.TextSteps.{andThen, newlineStep, nextBox, glyphStep, answerStep, step, measureFrom, start, answerShown, stepShown, orKept, drawFrom, movedBox, LineState, withLine, nextLine, answerOfLine, lineStep, measureLinesFrom, linesDimensions, measureLines}
+use Rattle.definitions.specs.Text.{Answer, shows, nothing, stops, boxAt, Placed, boxOf, joinAll, Layout, point, before, dimensionsOf, dimensions}
+use Rattle.definitions.specs.Text.{place, letters, Lines, last, first, toFirst, lines, newline, thenLines, lineByLine, layout, horizontalOffset, withOffset, movedLine, alignedLine, aligned}
+use Rattle.definitions.specs.TextSteps.{andThen, newlineStep, nextBox, glyphStep, answerStep, step, measureFrom, start, answerShown, stepShown, orKept, drawFrom}
+use Rattle.definitions.specs.TextSteps.{movedBox, LineState, withLine, nextLine, answerOfLine, lineStep, measureLinesFrom, linesDimensions, measureLines}
 use Rattle.definitions.specs.Picture.{boxPicture, textPicture}
 use Rattle.definitions.specs.Framebuffer.{shown}
 use Rattle.definitions.specs.Calls.{boxOfLayout}
@@ -34,6 +36,43 @@ pub join-append : (ps qs : List Placed) → joinAll (ps ++ qs) ≡ join (joinAll
 unfolding joinAll
 join-append [] qs = refl
 join-append (p ∷ ps) qs = ap (join (boxOf p)) (join-append ps qs) ∙ sym (join-assoc (boxOf p) (joinAll ps) (joinAll qs))
+
+-- ---- a plain text, letter by letter
+
+then-before : (ps : List Placed) (line : Layout) (o : Outcome Point) (rest : Point → Layout)
+    → thenLines (before ps line) o rest ≡ before ps (thenLines line o rest)
+then-before ps line (success end) rest = rw append-assoc
+then-before ps line (refused n c) rest = refl
+
+module _ (answers : ℕ → Answer) (lineHeight : ℕ) (origin : Point) where
+  abbrev plainFrom : Point → Lines → Layout
+  plainFrom advance ls = lineByLine (letters answers origin) lineHeight advance ls
+
+  -- a letter in front of the first line
+  first-letter : (advance : Point) (c : ℕ) (ls : Lines) (a : Answer) → answers c ≡ a
+      → plainFrom advance (toFirst c ls) ≡ place origin advance a (λ next. plainFrom next ls)
+  unfolding letters lineByLine
+  first-letter advance c (last l) a e = rw e
+  first-letter advance c (first l ls) (shows g) e =
+      let p : Placed = record { x = origin .x +ℤ advance .x; y = origin .y +ℤ advance .y; glyph = g } in
+      let done = letters answers origin (point (advance .x +ℤ g .advance) (advance .y)) l in
+      rw e (then-before (p ∷ []) done (done .advance) (λ end. plainFrom (newline lineHeight end) ls))
+  first-letter advance c (first l ls) nothing e = rw e
+  first-letter advance c (first l ls) (stops n d) e = rw e
+
+  pub layout-next : (c : ℕ) (cs : List ℕ) (advance : Point)
+      → layout answers lineHeight origin advance (c ∷ cs)
+      ≡ pick (eqb c 10)
+      (layout answers lineHeight origin (newline lineHeight advance) cs)
+      (place origin advance (answers c) (λ next. layout answers lineHeight origin next cs))
+  unfolding letters lines lineByLine
+  layout-next c cs advance = by (eqb c 10)
+    where
+      by : (t : Bool)
+          → plainFrom advance (pick t (first [] (lines cs)) (toFirst c (lines cs)))
+          ≡ pick t (plainFrom (newline lineHeight advance) (lines cs)) (place origin advance (answers c) (λ next. plainFrom next (lines cs)))
+      by true = refl
+      by false = first-letter advance c (lines cs) (answers c) refl
 
 -- ---- measuring is the layout's dimensions
 
@@ -60,9 +99,11 @@ module _ (answers : ℕ → Answer) (lineHeight : ℕ) (origin : Point) where
 
   pub measure-from : (cs : List ℕ) (d : RenderedDimensions)
       → measureFrom answers lineHeight origin d cs ≡ dimensionsFrom (d .«bounding_box») (layout answers lineHeight origin (d .advance) cs)
-  unfolding measureFrom layout joinAll
+  unfolding measureFrom letters lines lineByLine joinAll
   measure-from [] d = rw join-none-right
-  measure-from (c ∷ cs) d = measure-char (eqb c 10) d (answers c) cs (measure-from cs)
+  measure-from (c ∷ cs) d =
+      measure-char (eqb c 10) d (answers c) cs (measure-from cs)
+      ∙ ap (dimensionsFrom (d .«bounding_box»)) (sym (layout-next answers lineHeight origin c cs (d .advance)))
 
 -- ---- drawing letter by letter is the text's picture on the framebuffer, up to the refusal if there is one
 
@@ -101,9 +142,11 @@ module _ (width : ℕ) (color : FontColor) (pixelsOf : GlyphReader → List ℕ)
   pub draw-from : (cs : List ℕ) (d : RenderedDimensions) (buffer : List ℕ)
       → drawFrom width color pixelsOf answers lineHeight origin d buffer cs
       ≡ shown width (textPicture color pixelsOf (layout answers lineHeight origin (d .advance) cs .glyphs)) buffer
-  unfolding drawFrom layout textPicture
+  unfolding drawFrom letters lines lineByLine textPicture
   draw-from [] d buffer = sym (shown-blank width buffer)
-  draw-from (c ∷ cs) d buffer = draw-char cs (draw-from cs) d buffer (eqb c 10) (answers c)
+  draw-from (c ∷ cs) d buffer =
+      draw-char cs (draw-from cs) d buffer (eqb c 10) (answers c)
+      ∙ ap (on buffer) (sym (layout-next answers lineHeight origin c cs (d .advance)))
 
 -- ---- measuring line by line is the aligned layout's dimensions
 
@@ -129,6 +172,9 @@ either-box P x y g none some = by (eqb (g .«glyph_width») 0 || eqb (g .«glyph
     by true = none
     by false = some
 
+abbrev pub moved : ℤ → ℤ → Placed → Placed
+moved x y p = record { x = x +ℤ p .x; y = y +ℤ p .y; glyph = p .glyph }
+
 module _ (x y : ℤ) where
   -- a glyph's box where the glyph is moved
   box-moved : (p : Placed) → boxOf (moved x y p) ≡ movedBox x y (boxOf p)
@@ -145,72 +191,147 @@ module _ (x y : ℤ) where
   join-all-moved [] = refl
   join-all-moved (p ∷ ps) = rw (box-moved p, join-all-moved ps) (join-moved x y (boxOf p) (joinAll ps))
 
--- the loop's state for a line so far
-abbrev stateOf : Line → ℤ → BoundingBox → LineState
-stateOf line y box = record {
-  line = record { advance = point (line .advance) (pos 0); «bounding_box» = joinAll (line .glyphs) };
-  y = y;
-  box = box;
-}
-
 zero-plus : (x : ℤ) → pos 0 +ℤ x ≡ x
 zero-plus x = omega (zarith, plus (pos 0) x)
 
 plus-zero : (x : ℤ) → x +ℤ pos 0 ≡ x
 plus-zero x = omega (zarith, plus x (pos 0))
 
+-- a line that is laid out from its own start, moved to its place, y below the origin
+abbrev movedTo : ℤ → ℤ → ℤ → Layout → Layout
+movedTo left top y line = record {
+  glyphs = map (moved left (top +ℤ y)) (line .glyphs);
+  advance = andThen (line .advance) (λ end. success (point (end .x) y));
+}
+
+abbrev zero : Point
+zero = point (pos 0) (pos 0)
+
+module _ (answers : ℕ → Answer) (origin : Point) (y : ℤ) where
+  place-moved : (x : ℤ) (a : Answer) (l : List ℕ)
+      → ((x : ℤ) → letters answers origin (point x y) l ≡ movedTo (origin .x) (origin .y) y (letters answers zero (point x (pos 0)) l))
+      → place origin (point x y) a (λ next. letters answers origin next l)
+      ≡ movedTo (origin .x) (origin .y) y (place zero (point x (pos 0)) a (λ next. letters answers zero next l))
+  place-moved x (shows g) l rest = rw (rest (x +ℤ g .advance), zero-plus x, plus-zero (origin .y +ℤ y))
+  place-moved x nothing l rest = rest x
+  place-moved x (stops n c) l rest = refl
+
+  letters-moved : (l : List ℕ) (x : ℤ)
+      → letters answers origin (point x y) l ≡ movedTo (origin .x) (origin .y) y (letters answers zero (point x (pos 0)) l)
+  unfolding letters
+  letters-moved [] x = refl
+  letters-moved (c ∷ l) x = place-moved x (answers c) l (letters-moved l)
+
 module _ (answers : ℕ → Answer) (a : HorizontalAlignment) (lineHeight : ℕ) (origin : Point) where
-  abbrev lines : ℤ → Line → List ℕ → Layout
-  lines y line cs = aligned answers lineHeight a origin y line cs
+  -- a line from its own start, with an advance and a box so far
+  abbrev lineFrom : ℤ → BoundingBox → List ℕ → Outcome RenderedDimensions
+  lineFrom x b l = dimensionsFrom b (letters answers zero (point x (pos 0)) l)
+
+  abbrev stateOf : RenderedDimensions → ℤ → BoundingBox → LineState
+  stateOf line y box = record { line = line; y = y; box = box }
+
+  abbrev alignedFrom : ℤ → Lines → Layout
+  alignedFrom y ls = lineByLine (alignedLine a answers origin) lineHeight (point (pos 0) y) ls
+
+  -- the lines of a text, with a line so far and the box of the lines that have ended
+  abbrev after : ℤ → BoundingBox → ℤ → BoundingBox → Lines → Outcome RenderedDimensions
+  after y box x b (last l) = andThen (lineFrom x b l) (λ d. success (linesDimensions a origin (stateOf d y box)))
+  after y box x b (first l ls) =
+      andThen (lineFrom x b l) (λ d. dimensionsFrom (withLine a origin (stateOf d y box)) (alignedFrom (y +ℤ pos lineHeight) ls))
+
+  -- a line, laid out from its own start
+  module _ (l : List ℕ) (y : ℤ) where
+    abbrev line : Layout
+    line = letters answers zero zero l
+
+    abbrev aside : HorizontalAlignment → Point → ℤ
+    aside b end = origin .x +ℤ horizontalOffset b (joinAll (line .glyphs)) (end .x)
+
+    abbrev there : HorizontalAlignment → Layout
+    there b = alignedLine b answers origin (point (pos 0) y) l
+
+    line-moved : (b : HorizontalAlignment) (end : Point) → line .advance ≡ success end
+        → movedLine b answers origin (point (pos 0) y) l ≡ movedTo (aside b end) (origin .y) y line
+    line-moved b end e =
+        ap (λ (o : Outcome Point). withOffset b line o (λ x. letters answers (point (origin .x +ℤ x) (origin .y)) (point (pos 0) y) l)) e
+        ∙ letters-moved answers (point (aside b end) (origin .y)) y l (pos 0)
+
+    -- it stands aside, unless it is stopped
+    there-moved : (b : HorizontalAlignment) (end : Point) → line .advance ≡ success end → there b ≡ movedTo (aside b end) (origin .y) y line
+    there-moved Left end e = letters-moved answers origin y l (pos 0) ∙ rw plus-zero
+    there-moved Center end e = line-moved Center end e
+    there-moved Right end e = line-moved Right end e
+
+    there-stopped : (b : HorizontalAlignment) {n c : ℕ} → line .advance ≡ refused n c → there b .advance ≡ refused n c
+    there-stopped Left e = ap (λ (k : Layout). k .advance) (letters-moved answers origin y l (pos 0)) ∙ rw e
+    there-stopped Center e = rw e
+    there-stopped Right e = rw e
+
+    -- so the last line comes to its box, moved ..
+    last-line : (box : BoundingBox) (o : Outcome Point) → line .advance ≡ o → after y box (pos 0) None (last l) ≡ dimensionsFrom box (there a)
+    last-line box (success end) e = rw (there-moved a end e, e, join-all-moved)
+    last-line box (refused n c) e = rw (there-stopped a e, e)
+
+    -- .. and goes before what comes after it
+    first-line : (box : BoundingBox) (ls : Lines) (o : Outcome Point) → line .advance ≡ o
+        → after y box (pos 0) None (first l ls)
+        ≡ dimensionsFrom box (thenLines (there a) (there a .advance) (λ end. lineByLine (alignedLine a answers origin) lineHeight (newline lineHeight end) ls))
+    first-line box ls (success end) e = rw (there-moved a end e, e, join-append, join-all-moved, join-assoc)
+    first-line box ls (refused n c) e = rw (there-stopped a e, e) (rw (there-stopped a e))
+
+  after-start : (y : ℤ) (box : BoundingBox) (ls : Lines) → after y box (pos 0) None ls ≡ dimensionsFrom box (alignedFrom y ls)
+  unfolding lineByLine
+  after-start y box (last l) = last-line l y box _ refl
+  after-start y box (first l ls) = first-line l y box ls _ refl
 
   -- what is read off the state at the end
   abbrev read : Outcome LineState → Outcome RenderedDimensions
   read o = andThen o (λ s. success (linesDimensions a origin s))
 
+  -- a state in the middle of a line
+  abbrev within : ℤ → BoundingBox → ℤ → BoundingBox → LineState
+  within y box x b = stateOf record { advance = point x (pos 0); «bounding_box» = b } y box
+
   -- what is to be shown of a list of code points, from each state
   abbrev Measures : List ℕ → Type 0
   Measures cs =
-      (y : ℤ) (line : Line) (box : BoundingBox)
-      → read (measureLinesFrom answers a lineHeight origin (stateOf line y box) cs) ≡ dimensionsFrom box (lines y line cs)
+      (y : ℤ) (box : BoundingBox) (x : ℤ) (b : BoundingBox)
+      → read (measureLinesFrom answers a lineHeight origin (within y box x b) cs) ≡ after y box x b (lines cs)
 
-  with-line : (y : ℤ) (line : Line) (box : BoundingBox) → withLine a origin (stateOf line y box) ≡ join box (joinAll (endLine a origin y line))
-  with-line y line box = rw join-all-moved
+  module _ (cs : List ℕ) (rest : Measures cs) (y : ℤ) (box : BoundingBox) (x : ℤ) (b : BoundingBox) where
+    lines-newline : read (measureLinesFrom answers a lineHeight origin (nextLine a lineHeight origin (within y box x b)) cs)
+        ≡ after y box x b (first [] (lines cs))
+    unfolding letters joinAll
+    lines-newline =
+        rest (y +ℤ pos lineHeight) (withLine a origin (within y box x b)) (pos 0) None
+        ∙ after-start (y +ℤ pos lineHeight) (withLine a origin (within y box x b)) (lines cs)
+        ∙ rw join-none-right
 
-  lines-newline : (cs : List ℕ) → Measures cs → (y : ℤ) (line : Line) (box : BoundingBox)
-      → read (measureLinesFrom answers a lineHeight origin (nextLine a lineHeight origin (stateOf line y box)) cs)
-      ≡ dimensionsFrom box (before (endLine a origin y line) (lines (y +ℤ pos lineHeight) emptyLine cs))
-  unfolding joinAll
-  lines-newline cs rest y line box =
-      rest (y +ℤ pos lineHeight) emptyLine (withLine a origin (stateOf line y box))
-      ∙ rw (with-line y line box, join-append, join-assoc)
+    -- a letter in front of the line
+    lines-letter : (c : ℕ) (l : Answer) → answers c ≡ l → (ls : Lines) → lines cs ≡ ls
+        → read (andThen (answerOfLine (within y box x b) l) (λ next. measureLinesFrom answers a lineHeight origin next cs)) ≡ after y box x b (toFirst c ls)
+    unfolding letters joinAll
+    lines-letter c (shows g) e (last l) k = rest y box (x +ℤ g .advance) (join b (boxAt (pos 0 +ℤ x) (pos 0) g)) ∙ rw (k, e, join-assoc)
+    lines-letter c (shows g) e (first l ls) k = rest y box (x +ℤ g .advance) (join b (boxAt (pos 0 +ℤ x) (pos 0) g)) ∙ rw (k, e, join-assoc)
+    lines-letter c nothing e (last l) k = rest y box x b ∙ rw (k, e)
+    lines-letter c nothing e (first l ls) k = rest y box x b ∙ rw (k, e)
+    lines-letter c (stops n m) e (last l) k = rw e
+    lines-letter c (stops n m) e (first l ls) k = rw e
 
-  lines-answer : (cs : List ℕ) → Measures cs → (y : ℤ) (line : Line) (box : BoundingBox) (l : Answer)
-      → read (andThen (answerOfLine (stateOf line y box) l) (λ next. measureLinesFrom answers a lineHeight origin next cs))
-      ≡ dimensionsFrom box (extend line l (λ next. lines y next cs))
-  unfolding joinAll
-  lines-answer cs rest y line box (shows g) =
-      let p : Placed = record { x = line .advance; y = pos 0; glyph = g } in
-      let e : joinAll (line .glyphs ++ p ∷ []) ≡ join (joinAll (line .glyphs)) (boxOf p) = join-append (line .glyphs) (p ∷ []) ∙ rw join-none-right in
-      rw (zero-plus (line .advance)) (rw e at (rest y record { glyphs = line .glyphs ++ p ∷ []; advance = line .advance +ℤ g .advance } box))
-  lines-answer cs rest y line box nothing = rest y line box
-  lines-answer cs rest y line box (stops n c) = refl
-
-  lines-char : (cs : List ℕ) → Measures cs → (y : ℤ) (line : Line) (box : BoundingBox) (t : Bool) (l : Answer)
-      → read (andThen (pick t (success (nextLine a lineHeight origin (stateOf line y box))) (answerOfLine (stateOf line y box) l)) (λ next.
-      measureLinesFrom answers a lineHeight origin next cs))
-      ≡ dimensionsFrom box (pick t (before (endLine a origin y line) (lines (y +ℤ pos lineHeight) emptyLine cs)) (extend line l (λ next. lines y next cs)))
-  lines-char cs rest y line box true l = lines-newline cs rest y line box
-  lines-char cs rest y line box false l = lines-answer cs rest y line box l
+    lines-char : (c : ℕ) (t : Bool)
+        → read (andThen (pick t (success (nextLine a lineHeight origin (within y box x b))) (answerOfLine (within y box x b) (answers c))) (λ next. measureLinesFrom answers a lineHeight origin next cs))
+        ≡ after y box x b (pick t (first [] (lines cs)) (toFirst c (lines cs)))
+    lines-char c true = lines-newline
+    lines-char c false = lines-letter c (answers c) refl (lines cs) refl
 
   lines-from : (cs : List ℕ) → Measures cs
-  unfolding measureLinesFrom aligned
-  lines-from [] y line box = ap (λ (b : BoundingBox). success record { advance = point (line .advance) y; «bounding_box» = b }) (with-line y line box)
-  lines-from (c ∷ cs) y line box = lines-char cs (lines-from cs) y line box (eqb c 10) (answers c)
+  unfolding measureLinesFrom lines letters joinAll
+  lines-from [] y box x b = rw join-none-right
+  lines-from (c ∷ cs) y box x b = lines-char cs (lines-from cs) y box x b c (eqb c 10)
 
-  pub measure-lines : (cs : List ℕ)
-      → measureLines answers a lineHeight origin cs ≡ dimensions (aligned answers lineHeight a origin (pos 0) emptyLine cs)
+  pub measure-lines : (cs : List ℕ) → measureLines answers a lineHeight origin cs ≡ dimensions (aligned answers lineHeight a origin cs)
   unfolding joinAll
-  measure-lines cs = lines-from cs (pos 0) emptyLine None
+  measure-lines cs = lines-from cs (pos 0) None (pos 0) None ∙ after-start (pos 0) None (lines cs)
 
 -- aligned measuring answers with the box alone
 abbrev pub boxAlone : Outcome RenderedDimensions → Outcome BoundingBox
@@ -225,79 +346,15 @@ box-of-layout l = by (l .advance)
 
 -- ---- aligning Left is the plain layout
 
--- A layout that ends in success, or the refusal. (Of a text that is refused the plain layout has the glyphs of the last line
--- too; the aligned one has not, since that line has not ended.)
-abbrev pub whole : Layout → Outcome Layout
-whole l = andThen (l .advance) (λ last. success l)
-
-whole-before : (ps : List Placed) (l : Layout) → whole (before ps l) ≡ andThen (whole l) (λ rest. success (before ps rest))
-whole-before ps l = by (l .advance)
-  where
-    by : (o : Outcome Point)
-        → andThen o (λ last. success (before ps l)) ≡ andThen (andThen o (λ last. success l)) (λ rest. success (before ps rest))
-    by (success last) = refl
-    by (refused n c) = refl
-
-whole-dimensions : (l : Layout) → dimensions l ≡ andThen (whole l) dimensions
-whole-dimensions l = by (l .advance) refl
-  where
-    by : (o : Outcome Point) → l .advance ≡ o → dimensionsOf (joinAll (l .glyphs)) o ≡ andThen (andThen o (λ last. success l)) dimensions
-    by (success last) e = rw e
-    by (refused n c) e = refl
-
 module _ (answers : ℕ → Answer) (lineHeight : ℕ) (origin : Point) where
-  -- the plain layout from a line so far
-  abbrev plain : ℤ → Line → List ℕ → Layout
-  plain y line cs = before (endLine Left origin y line) (layout answers lineHeight origin (point (line .advance) y) cs)
-
-  -- what is to be shown of a list of code points, from each line
-  abbrev Plain : List ℕ → Type 0
-  Plain cs = (y : ℤ) (line : Line) → whole (aligned answers lineHeight Left origin y line cs) ≡ whole (plain y line cs)
-
-  left-newline : (cs : List ℕ) → Plain cs → (y : ℤ) (line : Line)
-      → whole (before (endLine Left origin y line) (aligned answers lineHeight Left origin (y +ℤ pos lineHeight) emptyLine cs))
-      ≡ whole (before (endLine Left origin y line) (layout answers lineHeight origin (point (pos 0) (y +ℤ pos lineHeight)) cs))
-  left-newline cs rest y line =
-      let below = y +ℤ pos lineHeight in
-      whole-before (endLine Left origin y line) (aligned answers lineHeight Left origin below emptyLine cs)
-      ∙ ap (λ (o : Outcome Layout). andThen o (λ l. success (before (endLine Left origin y line) l))) (rest below emptyLine)
-      ∙ sym (whole-before (endLine Left origin y line) (layout answers lineHeight origin (point (pos 0) below) cs))
-
-  left-answer : (cs : List ℕ) → Plain cs → (y : ℤ) (line : Line) (l : Answer)
-      → whole (extend line l (λ next. aligned answers lineHeight Left origin y next cs))
-      ≡ whole (before (endLine Left origin y line) (place origin (point (line .advance) y) l (λ next. layout answers lineHeight origin next cs)))
-  left-answer cs rest y line (shows g) =
-      let p : Placed = record { x = line .advance; y = pos 0; glyph = g } in
-      rest y record { glyphs = line .glyphs ++ p ∷ []; advance = line .advance +ℤ g .advance }
-      ∙ rw (map-append (moved (origin .x +ℤ pos 0) (origin .y +ℤ y)) (line .glyphs) (p ∷ []), append-assoc, plus-zero (origin .x), plus-zero (origin .y +ℤ y))
-  left-answer cs rest y line nothing = rest y line
-  left-answer cs rest y line (stops n c) = refl
-
-  left-char : (cs : List ℕ) → Plain cs → (y : ℤ) (line : Line) (t : Bool) (l : Answer)
-      → whole (pick t (before (endLine Left origin y line) (aligned answers lineHeight Left origin (y +ℤ pos lineHeight) emptyLine cs)) (extend line l (λ next. aligned answers lineHeight Left origin y next cs)))
-      ≡ whole
-      (before (endLine Left origin y line)
-      (pick t (layout answers lineHeight origin (point (pos 0) (y +ℤ pos lineHeight)) cs) (place origin (point (line .advance) y) l (λ next. layout answers lineHeight origin next cs))))
-  left-char cs rest y line true l = left-newline cs rest y line
-  left-char cs rest y line false l = left-answer cs rest y line l
-
-  left-from : (cs : List ℕ) → Plain cs
-  unfolding aligned layout
-  left-from [] y line = rw append-nil
-  left-from (c ∷ cs) y line = left-char cs (left-from cs) y line (eqb c 10) (answers c)
-
-  -- The same glyphs at the same places and the same last advance, or the same refusal.
-  pub left-is-plain : (cs : List ℕ)
-      → whole (aligned answers lineHeight Left origin (pos 0) emptyLine cs) ≡ whole (layout answers lineHeight origin (point (pos 0) (pos 0)) cs)
-  left-is-plain cs = left-from cs (pos 0) emptyLine
+  -- The same glyphs at the same places, and the same last advance or refusal.
+  pub left-is-plain : (cs : List ℕ) → aligned answers lineHeight Left origin cs ≡ layout answers lineHeight origin (point (pos 0) (pos 0)) cs
+  left-is-plain cs = refl
 
   -- so it has the same dimensions, and measuring line by line is plain measuring
   pub left-dimensions : (cs : List ℕ)
-      → dimensions (aligned answers lineHeight Left origin (pos 0) emptyLine cs) ≡ dimensions (layout answers lineHeight origin (point (pos 0) (pos 0)) cs)
-  left-dimensions cs =
-      whole-dimensions (aligned answers lineHeight Left origin (pos 0) emptyLine cs)
-      ∙ ap (λ (o : Outcome Layout). andThen o dimensions) (left-is-plain cs)
-      ∙ sym (whole-dimensions (layout answers lineHeight origin (point (pos 0) (pos 0)) cs))
+      → dimensions (aligned answers lineHeight Left origin cs) ≡ dimensions (layout answers lineHeight origin (point (pos 0) (pos 0)) cs)
+  left-dimensions cs = ap dimensions (left-is-plain cs)
 
   pub left-measures : (cs : List ℕ) → measureLines answers Left lineHeight origin cs ≡ measureFrom answers lineHeight origin start cs
   left-measures cs = measure-lines answers Left lineHeight origin cs ∙ left-dimensions cs ∙ sym (measure-from answers lineHeight origin cs start)
@@ -347,39 +404,51 @@ module _ (answers : ℕ → Answer) (a : HorizontalAlignment) (lineHeight : ℕ)
 -- ---- letters of another font
 
 -- The letters of the first that show a glyph show the same one under the second, and none of the first shows nothing.
-pub record Follows (answers letters′ : ℕ → Answer) : Type 0 where
-  pub same : (c : ℕ) (g : GlyphReader) → answers c ≡ shows g → letters′ c ≡ shows g
+pub record Follows (answers answers′ : ℕ → Answer) : Type 0 where
+  pub same : (c : ℕ) (g : GlyphReader) → answers c ≡ shows g → answers′ c ≡ shows g
   pub some : (c : ℕ) → answers c ≡ nothing → ⊥
 
-module _ {answers letters′ : ℕ → Answer} (follows : Follows answers letters′) (lineHeight : ℕ) (origin : Point) where
-  -- what is to be shown of a list of code points, from each advance
+module _ {answers answers′ : ℕ → Answer} (follows : Follows answers answers′) (lineHeight : ℕ) (origin : Point) where
+  -- what is to be shown of a line, from each advance
   abbrev Alike : List ℕ → Type 0
-  Alike cs =
-      (advance last : Point) → layout answers lineHeight origin advance cs .advance ≡ success last
-      → layout letters′ lineHeight origin advance cs ≡ layout answers lineHeight origin advance cs
+  Alike l =
+      (advance end : Point) → letters answers origin advance l .advance ≡ success end
+      → letters answers′ origin advance l ≡ letters answers origin advance l
 
-  same-place : (cs : List ℕ) → Alike cs → (advance last : Point) (c : ℕ) (l : Answer) → answers c ≡ l
-      → place origin advance l (λ next. layout answers lineHeight origin next cs) .advance ≡ success last
-      → place origin advance (letters′ c) (λ next. layout letters′ lineHeight origin next cs)
-      ≡ place origin advance l (λ next. layout answers lineHeight origin next cs)
-  same-place cs rest advance last c (shows g) e k =
-      rw (follows .same c g e, rest (point (advance .x +ℤ g .advance) (advance .y)) last k)
-  same-place cs rest advance last c nothing e k = absurd (follows .some c e)
-  same-place cs rest advance last c (stops n d) e k = impossible cc
+  same-place : (l : List ℕ) → Alike l → (advance end : Point) (c : ℕ) (a : Answer) → answers c ≡ a
+      → place origin advance a (λ next. letters answers origin next l) .advance ≡ success end
+      → place origin advance (answers′ c) (λ next. letters answers′ origin next l) ≡ place origin advance a (λ next. letters answers origin next l)
+  same-place l rest advance end c (shows g) e k = rw (follows .same c g e, rest (point (advance .x +ℤ g .advance) (advance .y)) end k)
+  same-place l rest advance end c nothing e k = absurd (follows .some c e)
+  same-place l rest advance end c (stops n d) e k = impossible cc
 
-  same-char : (cs : List ℕ) → Alike cs → (advance last : Point) (c : ℕ) (t : Bool)
-      → pick t (layout answers lineHeight origin (newline lineHeight advance) cs) (place origin advance (answers c) (λ next. layout answers lineHeight origin next cs)) .advance ≡ success last
-      → pick t (layout letters′ lineHeight origin (newline lineHeight advance) cs) (place origin advance (letters′ c) (λ next. layout letters′ lineHeight origin next cs))
-      ≡ pick t (layout answers lineHeight origin (newline lineHeight advance) cs) (place origin advance (answers c) (λ next. layout answers lineHeight origin next cs))
-  same-char cs rest advance last c true k = rest (newline lineHeight advance) last k
-  same-char cs rest advance last c false k = same-place cs rest advance last c (answers c) refl k
+  same-letters : (l : List ℕ) → Alike l
+  unfolding letters
+  same-letters [] advance end k = refl
+  same-letters (c ∷ l) advance end k = same-place l (same-letters l) advance end c (answers c) refl k
+
+  same-lines : (ls : Lines) (advance end : Point) → lineByLine (letters answers origin) lineHeight advance ls .advance ≡ success end
+      → lineByLine (letters answers′ origin) lineHeight advance ls ≡ lineByLine (letters answers origin) lineHeight advance ls
+  unfolding lineByLine
+  same-lines (last l) advance end k = same-letters l advance end k
+  same-lines (first l ls) advance end k = by (same-lines ls) (letters answers origin advance l .advance) refl k
+    where
+      below : (ℕ → Answer) → Point → Layout
+      below a next = lineByLine (letters a origin) lineHeight (newline lineHeight next) ls
+
+      by : ((next end : Point) → lineByLine (letters answers origin) lineHeight next ls .advance ≡ success end
+          → lineByLine (letters answers′ origin) lineHeight next ls ≡ lineByLine (letters answers origin) lineHeight next ls)
+          → (o : Outcome Point) → letters answers origin advance l .advance ≡ o
+          → thenLines (letters answers origin advance l) o (below answers) .advance ≡ success end
+          → thenLines (letters answers′ origin advance l) (letters answers′ origin advance l .advance) (below answers′)
+          ≡ thenLines (letters answers origin advance l) o (below answers)
+      by rest (success next) e k = rw (same-letters l advance next e, e, rest (newline lineHeight next) end k)
+      by rest (refused n c) e k = impossible cc
 
   -- So a text that ends in success under the first is laid out alike under the second.
-  pub same-layout : (cs : List ℕ) (advance last : Point) → layout answers lineHeight origin advance cs .advance ≡ success last
-      → layout letters′ lineHeight origin advance cs ≡ layout answers lineHeight origin advance cs
-  unfolding layout
-  same-layout [] advance last k = refl
-  same-layout (c ∷ cs) advance last k = same-char cs (same-layout cs) advance last c (eqb c 10) k
+  pub same-layout : (cs : List ℕ) (advance end : Point) → layout answers lineHeight origin advance cs .advance ≡ success end
+      → layout answers′ lineHeight origin advance cs ≡ layout answers lineHeight origin advance cs
+  same-layout cs advance end k = same-lines (lines cs) advance end k
 
 -- ---- each glyph of a text
 
@@ -388,20 +457,38 @@ abbrev pub Each : (Placed → Type 0) → List Placed → Type 0
 Each P [] = Unit {0}
 Each P (p ∷ ps) = P p × Each P ps
 
+each-append : (P : Placed → Type 0) (ps qs : List Placed) → Each P ps → Each P qs → Each P (ps ++ qs)
+each-append P [] qs h k = k
+each-append P (p ∷ ps) qs h k = (h .0, each-append P ps qs (h .1) k)
+
 module _ (P : GlyphReader → Type 0) (answers : ℕ → Answer) (every : (c : ℕ) (g : GlyphReader) → answers c ≡ shows g → P g) (lineHeight : ℕ) (origin : Point) where
   abbrev Holds : Layout → Type 0
   Holds l = Each (λ p. P (p .glyph)) (l .glyphs)
 
-  each-answer : (advance : Point) (c : ℕ) (cs : List ℕ) → ((next : Point) → Holds (layout answers lineHeight origin next cs))
-      → (t : Bool) (l : Answer) → answers c ≡ l
-      → Holds (pick t (layout answers lineHeight origin (newline lineHeight advance) cs) (place origin advance l (λ next. layout answers lineHeight origin next cs)))
-  each-answer advance c cs rest true l e = rest (newline lineHeight advance)
-  each-answer advance c cs rest false (shows g) e = (every c g e, rest (point (advance .x +ℤ g .advance) (advance .y)))
-  each-answer advance c cs rest false nothing e = rest advance
-  each-answer advance c cs rest false (stops n k) e = tt
+  each-place : (advance : Point) (c : ℕ) (rest : Point → Layout) → ((next : Point) → Holds (rest next)) → (a : Answer) → answers c ≡ a
+      → Holds (place origin advance a rest)
+  each-place advance c rest h (shows g) e = (every c g e, h (point (advance .x +ℤ g .advance) (advance .y)))
+  each-place advance c rest h nothing e = h advance
+  each-place advance c rest h (stops n k) e = tt
+
+  each-letter : (l : List ℕ) (advance : Point) → Holds (letters answers origin advance l)
+  unfolding letters
+  each-letter [] advance = tt
+  each-letter (c ∷ l) advance = each-place advance c (λ next. letters answers origin next l) (each-letter l) (answers c) refl
+
+  each-then : (line : Layout) → Holds line → (rest : Point → Layout) → ((next : Point) → Holds (rest next)) → (o : Outcome Point)
+      → Holds (thenLines line o rest)
+  each-then line h rest k (success next) = each-append (λ p. P (p .glyph)) (line .glyphs) (rest next .glyphs) h (k next)
+  each-then line h rest k (refused n c) = h
+
+  each-line : (ls : Lines) (advance : Point) → Holds (lineByLine (letters answers origin) lineHeight advance ls)
+  unfolding lineByLine
+  each-line (last l) advance = each-letter l advance
+  each-line (first l ls) advance =
+      each-then (letters answers origin advance l) (each-letter l advance)
+      (λ end. lineByLine (letters answers origin) lineHeight (newline lineHeight end) ls) (λ end. each-line ls (newline lineHeight end))
+      (letters answers origin advance l .advance)
 
   -- What is so of each glyph that a letter shows is so of each glyph of the text.
   pub each-glyph : (cs : List ℕ) (advance : Point) → Each (λ p. P (p .glyph)) (layout answers lineHeight origin advance cs .glyphs)
-  unfolding layout
-  each-glyph [] advance = tt
-  each-glyph (c ∷ cs) advance = each-answer advance c cs (each-glyph cs) (eqb c 10) (answers c) refl
+  each-glyph cs advance = each-line (lines cs) advance

@@ -26,7 +26,7 @@ use Rattle.definitions.specs.Header.{header, Opened}
 use Rattle.definitions.specs.Geometry.{left, top, spanLength, join}
 use Rattle.definitions.specs.Glyph.{glyph}
 use Rattle.definitions.specs.Utf8.{decode, isUtf8}
-use Rattle.definitions.specs.Text.{Answer, answer, nothing, stops, boxAt, joinAll, Layout, point, newline, place, layout, dimensionsOf, dimensions}
+use Rattle.definitions.specs.Text.{Answer, answer, boxAt, joinAll, Layout, point, dimensions, place, letters, Lines, last, first, lines, newline, thenLines, lineByLine, layout}
 use Rattle.definitions.specs.TextSteps.{movedRectangle}
 use Rattle.definitions.specs.Runs.{Pixels, pixels, cut}
 use Rattle.definitions.specs.Font.{Font, u8g2, measuredAnswer, withRuns, drawable, drawnAnswer}
@@ -41,6 +41,7 @@ use Rattle.definitions.proofs.JoinLaws.{HasCell, end, join-end}
 use Rattle.definitions.proofs.GlyphLaws.{InRange, glyph-range}
 use Rattle.definitions.proofs.BitsLaws.{SignedByte}
 use Rattle.definitions.proofs.Utf8Laws.{utf8-characters, character-count}
+use Rattle.definitions.proofs.TextLaws.{layout-next}
 use Rattle.definitions.proofs.Agreement.{dimensions-success}
 use Rattle.definitions.proofs.MovedLaws.{movedPoint, movedDimensions, dimensions-moved, text-moved}
 
@@ -50,21 +51,21 @@ abbrev AlikeOrCut : Layout → Layout → Type 0
 AlikeOrCut drawn measured = (drawn ≡ measured) ⊎ ((c : ℕ) × (drawn .advance ≡ refused 8 c))
 
 module _ (font : Font) (lineHeight : ℕ) (origin : Point) where
-  abbrev drawnFrom : Point → List ℕ → Layout
-  drawnFrom advance cs = layout (drawnAnswer font false) lineHeight origin advance cs
+  abbrev drawnLetters : Point → List ℕ → Layout
+  drawnLetters advance l = letters (drawnAnswer font false) origin advance l
 
-  abbrev measuredFrom : Point → List ℕ → Layout
-  measuredFrom advance cs = layout (measuredAnswer font false) lineHeight origin advance cs
+  abbrev measuredLetters : Point → List ℕ → Layout
+  measuredLetters advance l = letters (measuredAnswer font false) origin advance l
 
-  module _ (cs : List ℕ) (rest : (advance : Point) → AlikeOrCut (drawnFrom advance cs) (measuredFrom advance cs)) (advance : Point) (c : ℕ) where
+  module _ (l : List ℕ) (rest : (next : Point) → AlikeOrCut (drawnLetters next l) (measuredLetters next l)) (advance : Point) (c : ℕ) where
     abbrev Placed : Outcome GlyphReader → Outcome GlyphReader → Type 0
     Placed d m =
         AlikeOrCut
-        (place origin advance (answer false d) (λ next. drawnFrom next cs))
-        (place origin advance (answer false m) (λ next. measuredFrom next cs))
+        (place origin advance (answer false d) (λ next. drawnLetters next l))
+        (place origin advance (answer false m) (λ next. measuredLetters next l))
 
     after-glyph : (g : GlyphReader)
-        → AlikeOrCut (drawnFrom (point (advance .x +ℤ g .advance) (advance .y)) cs) (measuredFrom (point (advance .x +ℤ g .advance) (advance .y)) cs)
+        → AlikeOrCut (drawnLetters (point (advance .x +ℤ g .advance) (advance .y)) l) (measuredLetters (point (advance .x +ℤ g .advance) (advance .y)) l)
         → Placed (success g) (success g)
     after-glyph g (inl e) = inl (rw e)
     after-glyph g (inr e) = inr e
@@ -77,17 +78,41 @@ module _ (font : Font) (lineHeight : ℕ) (origin : Point) where
     placed (success g) = with-pixels g (font .pixels g)
     placed (refused n d) = inl refl
 
-    next-char : (t : Bool)
-        → AlikeOrCut
-        (pick t (drawnFrom (newline lineHeight advance) cs) (place origin advance (drawnAnswer font false c) (λ next. drawnFrom next cs)))
-        (pick t (measuredFrom (newline lineHeight advance) cs) (place origin advance (measuredAnswer font false c) (λ next. measuredFrom next cs)))
-    next-char true = rest (newline lineHeight advance)
-    next-char false = placed (font .glyph c)
+  alike-letters : (l : List ℕ) (advance : Point) → AlikeOrCut (drawnLetters advance l) (measuredLetters advance l)
+  unfolding letters
+  alike-letters [] advance = inl refl
+  alike-letters (c ∷ l) advance = placed l (alike-letters l) advance c (font .glyph c)
 
-  pub alike-or-cut : (cs : List ℕ) (advance : Point) → AlikeOrCut (drawnFrom advance cs) (measuredFrom advance cs)
-  unfolding layout
-  alike-or-cut [] advance = inl refl
-  alike-or-cut (c ∷ cs) advance = next-char cs (alike-or-cut cs) advance c (eqb c 10)
+  -- what comes after a line
+  alike-then : (line : Layout) (o : Outcome Point) (d m : Point → Layout) → ((next : Point) → AlikeOrCut (d next) (m next))
+      → AlikeOrCut (thenLines line o d) (thenLines line o m)
+  alike-then line (success next) d m h = by (h next)
+    where
+      by : AlikeOrCut (d next) (m next) → AlikeOrCut (thenLines line (success next) d) (thenLines line (success next) m)
+      by (inl e) = inl (rw e)
+      by (inr e) = inr e
+  alike-then line (refused n c) d m h = inl refl
+
+  after-line : (drawn measured : Layout) → AlikeOrCut drawn measured → (d m : Point → Layout) → ((next : Point) → AlikeOrCut (d next) (m next))
+      → AlikeOrCut (thenLines drawn (drawn .advance) d) (thenLines measured (measured .advance) m)
+  after-line drawn measured (inl e) d m h = rw e (alike-then measured (measured .advance) d m h)
+  after-line drawn measured (inr e) d m h = inr (e .0, rw (e .1))
+
+  alike-lines : (ls : Lines) (advance : Point)
+      → AlikeOrCut
+      (lineByLine (letters (drawnAnswer font false) origin) lineHeight advance ls)
+      (lineByLine (letters (measuredAnswer font false) origin) lineHeight advance ls)
+  unfolding lineByLine
+  alike-lines (last l) advance = alike-letters l advance
+  alike-lines (first l ls) advance =
+      after-line (drawnLetters advance l) (measuredLetters advance l) (alike-letters l advance)
+      (λ end. lineByLine (letters (drawnAnswer font false) origin) lineHeight (newline lineHeight end) ls)
+      (λ end. lineByLine (letters (measuredAnswer font false) origin) lineHeight (newline lineHeight end) ls)
+      (λ end. alike-lines ls (newline lineHeight end))
+
+  pub alike-or-cut : (cs : List ℕ) (advance : Point)
+      → AlikeOrCut (layout (drawnAnswer font false) lineHeight origin advance cs) (layout (measuredAnswer font false) lineHeight origin advance cs)
+  alike-or-cut cs advance = alike-lines (lines cs) advance
 
 -- ---- the box lies near its text's place, and has a pixel
 
@@ -222,9 +247,12 @@ module _ (font : List ℕ) (opened : Opened font (header font)) (lineHeight : �
   near-char c cs rest n advance few a false = near-answer c cs rest n advance few a (glyph font c) refl
 
   near-text : (cs : List ℕ) → Nears cs
-  unfolding layout joinAll
+  unfolding letters lines lineByLine joinAll
   near-text [] n advance few a = tt
-  near-text (c ∷ cs) n advance few a = near-char c cs (near-text cs) n advance few a (eqb c 10)
+  near-text (c ∷ cs) n advance few a =
+      subst (λ (l : Layout). NearBox (joinAll (l .glyphs)))
+      (sym (layout-next (measuredAnswer (u8g2 font) false) lineHeight (point (pos 0) (pos 0)) c cs advance))
+      (near-char c cs (near-text cs) n advance few a (eqb c 10))
 
 -- ---- drawing at the opposite of the corner
 

@@ -26,7 +26,7 @@ use Rattle.definitions.specs.Refusals.{Outcome, success, refused, refusa
 use Rattle.definitions.specs.Header.{header, fontCauses}
 use Rattle.definitions.specs.VerticalOffset.{verticalOffset}
 use Rattle.definitions.specs.Utf8.{decode, codePoints, newlines}
-use Rattle.definitions.specs.Text.{Answer, Layout, point, layout, joinAll, dimensions, aligned, emptyLine}
+use Rattle.definitions.specs.Text.{Answer, Layout, point, layout, joinAll, dimensions, aligned}
 use Rattle.definitions.specs.Font.{Font, measuredAnswer, drawnAnswer, pixelsOf}
 use Rattle.definitions.specs.Picture.{textPicture}
 use Rattle.definitions.specs.Framebuffer.{shown, framebufferCause}
@@ -126,7 +126,7 @@ boxOfLayout l (refused n c) = refused n c
 
 abbrev pub alignedText : Font → Request → Layout
 alignedText font r =
-    aligned (measuredAnswer font (r .skip)) (r .lineHeight) (r .align) (origin font r) (pos 0) emptyLine (characters (r .text))
+    aligned (measuredAnswer font (r .skip)) (r .lineHeight) (r .align) (origin font r) (characters (r .text))
 
 unfoldable pub measureAligned : Font → Request → Outcome BoundingBox
 measureAligned font r = unlessRefused (measureCauses font r) (let l = alignedText font r in boxOfLayout l (l .advance))

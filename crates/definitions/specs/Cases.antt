@@ -27,7 +27,7 @@ use Rattle.definitions.specs.Lookup.{record8, chain, record16, jumpTable
 use Rattle.definitions.specs.Glyph.{fields, glyph}
 use Rattle.definitions.specs.VerticalOffset.{verticalOffset}
 use Rattle.definitions.specs.Utf8.{table, rowOf, firstCharacter, decodeFrom, newlines}
-use Rattle.definitions.specs.Text.{point, joinAll, layout, aligned}
+use Rattle.definitions.specs.Text.{point, joinAll, letters, lines, lineByLine}
 use Rattle.definitions.specs.Runs.{afterPair, runs, glyphPixels}
 use Rattle.definitions.specs.Picture.{textPicture}
 use Rattle.definitions.specs.Framebuffer.{mapAt}
@@ -266,5 +266,5 @@ cases =
     ∷ []
 
 pub cases-hold : map (λ (c : Case). c .given) cases ≡ map (λ (c : Case). c .expected) cases
-unfolding cases openFont fontBoundingBox header headerOff signed8 T glyph fields search record8 chain record16 jumpTable readAt bits lowBits number table rowOf firstCharacter decodeFrom newlines joinAll layout aligned afterPair runs glyphPixels textPicture mapAt measure measureAligned draw drawBuffer
+unfolding cases openFont fontBoundingBox header headerOff signed8 T glyph fields search record8 chain record16 jumpTable readAt bits lowBits number table rowOf firstCharacter decodeFrom newlines joinAll letters lines lineByLine afterPair runs glyphPixels textPicture mapAt measure measureAligned draw drawBuffer
 cases-hold = refl

@@ -3,8 +3,8 @@
 -- Everything here is a function of what the font answers to each letter. No byte of a font is seen, so drawing, another
 -- kind of font and another alignment are new uses of these definitions and no new definitions of them.
 use mathlib.Core.Bool.{Bool, _&&_, _||_}
-use mathlib.Core.List.{List, [], _∷_, _++_, map}
-use Prim.Native.Nat.{ℕ, _+_, _/_}
+use mathlib.Core.List.{List, [], _∷_, _++_}
+use Prim.Native.Nat.{ℕ, _/_}
 use lib.Dec.{eqb}
 use lib.IntN.{ℤ, pos, negℤ, _+ℤ_, _-ℤ_}
 use Rattle.integers.specs.Integers.{pick}
@@ -40,7 +40,7 @@ boxAt x y g =
       size = record { width = g .«glyph_width»; height = g .«glyph_height» };
     })
 
--- ---- a text
+-- ---- glyphs in their places
 
 -- A glyph and where it stands.
 pub record Placed : Type 0 where
@@ -56,7 +56,7 @@ unfoldable pub joinAll : List Placed → BoundingBox
 joinAll [] = None
 joinAll (p ∷ ps) = join (boxOf p) (joinAll ps)
 
--- What the letters come to: the glyphs up to the first refusal, and the last advance or that refusal.
+-- What letters come to: the glyphs up to the first refusal, and the last advance or that refusal.
 pub record Layout : Type 0 where
   pub glyphs : List Placed
   pub advance : Outcome Point
@@ -64,12 +64,18 @@ pub record Layout : Type 0 where
 abbrev pub point : ℤ → ℤ → Point
 point x y = record { x = x; y = y }
 
--- A newline sets advance x to 0 and adds line height to y.
-abbrev pub newline : ℕ → Point → Point
-newline lineHeight advance = point (pos 0) (advance .y +ℤ pos lineHeight)
-
 abbrev pub before : List Placed → Layout → Layout
 before ps rest = record { glyphs = ps ++ rest .glyphs; advance = rest .advance }
+
+-- The text's advance is the last one, its box all its letters' boxes joined, or none.
+abbrev pub dimensionsOf : BoundingBox → Outcome Point → Outcome RenderedDimensions
+dimensionsOf box (success a) = success record { advance = a; «bounding_box» = box }
+dimensionsOf box (refused n c) = refused n c
+
+abbrev pub dimensions : Layout → Outcome RenderedDimensions
+dimensions l = dimensionsOf (joinAll (l .glyphs)) (l .advance)
+
+-- ---- a line is letters
 
 -- A letter stands at the origin moved by the advance so far, and then adds its own advance to x.
 abbrev pub place : Point → Point → Answer → (Point → Layout) → Layout
@@ -80,20 +86,45 @@ place origin advance (shows g) rest =
 place origin advance nothing rest = rest advance
 place origin advance (stops n c) rest = record { glyphs = []; advance = refused n c }
 
--- A text's letters from the origin on, with the advance so far. Code point 10 is the newline.
-unfoldable pub layout : (ℕ → Answer) → ℕ → Point → Point → List ℕ → Layout
-layout answers lineHeight origin advance [] = record { glyphs = []; advance = success advance }
-layout answers lineHeight origin advance (c ∷ cs) =
-    pick (eqb c 10) (layout answers lineHeight origin (newline lineHeight advance) cs)
-    (place origin advance (answers c) (λ next. layout answers lineHeight origin next cs))
+unfoldable pub letters : (ℕ → Answer) → Point → Point → List ℕ → Layout
+letters answers origin advance [] = record { glyphs = []; advance = success advance }
+letters answers origin advance (c ∷ cs) = place origin advance (answers c) (λ next. letters answers origin next cs)
 
--- The text's advance is the last one, its box all its letters' boxes joined, or none.
-abbrev pub dimensionsOf : BoundingBox → Outcome Point → Outcome RenderedDimensions
-dimensionsOf box (success a) = success record { advance = a; «bounding_box» = box }
-dimensionsOf box (refused n c) = refused n c
+-- ---- a text is lines
 
-abbrev pub dimensions : Layout → Outcome RenderedDimensions
-dimensions l = dimensionsOf (joinAll (l .glyphs)) (l .advance)
+-- one more than there are newlines
+pub data Lines : Type 0 where
+  last : List ℕ → Lines
+  first : List ℕ → Lines → Lines
+
+abbrev pub toFirst : ℕ → Lines → Lines
+toFirst c (last l) = last (c ∷ l)
+toFirst c (first l ls) = first (c ∷ l) ls
+
+-- Code point 10 is the newline.
+unfoldable pub lines : List ℕ → Lines
+lines [] = last []
+lines (c ∷ cs) = pick (eqb c 10) (first [] (lines cs)) (toFirst c (lines cs))
+
+-- A newline sets advance x to 0 and adds line height to y.
+abbrev pub newline : ℕ → Point → Point
+newline lineHeight advance = point (pos 0) (advance .y +ℤ pos lineHeight)
+
+-- What comes after a line, from its last advance on, unless the line was stopped.
+abbrev pub thenLines : Layout → Outcome Point → (Point → Layout) → Layout
+thenLines line (success advance) rest = before (line .glyphs) (rest advance)
+thenLines line (refused n c) rest = line
+
+-- The lines of a text, with the advance so far; what each of them comes to is `line`.
+unfoldable pub lineByLine : (Point → List ℕ → Layout) → ℕ → Point → Lines → Layout
+lineByLine line lineHeight advance (last l) = line advance l
+lineByLine line lineHeight advance (first l ls) =
+    let done = line advance l in
+    thenLines done (done .advance) (λ end. lineByLine line lineHeight (newline lineHeight end) ls)
+
+-- A plain text from the origin on, with the advance so far.
+abbrev pub layout : (ℕ → Answer) → ℕ → Point → Point → List ℕ → Layout
+layout answers lineHeight origin advance cs = lineByLine (letters answers origin) lineHeight advance (lines cs)
 
 -- ---- alignment
 
@@ -104,36 +135,22 @@ horizontalOffset Center None advance = pos 0
 horizontalOffset Center (Some r) advance = negℤ (pos (r .size .width / 2) +ℤ left r)
 horizontalOffset Right box advance = negℤ (advance -ℤ pos 1)
 
--- A line so far, from its own start: its glyphs and its advance.
-pub record Line : Type 0 where
-  pub glyphs : List Placed
-  pub advance : ℤ
+abbrev pub withOffset : HorizontalAlignment → Layout → Outcome Point → (ℤ → Layout) → Layout
+withOffset a line (success end) rest = rest (horizontalOffset a (joinAll (line .glyphs)) (end .x))
+withOffset a line (refused n c) rest = record { glyphs = []; advance = refused n c }
 
-abbrev pub emptyLine : Line
-emptyLine = record { glyphs = []; advance = pos 0 }
+-- A line is measured from its own start; then its letters stand at the origin moved by the offset. Of a line that is stopped
+-- nothing is left.
+abbrev pub movedLine : HorizontalAlignment → (ℕ → Answer) → Point → Point → List ℕ → Layout
+movedLine a answers origin advance l =
+    let line = letters answers (point (pos 0) (pos 0)) (point (pos 0) (pos 0)) l in
+    withOffset a line (line .advance) (λ x. letters answers (point (origin .x +ℤ x) (origin .y)) advance l)
 
-abbrev pub moved : ℤ → ℤ → Placed → Placed
-moved x y p = record { x = x +ℤ p .x; y = y +ℤ p .y; glyph = p .glyph }
+-- Left moves no line: it is the plain text.
+abbrev pub alignedLine : HorizontalAlignment → (ℕ → Answer) → Point → Point → List ℕ → Layout
+alignedLine Left answers origin advance l = letters answers origin advance l
+alignedLine Center answers origin advance l = movedLine Center answers origin advance l
+alignedLine Right answers origin advance l = movedLine Right answers origin advance l
 
--- A line that has ended, moved to its place, y below the origin.
-abbrev pub endLine : HorizontalAlignment → Point → ℤ → Line → List Placed
-endLine a origin y line =
-    map (moved (origin .x +ℤ horizontalOffset a (joinAll (line .glyphs)) (line .advance)) (origin .y +ℤ y)) (line .glyphs)
-
-abbrev pub extend : Line → Answer → (Line → Layout) → Layout
-extend line (shows g) rest =
-    rest record {
-      glyphs = line .glyphs ++ record { x = line .advance; y = pos 0; glyph = g } ∷ [];
-      advance = line .advance +ℤ g .advance;
-    }
-extend line nothing rest = rest line
-extend line (stops n c) rest = record { glyphs = []; advance = refused n c }
-
--- A text's letters, each line moved once it has ended. `y` is the advance so far in y.
-unfoldable pub aligned : (ℕ → Answer) → ℕ → HorizontalAlignment → Point → ℤ → Line → List ℕ → Layout
-aligned answers lineHeight a origin y line [] =
-    record { glyphs = endLine a origin y line; advance = success (point (line .advance) y) }
-aligned answers lineHeight a origin y line (c ∷ cs) =
-    pick (eqb c 10)
-    (before (endLine a origin y line) (aligned answers lineHeight a origin (y +ℤ pos lineHeight) emptyLine cs))
-    (extend line (answers c) (λ next. aligned answers lineHeight a origin y next cs))
+abbrev pub aligned : (ℕ → Answer) → ℕ → HorizontalAlignment → Point → List ℕ → Layout
+aligned answers lineHeight a origin cs = lineByLine (alignedLine a answers origin) lineHeight (point (pos 0) (pos 0)) (lines cs)
