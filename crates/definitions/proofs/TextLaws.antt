@@ -20,7 +20,7 @@ use Rattle.types.specs.declared.style.HorizontalAlignment.{HorizontalAlignment}
 use Rattle.types.specs.declared.style.HorizontalAlignment.the-variants.{Left, Center, Right}
 use Rattle.definitions.specs.Refusals.{Outcome, success, refused}
 use Rattle.definitions.specs.Geometry.{join}
-use Rattle.definitions.specs.Text.{Answer, shows, nothing, stops, boxAt, Placed, boxOf, joinAll, Layout, point, before, dimensionsOf, dimensions}
+use Rattle.definitions.specs.Text.{Answer, shows, nothing, stops, answer, boxAt, Placed, boxOf, joinAll, Layout, point, before, dimensionsOf, dimensions}
 use Rattle.definitions.specs.Text.{place, letters, Lines, last, first, toFirst, lines, newline, thenLines, lineByLine, layout, horizontalOffset, withOffset, movedLine, alignedLine, aligned}
 use Rattle.definitions.specs.TextSteps.{andThen, newlineStep, nextBox, glyphStep, answerStep, step, measureFrom, start, answerShown, stepShown, orKept, drawFrom}
 use Rattle.definitions.specs.TextSteps.{movedBox, LineState, withLine, nextLine, answerOfLine, lineStep, measureLinesFrom, linesDimensions, measureLines}
@@ -29,6 +29,65 @@ use Rattle.definitions.specs.Framebuffer.{shown}
 use Rattle.definitions.specs.Calls.{boxOfLayout}
 use Rattle.definitions.proofs.JoinLaws.{join-none-right, join-assoc, join-moved}
 use Rattle.definitions.proofs.FramebufferLaws.{shown-shown, shown-blank}
+
+-- ---- examples, in a font of one glyph for "-", 2 wide and 2 to the right, with advance 3; "!" is skipped, and nothing else is there
+
+abbrev dash : GlyphReader
+dash = record { «glyph_width» = 2; «glyph_height» = 1; «offset_x» = pos 2; «offset_y» = pos 0; advance = pos 3; «bit_pos» = 0 }
+
+abbrev dashes : ℕ → Answer
+dashes c = pick (eqb c 45) (shows dash) (answer (eqb c 33) (refused 7 c))
+
+abbrev dashAt : ℤ → ℤ → Placed
+dashAt x y = record { x = x; y = y; glyph = dash }
+
+abbrev at : Point
+at = point (pos 10) (pos 20)
+
+-- "-!-", newline, "-"
+abbrev twoLines : List ℕ
+twoLines = 45 ∷ 33 ∷ 45 ∷ 10 ∷ 45 ∷ []
+
+-- "-", newline, "-A-"
+abbrev stopped : List ℕ
+stopped = 45 ∷ 10 ∷ 45 ∷ 65 ∷ 45 ∷ []
+
+pub plain-example : layout dashes 4 at (point (pos 0) (pos 0)) twoLines
+    ≡ record { glyphs = dashAt (pos 10) (pos 20) ∷ dashAt (pos 13) (pos 20) ∷ dashAt (pos 10) (pos 24) ∷ []; advance = success (point (pos 3) (pos 4)) }
+unfolding letters lines lineByLine
+plain-example = refl
+
+-- Each line is moved by its own offset: in Center by 4 and 3, in Right by 5 and 2.
+pub center-example : aligned dashes 4 Center at twoLines
+    ≡ record { glyphs = dashAt (pos 6) (pos 20) ∷ dashAt (pos 9) (pos 20) ∷ dashAt (pos 7) (pos 24) ∷ []; advance = success (point (pos 3) (pos 4)) }
+unfolding letters lines lineByLine joinAll
+center-example = refl
+
+pub right-example : aligned dashes 4 Right at twoLines
+    ≡ record { glyphs = dashAt (pos 5) (pos 20) ∷ dashAt (pos 8) (pos 20) ∷ dashAt (pos 8) (pos 24) ∷ []; advance = success (point (pos 3) (pos 4)) }
+unfolding letters lines lineByLine joinAll
+right-example = refl
+
+-- Of a line that is stopped Left leaves the letters before, as in plain texts; Center and Right leave nothing.
+pub stopped-example : map (λ (a : HorizontalAlignment). aligned dashes 4 a at stopped) (Left ∷ Center ∷ Right ∷ [])
+    ≡ record { glyphs = dashAt (pos 10) (pos 20) ∷ dashAt (pos 10) (pos 24) ∷ []; advance = refused 7 65 }
+    ∷ record { glyphs = dashAt (pos 7) (pos 20) ∷ []; advance = refused 7 65 }
+    ∷ record { glyphs = dashAt (pos 8) (pos 20) ∷ []; advance = refused 7 65 }
+    ∷ []
+unfolding letters lines lineByLine joinAll
+stopped-example = refl
+
+pub lines-example : measureLines dashes Center 4 at twoLines
+    ≡ success record {
+      advance = point (pos 3) (pos 4);
+      «bounding_box» = Some record { «top_left» = point (pos 8) (pos 19); size = record { width = 5; height = 5 } };
+    }
+unfolding measureLinesFrom
+lines-example = refl
+
+-- Skipping does not hide 8.
+pub skip-example : answer true (refused 8 0) ≡ stops 8 0
+skip-example = refl
 
 -- ---- the box of glyphs
 
