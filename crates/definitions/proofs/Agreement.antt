@@ -31,7 +31,7 @@ use Rattle.definitions.specs.Framebuffer.{over, sideOff, framebufferCaus
 use Rattle.definitions.specs.Limits.{textCause, positionCause, backgroundOff, backgroundCause}
 use Rattle.definitions.specs.Calls.{Request, characters, origin, laid, measureCauses, measuredText, measure, drawCauses, drawnText, draw, drawBuffer}
 use Rattle.definitions.specs.Agreement.{Ground, limits, WithinLimits, drawn, after, pixel, width, height, results, TwoDrawings, KeptOutside, Agree, ThirdDemand}
-use Rattle.definitions.proofs.RefusalLaws.{none-applies, succeeded, NoneApplies, each-off, all-off, any-parts, parts-any}
+use Rattle.definitions.proofs.RefusalLaws.{went-on, none-applies, succeeded, NoneApplies, each-off, all-off, any-parts, parts-any}
 use Rattle.definitions.proofs.OpenedLaws.{or-false, opened-by-causes}
 use Rattle.definitions.proofs.LookupLaws.{header-longer, search-longer}
 use Rattle.definitions.proofs.GlyphLaws.{fields-longer}
@@ -62,14 +62,10 @@ pub record Drawable (font : Font) (c : ℕ) (g : GlyphReader) : Type 0 where
   pub runs : font .pixels g ≡ pixels bits
 
 drawable-glyph : (font : Font) (c : ℕ) (g : GlyphReader) → drawnAnswer font false c ≡ shows g → Drawable font c g
-drawable-glyph font c g e = by (font .glyph c) refl (shown-answer (drawable font c (font .glyph c)) g e)
-  where
-    by : (o : Outcome GlyphReader) → font .glyph c ≡ o → drawable font c o ≡ success g → Drawable font c g
-    by (success h) k d =
-        let t = with-runs c h g (font .pixels h) d in
-        let same : h ≡ g = t .0 in
-        record { answer = cc; bits = t .1 .0; runs = ap (font .pixels) (sym same) ∙ t .1 .1 }
-    by (refused n m) k d = impossible cc
+drawable-glyph font c g e =
+    let s = went-on (font .glyph c) (λ h. withRuns c h (font .pixels h)) g (shown-answer (drawable font c (font .glyph c)) g e) in
+    let t = with-runs c (s .0) g (font .pixels (s .0)) (s .1 .1) in
+    record { answer = s .1 .0 ∙ ap success (t .0); bits = t .1 .0; runs = ap (font .pixels) (sym (t .0)) ∙ t .1 .1 }
 
 -- ---- a font that follows another
 
@@ -114,10 +110,10 @@ module _ (font more : List ℕ) (least : 23 ≤ length font) where
 
 pub dimensions-success : (b : BoundingBox) (o : Outcome Point) (d : RenderedDimensions) → dimensionsOf b o ≡ success d
     → (o ≡ success (d .advance)) × (b ≡ d .«bounding_box»)
-dimensions-success b (success a) d e =
-    let same : record { advance = a; «bounding_box» = b } ≡ d = cc in
-    (ap (λ (x : RenderedDimensions). success (x .advance)) same, ap (λ (x : RenderedDimensions). x .«bounding_box») same)
-dimensions-success b (refused n c) d e = impossible cc
+dimensions-success b o d e =
+    let t = went-on o (λ a. success record { advance = a; «bounding_box» = b }) d e in
+    let same : record { advance = t .0; «bounding_box» = b } ≡ d = cc (t .1 .1) in
+    (t .1 .0 ∙ ap (λ (x : RenderedDimensions). success (x .advance)) same, ap (λ (x : RenderedDimensions). x .«bounding_box») same)
 
 abbrev causes : Font → Request → FontColor → Ground → List Cause
 causes font r color p = drawCauses font r color (p .framebuffer) (p .before)

@@ -10,7 +10,7 @@ use Rattle.types.specs.declared.font_reader.FontReader.{FontReader}
 use Rattle.types.specs.declared.geometry.BoundingBox.{BoundingBox}
 use Rattle.types.specs.declared.geometry.Point.{Point}
 use Rattle.types.specs.declared.glyph_reader.GlyphReader.{GlyphReader}
-use Rattle.definitions.specs.Refusals.{Outcome, success, refused}
+use Rattle.definitions.specs.Refusals.{Outcome, success, refused, andThen}
 use Rattle.definitions.specs.Header.{header}
 use Rattle.definitions.specs.Bits.{Read, got, ends, readAt}
 use Rattle.definitions.specs.Lookup.{Search, found, missing, short, search as lookup}
@@ -23,6 +23,10 @@ use Rattle.definitions.specs.Font.{Font, u8g2, withRuns, drawable, drawn
 pub data Late {A : Type 0} : Outcome A → Type 0 where
   none : {a : A} → Late (success a)
   late : {n c : ℕ} → 6 < n → Late (refused n c)
+
+late-on : {A B : Type 0} (o : Outcome A) → Late o → (rest : A → Outcome B) → ((a : A) → Late (rest a)) → Late (andThen o rest)
+late-on (success a) h rest k = k a
+late-on (refused n c) (late h) rest k = late h
 
 -- ---- a glyph
 
@@ -51,13 +55,12 @@ late-glyph : (font : List ℕ) (c : ℕ) → Late (glyph font c)
 unfolding glyph
 late-glyph font c = late-search font c (lookup font c)
 
+late-runs : (c : ℕ) (g : GlyphReader) (p : Pixels) → Late (withRuns c g p)
+late-runs c g (pixels ps) = none
+late-runs c g cut = late {n = 8} (omega arith)
+
 late-drawable : (font : Font) (c : ℕ) (o : Outcome GlyphReader) → Late o → Late (drawable font c o)
-late-drawable font c (refused n d) h = h
-late-drawable font c (success g) h = by (font .pixels g)
-  where
-    by : (p : Pixels) → Late (withRuns c g p)
-    by (pixels ps) = none
-    by cut = late {n = 8} (omega arith)
+late-drawable font c o h = late-on o h (λ g. withRuns c g (font .pixels g)) (λ g. late-runs c g (font .pixels g))
 
 -- ---- a text
 
@@ -102,15 +105,13 @@ module _ (answers : ℕ → Answer) (each : (c : ℕ) → LateAnswer (answers c)
       late-then (letters answers origin advance l) (late-letters l advance) (letters answers origin advance l .advance)
       (λ end. lineByLine (letters answers origin) lineHeight (newline lineHeight end) ls) (λ end. late-lines ls (newline lineHeight end))
 
-late-dimensions : (b : BoundingBox) (o : Outcome Point) → Late o → Late (dimensionsOf b o)
-late-dimensions b (success a) h = none
-late-dimensions b (refused n c) (late h) = late h
-
 -- A drawn text's letters come to no number up to 6.
 pub late-drawn : (font : List ℕ) (skip : Bool) (lineHeight : ℕ) (origin advance : Point) (b : BoundingBox) (cs : List ℕ)
     → Late (dimensionsOf b (layout (drawnAnswer (u8g2 font) skip) lineHeight origin advance cs .advance))
 late-drawn font skip lineHeight origin advance b cs =
-    late-dimensions b _
+    late-on _
     (late-lines (drawnAnswer (u8g2 font) skip)
     (λ c. late-answer skip (drawable (u8g2 font) c (glyph font c)) (late-drawable (u8g2 font) c (glyph font c) (late-glyph font c)))
     lineHeight origin (lines cs) advance)
+    (λ a. success record { advance = a; «bounding_box» = b })
+    (λ a. none)

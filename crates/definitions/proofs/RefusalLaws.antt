@@ -13,7 +13,7 @@ use Rattle.types.specs.declared.geometry.RenderedDimensions.{RenderedDimensions
 use Rattle.types.specs.declared.style.FontColor.{FontColor}
 use Rattle.types.specs.declared.style.FontColor.the-variants.{Transparent, WithBackground}
 use Rattle.types.specs.declared.style.VerticalPosition.the-variants.{Baseline}
-use Rattle.definitions.specs.Refusals.{Outcome, success, refused, Cause, unlessRefused, anyApplies}
+use Rattle.definitions.specs.Refusals.{Outcome, success, refused, andThen, Cause, unlessRefused, anyApplies}
 use Rattle.definitions.specs.Header.{header, headerOff}
 use Rattle.definitions.specs.Bits.{lowBits, bits, number, readAt}
 use Rattle.definitions.specs.Lookup.{record8, chain, search}
@@ -24,6 +24,12 @@ use Rattle.definitions.specs.Calls.{Request, plain, measure, drawCauses,
 use Rattle.definitions.specs.Font.{Font, u8g2}
 use Rattle.definitions.specs.FontT.{T}
 use Rattle.definitions.proofs.OpenedLaws.{or-false}
+
+-- what went before a success
+pub went-on : {A B : Type 0} (o : Outcome A) (rest : A → Outcome B) (b : B) → andThen o rest ≡ success b
+    → (a : A) × ((o ≡ success a) × (rest a ≡ success b))
+went-on (success a) rest b e = (a, (refl, e))
+went-on (refused n c) rest b e = impossible cc
 
 module _ {A : Type 0} (rest : Outcome A) where
   pub none-applies : (cs : List Cause) → anyApplies cs ≡ false → unlessRefused cs rest ≡ rest

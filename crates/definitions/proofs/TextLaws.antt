@@ -18,11 +18,11 @@ use Rattle.types.specs.declared.glyph_reader.GlyphReader.{GlyphReader}
 use Rattle.types.specs.declared.style.FontColor.{FontColor}
 use Rattle.types.specs.declared.style.HorizontalAlignment.{HorizontalAlignment}
 use Rattle.types.specs.declared.style.HorizontalAlignment.the-variants.{Left, Center, Right}
-use Rattle.definitions.specs.Refusals.{Outcome, success, refused}
+use Rattle.definitions.specs.Refusals.{Outcome, success, refused, andThen}
 use Rattle.definitions.specs.Geometry.{join}
 use Rattle.definitions.specs.Text.{Answer, shows, nothing, stops, answer, boxAt, Placed, boxOf, joinAll, Layout, point, before, dimensionsOf, dimensions}
 use Rattle.definitions.specs.Text.{place, letters, Lines, last, first, toFirst, lines, newline, thenLines, lineByLine, layout, horizontalOffset, withOffset, movedLine, alignedLine, aligned}
-use Rattle.definitions.specs.TextSteps.{andThen, newlineStep, nextBox, glyphStep, answerStep, step, measureFrom, start, answerShown, stepShown, orKept, drawFrom}
+use Rattle.definitions.specs.TextSteps.{newlineStep, nextBox, glyphStep, answerStep, step, measureFrom, start, answerShown, stepShown, orKept, drawFrom}
 use Rattle.definitions.specs.TextSteps.{movedBox, LineState, withLine, nextLine, answerOfLine, lineStep, measureLinesFrom, linesDimensions, measureLines}
 use Rattle.definitions.specs.Picture.{boxPicture, textPicture}
 use Rattle.definitions.specs.Framebuffer.{shown}

@@ -22,7 +22,7 @@ use Rattle.types.specs.declared.style.FontColor.{FontColor}
 use Rattle.types.specs.declared.style.HorizontalAlignment.{HorizontalAlignment}
 use Rattle.types.specs.declared.style.HorizontalAlignment.the-variants.{Left}
 use Rattle.types.specs.declared.style.VerticalPosition.{VerticalPosition}
-use Rattle.definitions.specs.Refusals.{Outcome, success, refused, refusal, Cause, unlessRefused, anyApplies}
+use Rattle.definitions.specs.Refusals.{Outcome, success, andThen, refusal, Cause, unlessRefused, anyApplies}
 use Rattle.definitions.specs.Header.{header, fontCauses}
 use Rattle.definitions.specs.VerticalOffset.{verticalOffset}
 use Rattle.definitions.specs.Utf8.{decode, codePoints, newlines}
@@ -121,8 +121,7 @@ dimensionsOutcome (Dimensions·Err e) = refusal e
 -- ---- aligned measuring: the box or none
 
 abbrev pub boxOfLayout : Layout → Outcome Point → Outcome BoundingBox
-boxOfLayout l (success a) = success (joinAll (l .glyphs))
-boxOfLayout l (refused n c) = refused n c
+boxOfLayout l advance = andThen advance (λ a. success (joinAll (l .glyphs)))
 
 abbrev pub alignedText : Font → Request → Layout
 alignedText font r =

@@ -4,7 +4,7 @@ use mathlib.Core.List.{List, []}
 use Prim.Native.Nat.{ℕ}
 use lib.IntN.{ℤ}
 use Rattle.types.specs.declared.glyph_reader.GlyphReader.{GlyphReader}
-use Rattle.definitions.specs.Refusals.{Outcome, success, refused, Cause}
+use Rattle.definitions.specs.Refusals.{Outcome, success, refused, andThen, Cause}
 use Rattle.definitions.specs.Header.{header, fontCauses}
 use Rattle.definitions.specs.Glyph.{glyph}
 use Rattle.definitions.specs.Runs.{Pixels, pixels, cut, glyphPixels}
@@ -41,8 +41,7 @@ withRuns c g (pixels ps) = success g
 withRuns c g cut = refused 8 c
 
 abbrev pub drawable : Font → ℕ → Outcome GlyphReader → Outcome GlyphReader
-drawable font c (success g) = withRuns c g (font .pixels g)
-drawable font c (refused n d) = refused n d
+drawable font c o = andThen o (λ g. withRuns c g (font .pixels g))
 
 abbrev pub drawnAnswer : Font → Bool → ℕ → Answer
 drawnAnswer font skip c = answer skip (drawable font c (font .glyph c))

@@ -5,15 +5,18 @@ use Rattle.types.specs.declared.font_reader.FontReader.{FontReader}
 use Rattle.types.specs.declared.glyph_reader.GlyphReader.{GlyphReader}
 use Rattle.types.specs.declared.results.GlyphResult.{GlyphResult}
 use Rattle.types.specs.declared.results.GlyphResult.the-variants.{Ok, Err}
-use Rattle.definitions.specs.Refusals.{Outcome, success, refused, refusal}
+use Rattle.definitions.specs.Refusals.{Outcome, success, refused, andThen, refusal}
 use Rattle.definitions.specs.Header.{header}
 use Rattle.definitions.specs.Bits.{Read, got, ends, readAt, biased}
 use Rattle.definitions.specs.Lookup.{Search, found, missing, short, search}
 
--- what comes of a read: number 8 with the code point c where the font ends
+-- what a read for the code point c comes to: number 8 where the font ends
+abbrev pub orEnds : ℕ → Read → Outcome ℕ
+orEnds c (got n) = success n
+orEnds c ends = refused 8 c
+
 abbrev pub unlessEnds : ℕ → Read → (ℕ → Outcome GlyphReader) → Outcome GlyphReader
-unlessEnds c (got n) rest = rest n
-unlessEnds c ends rest = refused 8 c
+unlessEnds c r rest = andThen (orEnds c r) rest
 
 -- A field of b bits from the bit `at` on; what comes of its number and of the bit after it is `rest`.
 abbrev pub field : List ℕ → ℕ → ℕ → ℕ → (ℕ → ℕ → Outcome GlyphReader) → Outcome GlyphReader

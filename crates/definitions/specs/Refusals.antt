@@ -12,6 +12,11 @@ pub data Outcome (A : Type 0) : Type 0 where
   success : A → Outcome A
   refused : ℕ → ℕ → Outcome A
 
+-- A success goes on, a refusal stops.
+abbrev pub andThen : {A B : Type 0} → Outcome A → (A → Outcome B) → Outcome B
+andThen (success a) rest = rest a
+andThen (refused n c) rest = refused n c
+
 -- 01's number of each case of the error type
 abbrev pub number : Error → ℕ
 number FontLength = 1

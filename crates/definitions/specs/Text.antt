@@ -15,7 +15,7 @@ use Rattle.types.specs.declared.geometry.RenderedDimensions.{RenderedDimensions
 use Rattle.types.specs.declared.glyph_reader.GlyphReader.{GlyphReader}
 use Rattle.types.specs.declared.style.HorizontalAlignment.{HorizontalAlignment}
 use Rattle.types.specs.declared.style.HorizontalAlignment.the-variants.{Left, Center, Right}
-use Rattle.definitions.specs.Refusals.{Outcome, success, refused}
+use Rattle.definitions.specs.Refusals.{Outcome, success, refused, andThen}
 use Rattle.definitions.specs.Geometry.{left, join}
 
 -- ---- a character (01's letter)
@@ -69,8 +69,7 @@ before ps rest = record { glyphs = ps ++ rest .glyphs; advance = rest .advance }
 
 -- The text's advance is the last one, its box all its letters' boxes joined, or none.
 abbrev pub dimensionsOf : BoundingBox → Outcome Point → Outcome RenderedDimensions
-dimensionsOf box (success a) = success record { advance = a; «bounding_box» = box }
-dimensionsOf box (refused n c) = refused n c
+dimensionsOf box advance = andThen advance (λ a. success record { advance = a; «bounding_box» = box })
 
 abbrev pub dimensions : Layout → Outcome RenderedDimensions
 dimensions l = dimensionsOf (joinAll (l .glyphs)) (l .advance)

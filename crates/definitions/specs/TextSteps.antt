@@ -13,16 +13,11 @@ use Rattle.types.specs.declared.geometry.RenderedDimensions.{RenderedDimensions
 use Rattle.types.specs.declared.glyph_reader.GlyphReader.{GlyphReader}
 use Rattle.types.specs.declared.style.FontColor.{FontColor}
 use Rattle.types.specs.declared.style.HorizontalAlignment.{HorizontalAlignment}
-use Rattle.definitions.specs.Refusals.{Outcome, success, refused}
+use Rattle.definitions.specs.Refusals.{Outcome, success, refused, andThen}
 use Rattle.definitions.specs.Geometry.{left, top, join}
 use Rattle.definitions.specs.Text.{Answer, shows, nothing, stops, boxAt, point, newline, horizontalOffset}
 use Rattle.definitions.specs.Picture.{boxPicture}
 use Rattle.definitions.specs.Framebuffer.{shown}
-
--- A success goes on, a refusal stops.
-abbrev pub andThen : {A B : Type 0} → Outcome A → (A → Outcome B) → Outcome B
-andThen (success a) rest = rest a
-andThen (refused n c) rest = refused n c
 
 -- ---- measuring: the state is the advance and the box so far
 
