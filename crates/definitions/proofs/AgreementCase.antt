@@ -53,7 +53,8 @@ unfolding T header headerOff signed8 table rowOf firstCharacter decodeFrom
 supposed = record { first-within = refl; second-within = refl; no-skips = refl; more = added; longer = refl; as-wide = omega arith; as-high = omega arith }
 
 pub succeeds : drawn (u8g2 T) asked (Transparent 1) small ≡ success dimensions
-unfolding T header headerOff signed8 glyph fields search record8 chain readAt bits lowBits number table rowOf firstCharacter decodeFrom newlines joinAll letters lines lineByLine afterPair runs glyphPixels draw
+unfolding T header headerOff signed8 glyph fields search record8 chain readAt bits lowBits number
+    table rowOf firstCharacter decodeFrom newlines joinAll letters lines lineByLine afterPair runs glyphPixels draw
 succeeds = refl
 
 -- The drawing changes pixels: the left one of "-" in both, and that of "4" in the second.
@@ -65,7 +66,8 @@ changed =
     ∷ []
 
 pub changes : changed ≡ 1 ∷ 1 ∷ 1 ∷ []
-unfolding T header headerOff signed8 glyph fields search record8 chain readAt bits lowBits number table rowOf firstCharacter decodeFrom newlines joinAll letters lines lineByLine afterPair runs glyphPixels textPicture mapAt drawBuffer
+unfolding T header headerOff signed8 glyph fields search record8 chain readAt bits lowBits number
+    table rowOf firstCharacter decodeFrom newlines joinAll letters lines lineByLine afterPair runs glyphPixels textPicture mapAt drawBuffer
 changes = refl
 
 pub claimed : Agree small large (results (u8g2 T) (u8g2 (T ++ added)) asked (Transparent 1) small large) dimensions

@@ -35,5 +35,7 @@ module _ {A : Type 0} {rest : Outcome A} {before after : List ℕ} where
     where
       by : (t : Bool) → c .applies ≡ t → (unlessRefused cs (success b) ≡ refused n m → Comes (cs ++ ds) rest before after (refused n m) before)
           → Comes (c ∷ (cs ++ ds)) rest before after (refused n m) before
-      by true k later = let same : _≡_ {A = Outcome A} (refused (c .number) 0) (refused n m) = cc (rw k at e) in subst (λ (o : Outcome A). Comes (c ∷ (cs ++ ds)) rest before after o before) same (comes-on c (cs ++ ds) k)
+      by true k later =
+          let same : _≡_ {A = Outcome A} (refused (c .number) 0) (refused n m) = cc (rw k at e) in
+          subst (λ (o : Outcome A). Comes (c ∷ (cs ++ ds)) rest before after o before) same (comes-on c (cs ++ ds) k)
       by false k later = comes-off c k (later (rw k at e))

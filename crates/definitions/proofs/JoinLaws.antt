@@ -88,7 +88,12 @@ rectangles-comm p q = cc (min-comm (left p) (left q), min-comm (top p) (top q), 
 
 rectangles-assoc : (p q r : Rectangle) → joinRectangles (joinRectangles p q) r ≡ joinRectangles p (joinRectangles q r)
 rectangles-assoc p q r =
-    cc (min-assoc (left p) (left q) (left r), min-assoc (top p) (top q) (top r), length-assoc (left p) (left q) (left r) (width p) (width q) (width r), length-assoc (top p) (top q) (top r) (height p) (height q) (height r))
+    cc (
+      min-assoc (left p) (left q) (left r),
+      min-assoc (top p) (top q) (top r),
+      length-assoc (left p) (left q) (left r) (width p) (width q) (width r),
+      length-assoc (top p) (top q) (top r) (height p) (height q) (height r),
+    )
 
 rectangles-contain : (p q : Rectangle) {column row : ℤ} → Inside column row p → Inside column row (joinRectangles p q)
 rectangles-contain p q h =
@@ -120,9 +125,11 @@ join-smallest p q c s t h k column row i =
     let g = first-cell q c t k in
     let u = last-cell p c s h in
     let v = last-cell q c t k in
-    let x = span-smallest (left p) (left q) (width p) (width q) (f .from-left) (g .from-left) (past-last (left p) (width p) (u .to-right)) (past-last (left q) (width q) (v .to-right)) (i .from-left, i .to-right) in
-    let y = span-smallest (top p) (top q) (height p) (height q) (f .from-top) (g .from-top) (past-last (top p) (height p) (u .to-bottom)) (past-last (top q) (height q) (v .to-bottom)) (i .from-top, i .to-bottom) in
-    inside c x y
+    inside c
+    (span-smallest (left p) (left q) (width p) (width q) (f .from-left) (g .from-left)
+    (past-last (left p) (width p) (u .to-right)) (past-last (left q) (width q) (v .to-right)) (i .from-left, i .to-right))
+    (span-smallest (top p) (top q) (height p) (height q) (f .from-top) (g .from-top)
+    (past-last (top p) (height p) (u .to-bottom)) (past-last (top q) (height q) (v .to-bottom)) (i .from-top, i .to-bottom))
 
 -- ---- boxes
 

@@ -33,5 +33,6 @@ lineCases =
     ∷ []
 
 pub line-cases-hold : map (λ (c : LineCase). measuringLine (c .font) (c .text)) lineCases ≡ map (λ (c : LineCase). c .line) lineCases
-unfolding lineCases measuringLine measuredByProgram decimal decimalFrom openFont header headerOff signed8 T glyph fields search record8 chain record16 jumpTable readAt bits lowBits number table rowOf firstCharacter decodeFrom newlines joinAll letters lines lineByLine measure
+unfolding lineCases measuringLine measuredByProgram decimal decimalFrom openFont header headerOff signed8 T glyph fields search record8
+    chain record16 jumpTable readAt bits lowBits number table rowOf firstCharacter decodeFrom newlines joinAll letters lines lineByLine measure
 line-cases-hold = refl

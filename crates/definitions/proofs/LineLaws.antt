@@ -32,7 +32,10 @@ unfolding decimalFrom
 enough-fuel zero zero n p q = refl
 enough-fuel zero (suc g) n p q = simp (lt-ltb n 10 (omega arith))
 enough-fuel (suc f) zero n p q = simp (lt-ltb n 10 (omega arith))
-enough-fuel (suc f) (suc g) n p q = alike (ltb n 10) _ (λ e. ap (λ (ds : List ℕ). ds ++ (48 + n % 10) ∷ []) (enough-fuel f g (n / 10) (omega (arith, ltb-false n 10 e)) (omega (arith, ltb-false n 10 e))))
+enough-fuel (suc f) (suc g) n p q =
+    alike (ltb n 10) _ (λ e.
+    ap (λ (ds : List ℕ). ds ++ (48 + n % 10) ∷ [])
+    (enough-fuel f g (n / 10) (omega (arith, ltb-false n 10 e)) (omega (arith, ltb-false n 10 e))))
 
 -- So below 10 the only digit is the number, and from 10 on the last digit follows those of the tenth.
 pub decimal-small : (n : ℕ) → n < 10 → decimal n ≡ (48 + n) ∷ []

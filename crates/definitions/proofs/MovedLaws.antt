@@ -12,7 +12,8 @@ use Rattle.types.specs.declared.geometry.BoundingBox.{BoundingBox}
 use Rattle.types.specs.declared.geometry.Point.{Point}
 use Rattle.types.specs.declared.geometry.RenderedDimensions.{RenderedDimensions}
 use Rattle.definitions.specs.Refusals.{Outcome, success, refused, anyApplies}
-use Rattle.definitions.specs.Text.{Answer, shows, nothing, stops, joinAll, Layout, point, dimensionsOf, dimensions, place, letters, Lines, last, first, lines, newline, thenLines, lineByLine, layout}
+use Rattle.definitions.specs.Text.{Answer, shows, nothing, stops, joinAll, Layout, point, dimensionsOf, dimensions, place, letters}
+use Rattle.definitions.specs.Text.{Lines, last, first, lines, newline, thenLines, lineByLine, layout}
 use Rattle.definitions.specs.TextSteps.{movedBox}
 use Rattle.definitions.specs.VerticalOffset.{verticalOffset}
 use Rattle.definitions.specs.Utf8.{newlines}

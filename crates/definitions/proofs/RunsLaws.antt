@@ -92,8 +92,12 @@ pair-longer m0 m1 s t r r′ ps next =
 repeat-longer : (m0 m1 zeros ones : ℕ) (s t : List ℕ)
     → ((zeros ones skip : ℕ) → Same (λ n. afterPair m0 m1 n zeros ones skip s) (λ n. afterPair m0 m1 n zeros ones skip (s ++ t)))
     → (n : ℕ) (ps : List ℕ) (u : Bool)
-    → pick u (pair n zeros ones (λ n. afterPair m0 m1 n zeros ones 0 s)) (readPair m0 m1 s (λ zeros ones. pair n zeros ones (λ n. afterPair m0 m1 n zeros ones (m0 + m1) s))) ≡ pixels ps
-    → pick u (pair n zeros ones (λ n. afterPair m0 m1 n zeros ones 0 (s ++ t))) (readPair m0 m1 (s ++ t) (λ zeros ones. pair n zeros ones (λ n. afterPair m0 m1 n zeros ones (m0 + m1) (s ++ t)))) ≡ pixels ps
+    → pick u
+    (pair n zeros ones (λ n. afterPair m0 m1 n zeros ones 0 s))
+    (readPair m0 m1 s (λ zeros ones. pair n zeros ones (λ n. afterPair m0 m1 n zeros ones (m0 + m1) s))) ≡ pixels ps
+    → pick u
+    (pair n zeros ones (λ n. afterPair m0 m1 n zeros ones 0 (s ++ t)))
+    (readPair m0 m1 (s ++ t) (λ zeros ones. pair n zeros ones (λ n. afterPair m0 m1 n zeros ones (m0 + m1) (s ++ t)))) ≡ pixels ps
 repeat-longer m0 m1 zeros ones s t same n ps true = pair-same n zeros ones _ _ (same zeros ones 0) ps
 repeat-longer m0 m1 zeros ones s t same n ps false =
     pair-longer m0 m1 s t _ _ ps (λ zeros ones. pair-same n zeros ones _ _ (same zeros ones (m0 + m1)) ps)

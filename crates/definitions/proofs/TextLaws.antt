@@ -152,7 +152,10 @@ module _ (answers : ℕ → Answer) (lineHeight : ℕ) (origin : Point) where
   measure-char : (t : Bool) (d : RenderedDimensions) (l : Answer) (cs : List ℕ)
       → ((next : RenderedDimensions) → measureFrom answers lineHeight origin next cs ≡ dimensionsFrom (next .«bounding_box») (layout answers lineHeight origin (next .advance) cs))
       → andThen (pick t (success (newlineStep lineHeight d)) (answerStep origin d l)) (λ next. measureFrom answers lineHeight origin next cs)
-      ≡ dimensionsFrom (d .«bounding_box») (pick t (layout answers lineHeight origin (newline lineHeight (d .advance)) cs) (place origin (d .advance) l (λ next. layout answers lineHeight origin next cs)))
+      ≡ dimensionsFrom (d .«bounding_box»)
+      (pick t
+      (layout answers lineHeight origin (newline lineHeight (d .advance)) cs)
+      (place origin (d .advance) l (λ next. layout answers lineHeight origin next cs)))
   measure-char true d l cs rest = rest (newlineStep lineHeight d)
   measure-char false d l cs rest = measure-place d l cs rest
 
@@ -378,7 +381,9 @@ module _ (answers : ℕ → Answer) (a : HorizontalAlignment) (lineHeight : ℕ)
     lines-letter c (stops n m) e (first l ls) k = rw e
 
     lines-char : (c : ℕ) (t : Bool)
-        → read (andThen (pick t (success (nextLine a lineHeight origin (within y box x b))) (answerOfLine (within y box x b) (answers c))) (λ next. measureLinesFrom answers a lineHeight origin next cs))
+        → read
+        (andThen (pick t (success (nextLine a lineHeight origin (within y box x b))) (answerOfLine (within y box x b) (answers c))) (λ next.
+        measureLinesFrom answers a lineHeight origin next cs))
         ≡ after y box x b (pick t (first [] (lines cs)) (toFirst c (lines cs)))
     lines-char c true = lines-newline
     lines-char c false = lines-letter c (answers c) refl (lines cs) refl

@@ -14,7 +14,8 @@ use lib.Seq.{drop-cons, drop-drop, drop-append-seam, getD-drop}
 use borrow.Author.Tests.{eq-eqb, ne-eqb}
 use Rattle.integers.specs.Integers.{pick}
 use Rattle.integers.proofs.Choices.{impossible}
-use Rattle.definitions.specs.Utf8.{Row, rowOf, Character, character, malformed, sequence, firstCharacter, Scalar, encode, encodeAll, Scalars, nil, cons, Decoded, characters, notUtf8, prepend, decodeFrom, decode, isUtf8, codePoints, newlines}
+use Rattle.definitions.specs.Utf8.{Row, rowOf, Character, character, malformed, sequence, firstCharacter, Scalar, encode, encodeAll, Scalars, nil, cons, Decoded, characters, notUtf8}
+use Rattle.definitions.specs.Utf8.{prepend, decodeFrom, decode, isUtf8, codePoints, newlines}
 use Rattle.definitions.proofs.Utf8Rows.{if-less}
 use Rattle.definitions.proofs.Utf8Encoding.{encode-one, encode-two, encode-three, encode-four, encode-some, head, first-encode}
 
@@ -191,12 +192,16 @@ newlines-encode : (c : ℕ) → newlines (encode c) ≡ newlines (c ∷ [])
 unfolding newlines
 newlines-encode c =
     if-less c 0x80 (λ h. rw (encode-one c (omega arith))) (λ one.
-    if-less c 0x800 (λ h. rw (encode-two c one (omega arith)) (simp (ne (0xC0 + c / 64) (omega arith), ne (0x80 + c % 64) (omega arith), ne c one))) (λ two.
-    if-less c 0x10000 (λ h. rw (encode-three c two (omega arith)) (simp (ne (0xE0 + c / 4096) (omega arith), ne (0x80 + c / 64 % 64) (omega arith), ne (0x80 + c % 64) (omega arith), ne c one))) (λ three.
-    rw (encode-four c three) (simp (ne (0xF0 + c / 262144) (omega arith), ne (0x80 + c / 4096 % 64) (omega arith), ne (0x80 + c / 64 % 64) (omega arith), ne (0x80 + c % 64) (omega arith), ne c one)))))
+    if-less c 0x800 (λ h. rw (encode-two c one (omega arith)) (simp (ne (0xC0 + c / 64) (omega arith), late (c % 64), ne c one))) (λ two.
+    if-less c 0x10000 (λ h.
+    rw (encode-three c two (omega arith)) (simp (ne (0xE0 + c / 4096) (omega arith), late (c / 64 % 64), late (c % 64), ne c one))) (λ three.
+    rw (encode-four c three) (simp (ne (0xF0 + c / 262144) (omega arith), late (c / 4096 % 64), late (c / 64 % 64), late (c % 64), ne c one)))))
   where
     ne : (b : ℕ) → 0x80 ≤ b → eqb b 10 ≡ false
     ne b h = ne-eqb b 10 (λ e. omega arith)
+
+    late : (b : ℕ) → eqb (0x80 + b) 10 ≡ false
+    late b = ne-eqb (0x80 + b) 10 (λ e. omega arith)
 
 newlines-encodeAll : (cs : List ℕ) → newlines (encodeAll cs) ≡ newlines cs
 unfolding encodeAll newlines

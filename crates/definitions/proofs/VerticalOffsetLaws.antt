@@ -17,7 +17,18 @@ module _ (t : ℕ) {a d : ℤ} (f : SFits w8 a) (g : SFits w8 d) where
   offset-bounds Top = omega (zarith, range f, plus a (pos 1), plus (a +ℤ pos 1) (pos t))
   offset-bounds Center =
       let n = pos t +ℤ a -ℤ d +ℤ pos 1 in
-      omega (zarith, range f, range g, plus (pos t) a, minus (pos t +ℤ a) d, plus (pos t +ℤ a -ℤ d) (pos 1), half-is n, plus (half n) d, minus (half n +ℤ d) (pos t), plus (half n +ℤ d -ℤ pos t) (pos t))
+      omega (
+        zarith,
+        range f,
+        range g,
+        plus (pos t) a,
+        minus (pos t +ℤ a) d,
+        plus (pos t +ℤ a -ℤ d) (pos 1),
+        half-is n,
+        plus (half n) d,
+        minus (half n +ℤ d) (pos t),
+        plus (half n +ℤ d -ℤ pos t) (pos t),
+      )
   offset-bounds Bottom = omega (zarith, range g, minus d (pos t), plus (d -ℤ pos t) (pos t))
 
   module _ (v : VerticalPosition) where

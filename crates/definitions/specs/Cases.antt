@@ -266,5 +266,7 @@ cases =
     ∷ []
 
 pub cases-hold : map (λ (c : Case). c .given) cases ≡ map (λ (c : Case). c .expected) cases
-unfolding cases openFont fontBoundingBox header headerOff signed8 T glyph fields search record8 chain record16 jumpTable readAt bits lowBits number table rowOf firstCharacter decodeFrom newlines joinAll letters lines lineByLine afterPair runs glyphPixels textPicture mapAt measure measureAligned draw drawBuffer
+unfolding cases openFont fontBoundingBox header headerOff signed8 T glyph fields search record8 chain record16 jumpTable
+    readAt bits lowBits number table rowOf firstCharacter decodeFrom newlines joinAll letters lines lineByLine afterPair runs glyphPixels
+    textPicture mapAt measure measureAligned draw drawBuffer
 cases-hold = refl
