@@ -3,7 +3,8 @@
 use mathlib.Core.Path.{_≡_, refl, sym, ap, _∙_}
 use mathlib.Core.Bool.{Bool, true, false, _||_}
 use mathlib.Core.List.{List, [], _∷_, _++_, map, map-append, append-assoc, append-nil}
-use Prim.Native.Nat.{ℕ}
+use Prim.Native.Nat.{ℕ, suc, _+_}
+use native.Mathlib.Omega.{arith}
 use lib.Dec.{eqb}
 use lib.IntN.{ℤ, pos, _+ℤ_, _-ℤ_}
 use Rattle.integers.specs.Integers.{pick}
@@ -20,6 +21,7 @@ use Rattle.types.specs.declared.style.HorizontalAlignment.{HorizontalAlignment}
 use Rattle.types.specs.declared.style.HorizontalAlignment.the-variants.{Left, Center, Right}
 use Rattle.definitions.specs.Refusals.{Outcome, success, refused, andThen}
 use Rattle.definitions.specs.Geometry.{join}
+use Rattle.definitions.specs.Utf8.{newlines}
 use Rattle.definitions.specs.Text.{Answer, shows, nothing, stops, answer, boxAt, Placed, boxOf, joinAll, Layout, point, before, dimensionsOf, dimensions}
 use Rattle.definitions.specs.Text.{place, letters, Lines, last, first, toFirst, lines, newline, thenLines, lineByLine, layout, horizontalOffset, withOffset, movedLine, alignedLine, aligned}
 use Rattle.definitions.specs.TextSteps.{newlineStep, nextBox, glyphStep, answerStep, step, measureFrom, start, answerShown, stepShown, orKept, drawFrom}
@@ -96,6 +98,23 @@ unfolding joinAll
 join-append [] qs = refl
 join-append (p ∷ ps) qs = ap (join (boxOf p)) (join-append ps qs) ∙ sym (join-assoc (boxOf p) (joinAll ps) (joinAll qs))
 
+-- ---- lines
+
+abbrev lineCount : Lines → ℕ
+lineCount (last l) = 1
+lineCount (first l ls) = suc (lineCount ls)
+
+-- There is one more than there are newlines.
+pub line-count : (cs : List ℕ) → lineCount (lines cs) ≡ suc (newlines cs)
+unfolding lines newlines
+line-count [] = refl
+line-count (c ∷ cs) = by (eqb c 10) (lines cs) (line-count cs)
+  where
+    by : (t : Bool) (ls : Lines) → lineCount ls ≡ suc (newlines cs) → lineCount (pick t (first [] ls) (toFirst c ls)) ≡ suc (pick t 1 0 + newlines cs)
+    by true ls e = omega arith
+    by false (last l) e = omega arith
+    by false (first l ls) e = omega arith
+
 -- ---- a plain text, letter by letter
 
 then-before : (ps : List Placed) (line : Layout) (o : Outcome Point) (rest : Point → Layout)
@@ -119,6 +138,7 @@ module _ (answers : ℕ → Answer) (lineHeight : ℕ) (origin : Point) where
   first-letter advance c (first l ls) nothing e = rw e
   first-letter advance c (first l ls) (stops n d) e = rw e
 
+  -- what the next code point makes of the advance, as a loop goes
   pub layout-next : (c : ℕ) (cs : List ℕ) (advance : Point)
       → layout answers lineHeight origin advance (c ∷ cs)
       ≡ pick (eqb c 10)
@@ -259,7 +279,7 @@ zero-plus x = omega (zarith, plus (pos 0) x)
 plus-zero : (x : ℤ) → x +ℤ pos 0 ≡ x
 plus-zero x = omega (zarith, plus x (pos 0))
 
--- a line that is laid out from its own start, moved to its place, y below the origin
+-- a line that was laid out from its own start, at its place: y below the origin
 abbrev movedTo : ℤ → ℤ → ℤ → Layout → Layout
 movedTo left top y line = record {
   glyphs = map (moved left (top +ℤ y)) (line .glyphs);
@@ -270,19 +290,19 @@ abbrev zero : Point
 zero = point (pos 0) (pos 0)
 
 module _ (answers : ℕ → Answer) (origin : Point) (y : ℤ) where
-  place-moved : (x : ℤ) (a : Answer) (l : List ℕ)
+  place-from-start : (x : ℤ) (a : Answer) (l : List ℕ)
       → ((x : ℤ) → letters answers origin (point x y) l ≡ movedTo (origin .x) (origin .y) y (letters answers zero (point x (pos 0)) l))
       → place origin (point x y) a (λ next. letters answers origin next l)
       ≡ movedTo (origin .x) (origin .y) y (place zero (point x (pos 0)) a (λ next. letters answers zero next l))
-  place-moved x (shows g) l rest = rw (rest (x +ℤ g .advance), zero-plus x, plus-zero (origin .y +ℤ y))
-  place-moved x nothing l rest = rest x
-  place-moved x (stops n c) l rest = refl
+  place-from-start x (shows g) l rest = rw (rest (x +ℤ g .advance), zero-plus x, plus-zero (origin .y +ℤ y))
+  place-from-start x nothing l rest = rest x
+  place-from-start x (stops n c) l rest = refl
 
-  letters-moved : (l : List ℕ) (x : ℤ)
+  letters-from-start : (l : List ℕ) (x : ℤ)
       → letters answers origin (point x y) l ≡ movedTo (origin .x) (origin .y) y (letters answers zero (point x (pos 0)) l)
   unfolding letters
-  letters-moved [] x = refl
-  letters-moved (c ∷ l) x = place-moved x (answers c) l (letters-moved l)
+  letters-from-start [] x = refl
+  letters-from-start (c ∷ l) x = place-from-start x (answers c) l (letters-from-start l)
 
 module _ (answers : ℕ → Answer) (a : HorizontalAlignment) (lineHeight : ℕ) (origin : Point) where
   -- a line from its own start, with an advance and a box so far
@@ -316,16 +336,16 @@ module _ (answers : ℕ → Answer) (a : HorizontalAlignment) (lineHeight : ℕ)
         → movedLine b answers origin (point (pos 0) y) l ≡ movedTo (aside b end) (origin .y) y line
     line-moved b end e =
         ap (λ (o : Outcome Point). withOffset b line o (λ x. letters answers (point (origin .x +ℤ x) (origin .y)) (point (pos 0) y) l)) e
-        ∙ letters-moved answers (point (aside b end) (origin .y)) y l (pos 0)
+        ∙ letters-from-start answers (point (aside b end) (origin .y)) y l (pos 0)
 
     -- it stands aside, unless it is stopped
     there-moved : (b : HorizontalAlignment) (end : Point) → line .advance ≡ success end → there b ≡ movedTo (aside b end) (origin .y) y line
-    there-moved Left end e = letters-moved answers origin y l (pos 0) ∙ rw plus-zero
+    there-moved Left end e = letters-from-start answers origin y l (pos 0) ∙ rw plus-zero
     there-moved Center end e = line-moved Center end e
     there-moved Right end e = line-moved Right end e
 
     there-stopped : (b : HorizontalAlignment) {n c : ℕ} → line .advance ≡ refused n c → there b .advance ≡ refused n c
-    there-stopped Left e = ap (λ (k : Layout). k .advance) (letters-moved answers origin y l (pos 0)) ∙ rw e
+    there-stopped Left e = ap (λ (k : Layout). k .advance) (letters-from-start answers origin y l (pos 0)) ∙ rw e
     there-stopped Center e = rw e
     there-stopped Right e = rw e
 

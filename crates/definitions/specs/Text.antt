@@ -91,7 +91,7 @@ letters answers origin advance (c ∷ cs) = place origin advance (answers c) (λ
 
 -- ---- a text is lines
 
--- one more than there are newlines
+-- The lines of a text: one more than it has newlines.
 pub data Lines : Type 0 where
   last : List ℕ → Lines
   first : List ℕ → Lines → Lines
@@ -100,7 +100,7 @@ abbrev pub toFirst : ℕ → Lines → Lines
 toFirst c (last l) = last (c ∷ l)
 toFirst c (first l ls) = first (c ∷ l) ls
 
--- Code point 10 is the newline.
+-- Code point 10 is the newline, and no letter.
 unfoldable pub lines : List ℕ → Lines
 lines [] = last []
 lines (c ∷ cs) = pick (eqb c 10) (first [] (lines cs)) (toFirst c (lines cs))
@@ -134,6 +134,7 @@ horizontalOffset Center None advance = pos 0
 horizontalOffset Center (Some r) advance = negℤ (pos (r .size .width / 2) +ℤ left r)
 horizontalOffset Right box advance = negℤ (advance -ℤ pos 1)
 
+-- what a line that was measured comes to at its offset, unless it was stopped
 abbrev pub withOffset : HorizontalAlignment → Layout → Outcome Point → (ℤ → Layout) → Layout
 withOffset a line (success end) rest = rest (horizontalOffset a (joinAll (line .glyphs)) (end .x))
 withOffset a line (refused n c) rest = record { glyphs = []; advance = refused n c }
