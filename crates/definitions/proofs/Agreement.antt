@@ -23,14 +23,14 @@ use Rattle.definitions.specs.Header.{header}
 use Rattle.definitions.specs.Lookup.{Search, found, missing, short, search}
 use Rattle.definitions.specs.Glyph.{fields, fromSearch, glyph}
 use Rattle.definitions.specs.Geometry.{InsideBox}
-use Rattle.definitions.specs.Text.{Answer, shows, nothing, answer, joinAll, Layout, layout, point, dimensionsOf, dimensions}
+use Rattle.definitions.specs.Text.{Answer, shows, nothing, answer, joinAll, Layout, point, dimensionsOf, dimensions}
 use Rattle.definitions.specs.Runs.{Pixels, pixels, cut}
 use Rattle.definitions.specs.Font.{Font, u8g2, measuredAnswer, withRuns, drawable, drawnAnswer, pixelList, pixelsOf}
 use Rattle.definitions.specs.Picture.{Paint, textPicture}
 use Rattle.definitions.specs.Framebuffer.{over, sideOff, framebufferCause}
 use Rattle.definitions.specs.Limits.{textCause, positionCause, backgroundOff, backgroundCause}
 use Rattle.definitions.specs.Calls.{Request, characters, origin, laid, measureCauses, measuredText, measure, drawCauses, drawnText, draw, drawBuffer}
-use Rattle.definitions.specs.Agreement.{Ground, limits, WithinLimits, drawn, after, pixel, width, height, results, TwoDrawings, KeptOutside, Agree, ThirdDemand}
+use Rattle.definitions.specs.Agreement.{Ground, WithinLimits, drawn, after, pixel, width, height, results, KeptOutside, Agree, ThirdDemand}
 use Rattle.definitions.proofs.RefusalLaws.{went-on, none-applies, succeeded, NoneApplies, each-off, all-off, any-parts, parts-any}
 use Rattle.definitions.proofs.OpenedLaws.{or-false, opened-by-causes}
 use Rattle.definitions.proofs.LookupLaws.{header-longer, search-longer}

@@ -7,10 +7,8 @@ use Prim.Native.Nat.{ℕ}
 use native.Mathlib.Omega.{arith}
 use lib.IntN.{pos}
 use lib.ListN.{replicate}
-use Rattle.types.specs.declared.font_reader.FontReader.{FontReader}
 use Rattle.types.specs.declared.geometry.BoundingBox.the-variants.{Some}
 use Rattle.types.specs.declared.geometry.RenderedDimensions.{RenderedDimensions}
-use Rattle.types.specs.declared.glyph_reader.GlyphReader.{GlyphReader}
 use Rattle.types.specs.declared.style.FontColor.the-variants.{Transparent}
 use Rattle.types.specs.declared.style.VerticalPosition.the-variants.{Baseline}
 use Rattle.integers.specs.Integers.{signed8}
@@ -21,7 +19,7 @@ use Rattle.definitions.specs.Glyph.{fields, glyph}
 use Rattle.definitions.specs.Utf8.{table, rowOf, firstCharacter, decodeFrom, newlines}
 use Rattle.definitions.specs.Refusals.{success}
 use Rattle.definitions.specs.Text.{point, joinAll, letters, lines, lineByLine}
-use Rattle.definitions.specs.Runs.{pixels, afterPair, runs, glyphPixels}
+use Rattle.definitions.specs.Runs.{afterPair, runs, glyphPixels}
 use Rattle.definitions.specs.Picture.{textPicture}
 use Rattle.definitions.specs.Framebuffer.{mapAt}
 use Rattle.definitions.specs.Calls.{Request, plain, draw, drawBuffer}

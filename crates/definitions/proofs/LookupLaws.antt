@@ -15,9 +15,9 @@ use lib.Seq.{drop-cons, drop-append-le}
 use Rattle.integers.proofs.Choices.{impossible, of-pick}
 use Rattle.types.specs.declared.font_reader.FontReader.{FontReader}
 use Rattle.integers.specs.Integers.{pick}
-use Rattle.definitions.specs.Header.{byte, bigEndian16, header, Opened}
-use Rattle.definitions.specs.Lookup.{Search, found, missing, short, Record, here, next, last, cut, record8, record16, follow, chain}
-use Rattle.definitions.specs.Lookup.{Distance, sum, none, jumpTable, records, chainStart, tableStart, fromTable, searchTable, search}
+use Rattle.definitions.specs.Header.{byte, bigEndian16, header}
+use Rattle.definitions.specs.Lookup.{found, missing, short, Record, here, next, last, cut, record8, record16, follow, chain}
+use Rattle.definitions.specs.Lookup.{Distance, sum, none, jumpTable, chainStart, tableStart, fromTable, searchTable, search}
 
 -- The code is compared before the jump is seen: a record with jump 0 is found.
 pub code-first : record8 45 (45 ∷ 0 ∷ []) ≡ here 2

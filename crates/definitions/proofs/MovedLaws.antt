@@ -1,11 +1,10 @@
 -- Where a text stands moves its glyphs and its box, and changes nothing else. Assumes nothing.
 use mathlib.Core.Path.{_≡_, refl, sym, ap, _∙_}
-use mathlib.Core.Bool.{Bool, true, false, _||_}
+use mathlib.Core.Bool.{false, _||_}
 use mathlib.Core.List.{List, [], _∷_, map, map-append}
 use Prim.Native.Nat.{ℕ, _*_}
-use lib.Dec.{eqb, ltb}
+use lib.Dec.{ltb}
 use lib.IntN.{ℤ, pos, _+ℤ_}
-use Rattle.integers.specs.Integers.{pick}
 use Rattle.integers.proofs.Laws.{zarith, plus}
 use Rattle.integers.proofs.Choices.{impossible}
 use Rattle.types.specs.declared.geometry.BoundingBox.{BoundingBox}

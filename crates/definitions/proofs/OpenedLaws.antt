@@ -5,16 +5,14 @@ use mathlib.Core.List.{List}
 use Prim.Native.Nat.{ℕ, _≤_}
 use native.Mathlib.Omega.{arith}
 use lib.Dec.{ltb, eqb}
-use lib.IntN.{ℤ, pos}
 use lib.ListN.{length}
-use lib.Signed.{ltZ, _≤ℤ_}
 use borrow.Author.Tests.{ltb-false, eqb-false}
 use Rattle.types.specs.declared.font_reader.FontReader.{FontReader}
 use Rattle.integers.specs.Integers.{pick}
 use Rattle.integers.proofs.Laws.{zarith}
 use Rattle.integers.proofs.Choices.{impossible}
 use Rattle.definitions.specs.Refusals.{Outcome, success, refused, unlessRefused, anyApplies}
-use Rattle.definitions.specs.Header.{byte, signedByte, header, lengthOff, headerOff, widthOff, signedWidthOff, negative, fontCauses, Opened}
+use Rattle.definitions.specs.Header.{byte, header, lengthOff, headerOff, widthOff, signedWidthOff, fontCauses, Opened}
 use Rattle.definitions.specs.Calls.{openFont}
 
 -- both parts of a disjunction that is false

@@ -20,13 +20,12 @@ use Rattle.types.specs.declared.geometry.Rectangle.{Rectangle}
 use Rattle.types.specs.declared.geometry.RenderedDimensions.{RenderedDimensions}
 use Rattle.types.specs.declared.glyph_reader.GlyphReader.{GlyphReader}
 use Rattle.types.specs.declared.style.FontColor.{FontColor}
-use Rattle.types.specs.declared.style.VerticalPosition.the-variants.{Baseline}
 use Rattle.definitions.specs.Refusals.{Outcome, success, refused, anyApplies}
 use Rattle.definitions.specs.Header.{header, Opened}
 use Rattle.definitions.specs.Geometry.{left, top, spanLength, join}
 use Rattle.definitions.specs.Glyph.{glyph}
 use Rattle.definitions.specs.Utf8.{decode, isUtf8}
-use Rattle.definitions.specs.Text.{Answer, answer, boxAt, joinAll, Layout, point, dimensions, place, letters, Lines, last, first, lines, newline, thenLines, lineByLine, layout}
+use Rattle.definitions.specs.Text.{answer, boxAt, joinAll, Layout, point, dimensions, place, letters, Lines, last, first, lines, newline, thenLines, lineByLine, layout}
 use Rattle.definitions.specs.TextSteps.{movedRectangle}
 use Rattle.definitions.specs.Runs.{Pixels, pixels, cut}
 use Rattle.definitions.specs.Font.{Font, u8g2, measuredAnswer, withRuns, drawable, drawnAnswer}

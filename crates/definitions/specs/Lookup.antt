@@ -2,7 +2,6 @@
 --
 -- The chain walks the font's bytes. `skip` bytes are still to be passed over before a record is looked at, and `at` is the
 -- index of the list's first byte. So the walk ends with the bytes, and no other bound decides an answer.
-use mathlib.Core.Bool.{Bool}
 use mathlib.Core.List.{List, [], _∷_}
 use Prim.Native.Nat.{ℕ, zero, suc, _+_, _-_, _*_}
 use lib.Dec.{ltb, leb, eqb}
