@@ -152,5 +152,6 @@ alignedLine Left answers origin advance l = letters answers origin advance l
 alignedLine Center answers origin advance l = movedLine Center answers origin advance l
 alignedLine Right answers origin advance l = movedLine Right answers origin advance l
 
+-- An aligned text from the origin on. A text starts with advance (0, 0).
 abbrev pub aligned : (ℕ → Answer) → ℕ → HorizontalAlignment → Point → List ℕ → Layout
 aligned answers lineHeight a origin cs = lineByLine (alignedLine a answers origin) lineHeight (point (pos 0) (pos 0)) (lines cs)
