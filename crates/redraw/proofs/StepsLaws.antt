@@ -17,7 +17,7 @@ use Rattle.definitions.specs.Header.{fontCauses}
 use Rattle.definitions.specs.Utf8.{decodeFrom}
 use Rattle.definitions.specs.Picture.{keep, textPicture}
 use Rattle.definitions.specs.Framebuffer.{shown, sized, framebufferCause, sideOff}
-use Rattle.definitions.specs.Text.{joinAll, point, layout, dimensions}
+use Rattle.definitions.specs.Text.{joinAll, point, letters, lines, lineByLine, dimensions}
 use Rattle.definitions.specs.Limits.{textCause, positionCause, backgroundOff, backgroundCause}
 use Rattle.definitions.specs.Font.{u8g2}
 use Rattle.definitions.specs.Calls.{plain, drawnText, draw, drawBuffer}
@@ -198,7 +198,7 @@ module _ (f : Field) (ground : List ℕ) where
 
   -- The text without letters shows nothing, in any colour.
   bare-drawn : (color : FontColor) → after (f .font) (asked f (readingOf [] color)) (on f ground) ≡ ground
-  unfolding drawBuffer layout decodeFrom textPicture
+  unfolding drawBuffer letters lines lineByLine decodeFrom textPicture
   bare-drawn color = by (anyApplies (causesOf (f .font) (asked f (readingOf [] color)) (on f ground)))
     where
       by : (b : Bool) → pick b ground (shown (f .width) (λ column row. keep) ground) ≡ ground
@@ -213,7 +213,7 @@ module _ (f : Field) (ground : List ℕ) where
       whole (refused n c) = refl
 
   pub bare-shown : Shown (bare ground)
-  unfolding draw layout decodeFrom joinAll
+  unfolding draw letters lines lineByLine decodeFrom joinAll
   bare-shown = record {
     is = sym (nothing-shown (Transparent 0));
     clear = λ d e. no-box d (succeeded _ d (causesOf (f .font) (asked f (bare ground .old)) (on f ground)) e .1);
