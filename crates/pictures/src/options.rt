@@ -3,7 +3,7 @@ ghost use mathlib.Core.Path.{_≡_};
 ghost use mathlib.Core.List.{List};
 ghost use Prim.Native.Nat.{ℕ};
 ghost use Rattle.pictures.specs.Words.{withWord, withWords, noWords};
-use redraw::comparison::is_same;
+use buffers::is_same;
 
 pub struct Options {
     pub pgm: bool,

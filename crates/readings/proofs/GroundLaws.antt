@@ -25,7 +25,7 @@ use Rattle.redraw.proofs.FillLaws.{fill-inside, fill-outside}
 use Rattle.readings.specs.declared.values.Place.{Place}
 use Rattle.readings.specs.Readings.{reading, framebuffer}
 use Rattle.readings.specs.Ground.{rubbishAt, rubbish, clearedTo, ground, ClearTo, RubbishBeside}
-use Rattle.readings.specs.Grid.{PlaceFits}
+use Rattle.readings.specs.Readings.{PlaceFits}
 
 -- ---- rubbish
 

@@ -1,8 +1,4 @@
 pub mod TextLaws
-pub mod NumberLaws
-pub mod WordLaws
-pub mod GridLaws
-pub mod ExtentLaws
 pub mod GroundLaws
 pub mod NarrowLaws
 pub mod AloneLaws

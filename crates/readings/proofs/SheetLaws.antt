@@ -19,11 +19,11 @@ use Rattle.definitions.specs.Limits.{textCause, positionCause, backgroundCause}
 use Rattle.definitions.specs.Calls.{dimensionsOutcome}
 use Rattle.angles.specs.AngleText.{degreesThen, angleText}
 use Rattle.definitions.specs.Agreement.{drawn, after}
-use Rattle.redraw.specs.Differences.{differences}
+use Rattle.buffers.specs.Differences.{differences}
 use Rattle.redraw.specs.Redraw.{wholeOr, readingOn, redrawCauses, redrawn, redrawnBuffer, taken}
 use Rattle.redraw.specs.Steps.{Field, fieldOf, Reading, readingOf, asked, on, Screen as StepScreen, alone, showing, ClearFor}
 use Rattle.redraw.proofs.RedrawLaws.{drawn-measured, causesOf, drawn-early, drawn-late}
-use Rattle.redraw.proofs.DifferenceLaws.{none-if-same}
+use Rattle.buffers.proofs.DifferenceLaws.{none-if-same}
 use Rattle.redraw.proofs.StepsLaws.{Sized, bare-sized, answers-alone, sized-next, length-left, Shown, bare-shown, nothing-shown, step-shows}
 use Rattle.readings.specs.declared.values.Found.{Found}
 use Rattle.readings.specs.declared.values.Place.{Place}

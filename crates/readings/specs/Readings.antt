@@ -1,6 +1,6 @@
 -- The readings of the sheet, and where they are drawn.
 use mathlib.Core.List.{List, []}
-use Prim.Native.Nat.{ℕ}
+use Prim.Native.Nat.{ℕ, _≤_}
 use lib.Dec.{leb}
 use lib.IntN.{pos, _-ℤ_}
 use Rattle.integers.specs.Integers.{pick}
@@ -22,3 +22,10 @@ reading place k = asked place (readingText k)
 -- a framebuffer of the place's size
 abbrev pub framebuffer : Place → List ℕ → Framebuffer
 framebuffer place bytes = framebufferOf (place .width) (place .height) bytes
+
+-- a framebuffer within 01's limits
+pub record PlaceFits (width height : ℕ) : Type 0 where
+  pub some-wide : 1 ≤ width
+  pub wide : width ≤ 256
+  pub some-high : 1 ≤ height
+  pub high : height ≤ 256

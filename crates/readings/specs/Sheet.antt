@@ -11,15 +11,12 @@ use Rattle.types.specs.declared.geometry.RenderedDimensions.{RenderedDimensions
 use Rattle.definitions.specs.Refusals.{Outcome, success, refused, anyApplies}
 use Rattle.definitions.specs.Calls.{dimensionsOutcome}
 use Rattle.definitions.specs.Agreement.{Request, Framebuffer, framebufferOf, drawn}
-use Rattle.redraw.specs.Differences.{differences}
+use Rattle.buffers.specs.Differences.{differences}
 use Rattle.redraw.specs.Redraw.{readingOn, clearedBy, redrawCauses, withText, redrawn, taken}
 use Rattle.readings.specs.declared.values.Found.{Found}
 use Rattle.readings.specs.declared.values.Place.{Place}
-use Rattle.readings.specs.declared.values.Sheet.{Sheet}
-use Rattle.readings.specs.declared.values.Sheet.the-variants.{Made, NoImage}
 use Rattle.readings.specs.declared.values.Totals.{Totals}
 use Rattle.readings.specs.Readings.{readingText, reading, framebuffer}
-use Rattle.readings.specs.Ground.{ground as groundOf}
 
 -- ---- one reading over another
 
@@ -131,9 +128,3 @@ pub record Sound (narrow : Bool) (font : List ℕ) (place : Place) (ground : Lis
   pub refusals : t .refused ≡ refusedTo font place ground 901
   pub none-differs : narrow ≡ false → t .differing ≡ 0
   pub each-shown : narrow ≡ false → (k : ℕ) → k < 901 → screenAt narrow font place ground (suc k) .bytes ≡ wanted font place ground k
-
--- A sheet that is made has the totals of its definition, and is sound.
-abbrev pub SheetOf : Bool → List ℕ → Place → Sheet → Type 0
-SheetOf narrow font place (Made t) =
-    (t ≡ totalsTo narrow font place (groundOf font place) 901) × Sound narrow font place (groundOf font place) t
-SheetOf narrow font place NoImage = Unit {0}

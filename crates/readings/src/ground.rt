@@ -7,7 +7,7 @@ ghost use Rattle.glyph_renderer.specs.Drawing.{BufferFits};
 ghost use Rattle.redraw.specs.Redraw.{clearedBy};
 ghost use Rattle.readings.specs.Readings.{reading};
 ghost use Rattle.readings.specs.Ground.{rubbish, ground, ClearTo, RubbishBeside};
-ghost use Rattle.readings.specs.Grid.{PlaceFits};
+ghost use Rattle.readings.specs.Readings.{PlaceFits};
 use crate::texts::COUNT;
 use crate::texts::measure_reading;
 use crate::values::Place;

@@ -1,12 +1,6 @@
-// The sheet: every reading of the gauge drawn over the one before, and compared with the reading drawn alone.
-pub mod bytes;
+// The gauge's readings drawn one over the other, each step watched: the screen after it is compared with the reading drawn alone.
 pub mod check;
-pub mod extent;
-pub mod grid;
 pub mod ground;
-pub mod number;
-pub mod options;
-pub mod program;
-pub mod sheet;
+pub mod step;
 pub mod texts;
 pub mod values;

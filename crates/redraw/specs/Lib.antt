@@ -1,6 +1,5 @@
 pub mod Drawing
 pub mod Areas
-pub mod Differences
 pub mod Redraw
 pub mod Checks
 pub mod Steps

@@ -1,5 +1,4 @@
 // A reading drawn over the one before: what the gauge does, and what it takes to watch it.
-pub mod comparison;
 pub mod fill;
 pub mod reading;
 pub mod step;

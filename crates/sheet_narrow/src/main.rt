@@ -1,7 +1,7 @@
 // The sheet with a fault put in: one column too few is filled. Its output lists the angles at which an old pixel stays.
-use readings::program::start;
-use readings::values::Options;
-use readings::values::Wanted;
+use sheet_extent::values::Options;
+use sheet_extent::values::Wanted;
+use sheet_program::program::start;
 use types::style::VerticalPosition;
 
 fn main() {

@@ -1,4 +1,4 @@
--- `write_marks` meets its contract: WriteLaws.antt of redraw has the step. Assumes nothing.
+-- `write_marks` meets its contract: WriteLaws.antt of buffers has the step. Assumes nothing.
 use mathlib.Core.Path.{_≡_, refl}
 use Prim.Native.Nat.{_-_, _≤_}
 use native.Mathlib.Omega.{arith}
@@ -6,7 +6,7 @@ use lib.ListN.{length, getD, length-set}
 use borrow.Author.Needs.{needs}
 use Rattle.io.proofs.Counting.{counts}
 use Rattle.pictures.specs.Marks.{shade}
-use Rattle.redraw.proofs.WriteLaws.{WrittenTo, write-next}
+use Rattle.buffers.proofs.WriteLaws.{WrittenTo, write-next}
 use Rattle.pictures.proofs.marks.write_marks.Statement.{statement}
 use Rattle.pictures.proofs.marks.write_marks.Tie as tie
 

@@ -1,9 +1,9 @@
--- `fill_with_rubbish` meets its contract: WriteLaws.antt of redraw has the step. Assumes nothing.
+-- `fill_with_rubbish` meets its contract: WriteLaws.antt of buffers has the step. Assumes nothing.
 use mathlib.Core.Path.{_≡_, refl, sym, _∙_}
 use Prim.Native.Nat.{ℕ, _+_, _%_, _-_, _≤_, _<_}
 use native.Mathlib.Omega.{arith}
 use lib.ListN.{length, getD, length-set}
-use Rattle.redraw.proofs.WriteLaws.{WrittenTo, write-next}
+use Rattle.buffers.proofs.WriteLaws.{WrittenTo, write-next}
 use Rattle.readings.proofs.GroundLaws.{all-rubbish}
 use borrow.Author.Needs.{needs}
 use Rattle.readings.proofs.ground.fill_with_rubbish.Statement.{statement}

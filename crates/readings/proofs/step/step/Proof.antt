@@ -1,0 +1,50 @@
+-- What is found, part by part.
+use mathlib.Core.Path.{_≡_, ap, _∙_}
+use mathlib.Core.List.{List}
+use Prim.Native.Nat.{ℕ}
+use Rattle.integers.specs.Integers.{pick}
+use Rattle.types.specs.declared.geometry.RenderedDimensions.{RenderedDimensions}
+use Rattle.definitions.specs.Refusals.{Outcome}
+use Rattle.buffers.specs.Differences.{differences}
+use Rattle.redraw.specs.Redraw.{taken}
+use Rattle.readings.specs.Sheet.{wanted}
+use borrow.Author.Needs.{needs}
+use Rattle.readings.proofs.step.step.Statement.{statement}
+use Rattle.readings.proofs.step.step.Tie as tie
+
+draw-over-requires : tie.Need-draw-over-requires
+draw-over-requires c κs = search needs
+
+next-old-requires : tie.Need-next-old-requires
+next-old-requires c κs = search needs
+
+compare-requires : tie.Need-compare-requires
+compare-requires c κs = search needs
+
+same-length : tie.Need-same-length
+same-length c = search needs
+
+same-length-2 : tie.Need-same-length-2
+same-length-2 c = search needs
+
+returns : tie.Need-returns
+returns c =
+    let a = c .before .before .before .before .before .before .before .before .before .before .before .before .before .before .args in
+    let d = c .before .before .before .before .before .before .before .before .draw-over .ensures in
+    record {
+      answer = d .0;
+      old = c .before .before .before .before .before .next-old .ensures ∙ ap (λ (o : Outcome RenderedDimensions). pick (taken o) (a .k) (a .old)) (d .0);
+      bytes = d .1;
+      differing = c .before .before .compare .ensures ∙ ap (λ (l : List ℕ). differences l (wanted (a .font .now) (a .place) (a .ground .now) (a .k))) (d .1);
+    }
+
+pub step-spec : {M : Type 1} → statement M
+step-spec =
+    tie.close
+    (tie.spec
+    draw-over-requires
+    next-old-requires
+    compare-requires
+    same-length
+    same-length-2
+    returns)

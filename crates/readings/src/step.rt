@@ -1,0 +1,114 @@
+// The step of the gauge, watched: each reading is drawn over the one before, compared with the reading drawn alone, and counted.
+ghost use mathlib.Core.Path.{_≡_};
+ghost use lib.Dec.{eqb};
+ghost use lib.ListN.{length};
+ghost use Rattle.integers.specs.Integers.{pick};
+ghost use Rattle.definitions.specs.Calls.{dimensionsOutcome};
+ghost use Rattle.buffers.specs.Differences.{differences};
+ghost use Rattle.redraw.specs.Redraw.{redrawn, taken};
+ghost use Rattle.readings.specs.Readings.{readingText, reading, framebuffer};
+ghost use Rattle.readings.specs.Sheet.{stepBuffer, screenOf, wanted, Finds, tallied, Few};
+use crate::check::draw_alone;
+use crate::check::redraw_on;
+use crate::texts::write_reading;
+use crate::values::Found;
+use crate::values::Place;
+use crate::values::Totals;
+use buffers::count_differences;
+use redraw::reading::is_taken;
+use types::results::DimensionsResult;
+
+// 1 for a number that is not 0.
+fn one_if_any(n: usize) -> usize
+    ensures { λ r. ⌜ r ≡ pick (eqb n 0) 0 1 ⌝ }
+{
+    if n == 0 { 0 } else { 1 }
+}
+
+pub fn counted(totals: Totals, found: Found) -> Totals
+    requires { ⌜ Few totals ⌝ }
+    ensures { λ r. ⌜ r ≡ tallied totals (dimensionsOutcome (found .answer)) (found .differing) ⌝ }
+{
+    let answer = found.answer;
+    let one = one_if_any(found.differing);
+    match answer {
+        DimensionsResult::Ok(_) => Totals {
+            drawn: totals.drawn + 1,
+            differing: totals.differing + one,
+            refused: totals.refused,
+        },
+        DimensionsResult::Err(_) => Totals {
+            drawn: totals.drawn,
+            differing: totals.differing + one,
+            refused: totals.refused + 1,
+        },
+    }
+}
+
+// Draws reading k over the reading `old`.
+fn draw_over(
+    font: &[u8],
+    old: usize,
+    k: usize,
+    place: Place,
+    narrow: bool,
+    screen: &mut [u8],
+) -> DimensionsResult
+    ensures answered { λ r. ⌜ dimensionsOutcome r ≡ redrawn (now (font .entry)) (readingText old) (reading place k) (framebuffer place (now (screen .entry))) ⌝ }
+    ensures shown { λ r. ⌜ now (screen .exit) ≡ stepBuffer narrow (now (font .entry)) (readingText old) (reading place k) (place .background) (framebuffer place (now (screen .entry))) ⌝ }
+{
+    let mut old_text = [0u8; 6];
+    let mut new_text = [0u8; 6];
+    let a = write_reading(old, &mut old_text);
+    let b = write_reading(k, &mut new_text);
+    redraw_on(font, &old_text[a..], &new_text[b..], place, narrow, screen)
+}
+
+// How many pixels of the screen are not those of reading k drawn alone on the ground, whole or not at all.
+fn compare(
+    font: &[u8],
+    k: usize,
+    place: Place,
+    ground: &[u8],
+    screen: &[u8],
+    alone: &mut [u8],
+) -> usize
+    requires { ⌜ (length (now ground) ≡ length (now alone)) × (length (now screen) ≡ length (now alone)) ⌝ }
+    ensures { λ r. ⌜ r ≡ differences (now (screen .entry)) (wanted (now (font .entry)) place (now (ground .entry)) k) ⌝ }
+{
+    let mut text = [0u8; 6];
+    let start = write_reading(k, &mut text);
+    draw_alone(font, &text[start..], place, ground, &mut alone[..]);
+    count_differences(screen, alone)
+}
+
+// The reading that the next step is to clear.
+fn next_old(answer: DimensionsResult, k: usize, old: usize) -> usize
+    ensures { λ r. ⌜ r ≡ pick (taken (dimensionsOutcome answer)) k old ⌝ }
+{
+    if is_taken(answer) { k } else { old }
+}
+
+// The step, watched.
+pub fn step(
+    font: &[u8],
+    old: usize,
+    k: usize,
+    narrow: bool,
+    place: Place,
+    ground: &[u8],
+    screen: &mut [u8],
+    alone: &mut [u8],
+) -> Found
+    requires { ⌜ (length (now ground) ≡ length (now alone)) × (length (now screen) ≡ length (now alone)) ⌝ }
+    ensures { λ r. ⌜ Finds narrow (now (font .entry)) place (now (ground .entry)) (screenOf old (now (screen .entry))) k r (now (screen .exit)) ⌝ }
+{
+    let answer = draw_over(font, old, k, place, narrow, &mut screen[..]);
+    let next = next_old(answer, k, old);
+    let differing = compare(font, k, place, ground, &screen[..], alone);
+    Found {
+        answer,
+        old: next,
+        differing,
+    }
+}

@@ -1,0 +1,36 @@
+-- `end_edge`: in 64 bits the sum of 32 bits fits. Assumes nothing.
+use mathlib.Core.Path.{_≡_}
+use Prim.Native.Nat.{_<_, _^_}
+use native.Mathlib.Omega.{arith}
+use lib.IntN.{pos, _+ℤ_}
+use mir.Syntax.{w64}
+use mir.Val.{SFits, toZ}
+use mir.Facts.{toZ-ofZ, toZ-pos, sfits-widen}
+use Rattle.integers.proofs.Laws.{zarith, plus, range}
+use borrow.Author.Needs.{needs}
+use Rattle.sheet_extent.proofs.extent.end_edge.Statement.{statement}
+use Rattle.sheet_extent.proofs.extent.end_edge.Tie as tie
+
+wide : (c : tie.Start) → SFits w64 (c .args .start)
+wide c = sfits-widen tt (c .fits .start)
+
+len-plain : (c : tie.Start) → toZ w64 (c .args .len) ≡ pos (c .args .len)
+len-plain c = toZ-pos w64 (omega arith)
+
+sum-fits : (c : tie.Start) → SFits w64 (c .args .start +ℤ pos (c .args .len))
+sum-fits c = let h : c .args .len < 2 ^ 32 = omega arith in omega (zarith, plus (c .args .start) (pos (c .args .len)), range (c .fits .start))
+
+cast-result : tie.Need-cast-result
+cast-result c = simp (toZ-ofZ, c .fits .start) (wide c)
+
+cast-result-2 : tie.Need-cast-result-2
+cast-result-2 c = search needs
+
+add-result : tie.Need-add-result
+add-result c = simp (toZ-ofZ, c .fits .start, wide c, len-plain c) (sum-fits c)
+
+returns : tie.Need-returns
+returns c = simp (toZ-ofZ, c .fits .start, wide c, len-plain c, sum-fits c)
+
+pub end-edge-spec : {M : Type 1} → statement M
+end-edge-spec = tie.close (tie.spec cast-result cast-result-2 add-result returns)

@@ -1,0 +1,16 @@
+-- `start_edge`: 32 bits fit 64. Assumes nothing.
+use mir.Syntax.{w64}
+use mir.Val.{SFits}
+use mir.Facts.{toZ-ofZ, sfits-widen}
+use borrow.Author.Needs.{needs}
+use Rattle.sheet_extent.proofs.extent.start_edge.Statement.{statement}
+use Rattle.sheet_extent.proofs.extent.start_edge.Tie as tie
+
+cast-result : tie.Need-cast-result
+cast-result c = simp (toZ-ofZ, c .fits .start) (sfits-widen tt (c .fits .start))
+
+returns : tie.Need-returns
+returns c = simp (toZ-ofZ, c .fits .start, sfits-widen {w′ = w64} tt (c .fits .start))
+
+pub start-edge-spec : {M : Type 1} → statement M
+start-edge-spec = tie.close (tie.spec cast-result returns)

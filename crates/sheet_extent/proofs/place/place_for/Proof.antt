@@ -1,0 +1,42 @@
+-- `place_for` meets its contract: ExtentLaws.antt has that all readings are seen. Assumes nothing.
+use mathlib.Core.Path.{_≡_, sym, subst, _∙_}
+use mir.Syntax.{w32, w64}
+use mir.Val.{SFits}
+use mir.Facts.{toZ-ofZ}
+use Rattle.readings.specs.declared.values.Place.{Place}
+use Rattle.sheet_extent.specs.Extent.{extentOf, side, Uncut, AllSeen}
+use Rattle.sheet_extent.proofs.ExtentLaws.{is-place, all-seen, both}
+use borrow.Author.Needs.{needs}
+use Rattle.sheet_extent.proofs.place.place_for.Statement.{statement}
+use Rattle.sheet_extent.proofs.place.place_for.Tie as tie
+
+measure-all-requires : tie.Need-measure-all-requires
+measure-all-requires c κs = search needs
+
+position-for-requires : tie.Need-position-for-requires
+position-for-requires c κs = search needs
+
+side-requires : tie.Need-side-requires
+side-requires c κs = search needs
+
+side-requires-2 : tie.Need-side-requires-2
+side-requires-2 c κs = search needs
+
+returns : tie.Need-returns
+returns c =
+    let a = c .before .before .before .before .before .before .before .before .before .args in
+    let m = c .before .before .before .before .before .before .before .measure-all in
+    let p = c .before .before .before .before .before .before .position-for in
+    let fx : SFits w32 (p .result .x) = search needs in
+    let fy : SFits w32 (p .result .y) = search needs in
+    let fr : SFits w64 (m .result .right) = search needs in
+    let fb : SFits w64 (m .result .bottom) = search needs in
+    let w = c .before .before .before .side .ensures ∙ both side (toZ-ofZ fx) (toZ-ofZ fr) in
+    let h = c .side2 .ensures ∙ both side (toZ-ofZ fy) (toZ-ofZ fb) in
+    let e = is-place (a .font .now) (a .options) (m .ensures .0) (p .ensures) w h in
+    (e, λ wanted. subst (λ (q : Place). Uncut q (extentOf (a .font .now) (a .options .«vertical_pos») 901) → AllSeen (a .font .now) q) (sym e) (all-seen (a .font .now) (a .options) wanted))
+
+pub place-for-spec : {M : Type 1} → statement M
+place-for-spec =
+    tie.close
+    (tie.spec measure-all-requires position-for-requires side-requires side-requires-2 returns)

@@ -1,0 +1,40 @@
+-- `position_for` meets its contract. Assumes nothing.
+use mathlib.Core.Path.{_≡_, ap, _∙_}
+use mir.Syntax.{w32, w64}
+use mir.Val.{SFits}
+use mir.Facts.{toZ-ofZ}
+use Rattle.integers.proofs.Laws.{stored}
+use Rattle.sheet_extent.specs.Extent.{inside}
+use Rattle.sheet_extent.proofs.ExtentLaws.{seen-position}
+use borrow.Author.Needs.{needs}
+use Rattle.sheet_extent.proofs.place.position_for.Statement.{statement}
+use Rattle.sheet_extent.proofs.place.position_for.Tie as tie
+
+enum-known-wanted : tie.Need-enum-known-wanted
+enum-known-wanted c = search needs
+
+enum-told : tie.Need-enum-told
+enum-told c = search needs
+
+inside-requires : tie.Need-inside-requires
+inside-requires c κs = search needs
+
+inside-requires-2 : tie.Need-inside-requires-2
+inside-requires-2 c κs = search needs
+
+returns : tie.Need-returns
+returns c = search needs
+
+returns-2 : tie.Need-returns-2
+returns-2 c =
+    let a = c .before .before .before .before .before .before .args in
+    let f : SFits w64 (a .extent .left) = search needs in
+    let g : SFits w64 (a .extent .top) = search needs in
+    seen-position (a .extent) (c .before .before .before .before .enum-told .given .1)
+    (stored w32 (c .before .before .inside .ok) (c .before .before .inside .ensures ∙ ap inside (toZ-ofZ f)))
+    (stored w32 (c .inside2 .ok) (c .inside2 .ensures ∙ ap inside (toZ-ofZ g)))
+
+pub position-for-spec : {M : Type 1} → statement M
+position-for-spec =
+    tie.close
+    (tie.spec enum-known-wanted enum-told inside-requires inside-requires-2 returns returns-2)

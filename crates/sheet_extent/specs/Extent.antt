@@ -1,0 +1,132 @@
+-- The edges of all readings, and the framebuffer and the place that follow from them.
+use mathlib.Core.Path.{_≡_}
+use mathlib.Core.Bool.{false}
+use mathlib.Core.List.{List}
+use Prim.Native.Nat.{ℕ, zero, suc, _+_, _<_, min, max}
+use lib.IntN.{ℤ, pos, negsuc, _+ℤ_}
+use lib.Signed.{_≤ℤ_, _<ℤ_}
+use Rattle.integers.specs.Integers.{minZ, maxZ}
+use Rattle.types.specs.declared.geometry.BoundingBox.{BoundingBox}
+use Rattle.types.specs.declared.geometry.BoundingBox.the-variants.{None, Some}
+use Rattle.types.specs.declared.geometry.Point.{Point}
+use Rattle.types.specs.declared.geometry.Rectangle.{Rectangle}
+use Rattle.types.specs.declared.geometry.RenderedDimensions.{RenderedDimensions}
+use Rattle.types.specs.declared.style.FontColor.the-variants.{Transparent}
+use Rattle.types.specs.declared.style.VerticalPosition.{VerticalPosition}
+use Rattle.definitions.specs.Refusals.{Outcome, success, refused}
+use Rattle.definitions.specs.Geometry.{left, top, right, bottom, InsideBox}
+use Rattle.definitions.specs.Text.{point}
+use Rattle.definitions.specs.Calls.{measure}
+use Rattle.definitions.specs.Agreement.{measured}
+use Rattle.sheet_extent.specs.declared.values.Extent.{Extent}
+use Rattle.sheet_extent.specs.declared.values.Options.{Options}
+use Rattle.readings.specs.declared.values.Place.{Place}
+use Rattle.sheet_extent.specs.declared.values.Wanted.{Wanted}
+use Rattle.sheet_extent.specs.declared.values.Wanted.the-variants.{Seen, At}
+use Rattle.readings.specs.Readings.{readingText, reading}
+
+-- ---- the edges
+
+-- what a reading measures at (0, 0), in one line
+abbrev pub atOrigin : List ℕ → VerticalPosition → ℕ → Outcome RenderedDimensions
+atOrigin font v k = measure font (readingText k) (point (pos 0) (pos 0)) v 0 false
+
+abbrev pub widened : Extent → Rectangle → Extent
+widened e r = record {
+  left = minZ (e .left) (left r);
+  top = minZ (e .top) (top r);
+  right = maxZ (e .right) (right r);
+  bottom = maxZ (e .bottom) (bottom r);
+}
+
+abbrev pub withBox : Extent → BoundingBox → Extent
+withBox e None = e
+withBox e (Some r) = widened e r
+
+abbrev pub withReading : Extent → Outcome RenderedDimensions → Extent
+withReading e (success d) = withBox e (d .«bounding_box»)
+withReading e (refused n c) = e
+
+-- the origin alone, then the boxes of the first k readings
+unfoldable pub extentOf : List ℕ → VerticalPosition → ℕ → Extent
+extentOf font v zero = record { left = pos 0; top = pos 0; right = pos 0; bottom = pos 0 }
+extentOf font v (suc k) = withReading (extentOf font v k) (atOrigin font v k)
+
+-- The rectangle lies between the edges.
+pub record Within (r : Rectangle) (e : Extent) : Type 0 where
+  pub from-left : e .left ≤ℤ left r
+  pub from-top : e .top ≤ℤ top r
+  pub to-right : right r ≤ℤ e .right
+  pub to-bottom : bottom r ≤ℤ e .bottom
+
+-- Each of the first n readings that has a box lies between them.
+abbrev pub HoldsReadings : ℕ → List ℕ → VerticalPosition → Extent → Type 0
+HoldsReadings n font v e =
+    (k : ℕ) → k < n → (d : RenderedDimensions) → atOrigin font v k ≡ success d
+    → (r : Rectangle) → d .«bounding_box» ≡ Some r → Within r e
+
+-- Edges in reach of 64 bits, whatever is added to them.
+pub record NearExtent (e : Extent) : Type 0 where
+  pub left : (negsuc 8589934591 ≤ℤ e .left) × (e .left ≤ℤ pos 8589934592)
+  pub top : (negsuc 8589934591 ≤ℤ e .top) × (e .top ≤ℤ pos 8589934592)
+  pub right : (negsuc 8589934591 ≤ℤ e .right) × (e .right ≤ℤ pos 8589934592)
+  pub bottom : (negsuc 8589934591 ≤ℤ e .bottom) × (e .bottom ≤ℤ pos 8589934592)
+
+-- ---- place and framebuffer; the margin is 3 pixels
+
+-- how far an edge lies before 0, at most 1000: a framebuffer has at most 256 pixels
+abbrev pub beforeZero : ℤ → ℕ
+beforeZero (pos n) = 0
+beforeZero (negsuc n) = min 1000 (suc n)
+
+-- where the readings stand so that their first edge lies past the margin
+abbrev pub inside : ℤ → ℤ
+inside edge = pos (3 + beforeZero edge)
+
+abbrev pub positionFor : Wanted → Extent → Point
+positionFor Seen e = point (inside (e .left)) (inside (e .top))
+positionFor (At p) e = p
+
+-- A side of 1 to 256 pixels.
+abbrev pub sideOf : ℤ → ℕ
+sideOf (pos n) = max 1 (min 256 n)
+sideOf (negsuc n) = 1
+
+-- from the framebuffer's first pixel to the margin past the readings' last edge
+abbrev pub side : ℤ → ℤ → ℕ
+side start end = sideOf (start +ℤ end +ℤ pos 3)
+
+-- ink 0 on a background of 255
+abbrev pub placeAt : VerticalPosition → Point → Extent → Place
+placeAt v p e = record {
+  position = p;
+  style = record { color = Transparent 0; «vertical_pos» = v };
+  «line_height» = 0;
+  background = 255;
+  width = side (p .x) (e .right);
+  height = side (p .y) (e .bottom);
+}
+
+unfoldable pub placeFor : List ℕ → Options → Place
+placeFor font o =
+    let e = extentOf font (o .«vertical_pos») 901 in
+    placeAt (o .«vertical_pos») (positionFor (o .wanted) e) e
+
+-- ---- all of it is seen
+
+-- No side is cut off at 256 pixels.
+abbrev pub Uncut : Place → Extent → Type 0
+Uncut place e =
+    ((place .position .x +ℤ e .right +ℤ pos 3) ≤ℤ pos 256) × ((place .position .y +ℤ e .bottom +ℤ pos 3) ≤ℤ pos 256)
+
+pub record OnFramebuffer (column row : ℤ) (place : Place) : Type 0 where
+  pub from-left : pos 0 ≤ℤ column
+  pub to-right : column <ℤ pos (place .width)
+  pub from-top : pos 0 ≤ℤ row
+  pub to-bottom : row <ℤ pos (place .height)
+
+-- Every pixel of every reading's box lies on the framebuffer.
+abbrev pub AllSeen : List ℕ → Place → Type 0
+AllSeen font place =
+    (k : ℕ) → k < 901 → (d : RenderedDimensions) → measured font (reading place k) ≡ success d
+    → (column row : ℤ) → InsideBox column row (d .«bounding_box») → OnFramebuffer column row place

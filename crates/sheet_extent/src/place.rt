@@ -1,0 +1,54 @@
+// A place at which all readings are seen, or the one that is asked for, and a framebuffer for it.
+ghost use mathlib.Core.Path.{_≡_};
+ghost use Rattle.sheet_extent.specs.declared.values.Wanted.the-variants.{Seen};
+ghost use Rattle.sheet_extent.specs.Extent.{extentOf, positionFor, placeFor, Uncut, AllSeen};
+use crate::extent::inside;
+use crate::extent::measure_all;
+use crate::extent::side;
+use crate::values::Extent;
+use crate::values::Options;
+use crate::values::Wanted;
+use readings::values::Place;
+use types::geometry::Point;
+use types::style::FontColor;
+use types::style::FontStyle;
+
+const INK: u8 = 0;
+
+const BACKGROUND: u8 = 255;
+
+// Where the readings stand: where all of them are seen, or at the place that is asked for.
+fn position_for(wanted: Wanted, extent: Extent) -> Point
+    ensures { λ r. ⌜ r ≡ positionFor wanted extent ⌝ }
+{
+    match wanted {
+        Wanted::At(position) => position,
+        Wanted::Seen => Point {
+            x: inside(extent.left),
+            y: inside(extent.top),
+        },
+    }
+}
+
+// The framebuffer for it. Where all readings are to be seen and no side is cut off at 256 pixels, all are.
+pub fn place_for(font: &[u8], options: Options) -> Place
+    ensures place { λ r. ⌜ r ≡ placeFor (now (font .entry)) options ⌝ }
+    ensures seen { λ r. ⌜ (options .wanted ≡ Seen → Uncut r (extentOf (now (font .entry)) (options .«vertical_pos») 901) → AllSeen (now (font .entry)) r) ⌝ }
+{
+    let vertical_pos = options.vertical_pos;
+    let wanted = options.wanted;
+    let extent = measure_all(font, vertical_pos);
+    let position = position_for(wanted, extent);
+    let style = FontStyle {
+        color: FontColor::Transparent(INK),
+        vertical_pos,
+    };
+    Place {
+        position,
+        style,
+        line_height: 0,
+        background: BACKGROUND,
+        width: side(position.x, extent.right),
+        height: side(position.y, extent.bottom),
+    }
+}

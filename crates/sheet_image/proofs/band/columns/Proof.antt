@@ -1,0 +1,27 @@
+-- `columns` meets its contract. Assumes nothing.
+use mathlib.Core.Path.{_≡_}
+use Prim.Native.Nat.{_*_, _/_, _%_, _≤_}
+use native.Mathlib.Nat.{mul-le-mul-right}
+use native.Mathlib.Omega.{arith}
+use Rattle.sheet_image.proofs.GridLaws.{cells}
+use borrow.Author.Needs.{needs}
+use Rattle.sheet_image.proofs.band.columns.Statement.{statement}
+use Rattle.sheet_image.proofs.band.columns.Tie as tie
+
+div-n : tie.Need-div-n
+div-n c = search needs
+
+returns : tie.Need-returns
+returns c =
+    let a = c .before .args in
+    let k = cells (a .cell) (c .before .pre .0) (c .before .pre .1) in
+    (omega arith, (omega arith, omega (arith, k .1, mul-le-mul-right (a .cell) (c .if1 .taken))))
+
+returns-2 : tie.Need-returns-2
+returns-2 c =
+    let a = c .before .args in
+    let k = cells (a .cell) (c .before .pre .0) (c .before .pre .1) in
+    (k .0, (omega arith, k .1))
+
+pub columns-spec : {M : Type 1} → statement M
+columns-spec = tie.close (tie.spec div-n returns returns-2)

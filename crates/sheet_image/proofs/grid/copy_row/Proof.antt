@@ -1,0 +1,70 @@
+-- `copy_row` meets its contract: GridLaws.antt has the step. Assumes nothing.
+use mathlib.Core.Path.{_≡_, subst}
+use Prim.Native.Nat.{_+_, _-_, _≤_, _<_}
+use native.Mathlib.Omega.{arith}
+use lib.ListN.{length}
+use Rattle.sheet_image.specs.Grid.{RowCopied}
+use Rattle.sheet_image.proofs.GridLaws.{no-bytes, copy-next}
+use borrow.Author.Needs.{needs}
+use Rattle.sheet_image.proofs.grid.copy_row.Statement.{statement}
+use Rattle.sheet_image.proofs.grid.copy_row.Tie as tie
+
+abbrev Inv-loop : tie.InvT-loop
+Inv-loop band₀ start cell from width i₀ band i = (i ≤ width) × RowCopied band₀ band start cell from i
+
+abbrev μ-loop : tie.MeasureT-loop
+μ-loop band₀ start cell from width i₀ band i = width - i
+
+loop-holds : tie.Need-loop-holds Inv-loop μ-loop
+loop-holds c = search needs
+
+add-band : tie.Need-add-band Inv-loop μ-loop
+add-band c = search needs
+
+shared-slice-read-band : tie.Need-shared-slice-read-band Inv-loop μ-loop
+shared-slice-read-band c = search needs
+
+add-band-2 : tie.Need-add-band-2 Inv-loop μ-loop
+add-band-2 c = search needs
+
+slice-write-band : tie.Need-slice-write-band Inv-loop μ-loop
+slice-write-band c = search needs
+
+add-i : tie.Need-add-i Inv-loop μ-loop
+add-i c = search needs
+
+loop-less : tie.Need-loop-less Inv-loop μ-loop
+loop-less c = search needs
+
+loop-again : tie.Need-loop-again Inv-loop μ-loop
+loop-again c =
+    let a = c .before .before .before .args in
+    let l = c .before .before .loop in
+    (omega arith, copy-next (a .band .now) (l .band) (a .start) (a .cell .now) (a .from) (l .i) (omega (arith, l .inv .1 .same-length)) (l .inv .1))
+
+same-length : tie.Need-same-length Inv-loop μ-loop
+same-length c = search needs
+
+returns : tie.Need-returns Inv-loop μ-loop
+returns c =
+    let a = c .before .before .args in
+    let l = c .before .loop in
+    let all : l .i ≡ a .width = omega arith in
+    subst (RowCopied (a .band .now) (l .band) (a .start) (a .cell .now) (a .from)) all (l .inv .1)
+
+pub copy-row-spec : {M : Type 1} → statement M
+copy-row-spec =
+    tie.close
+    (tie.spec
+    Inv-loop
+    μ-loop
+    loop-holds
+    add-band
+    shared-slice-read-band
+    add-band-2
+    slice-write-band
+    add-i
+    loop-less
+    loop-again
+    same-length
+    returns)

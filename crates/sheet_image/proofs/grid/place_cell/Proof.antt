@@ -1,0 +1,76 @@
+-- `place_cell` meets its contract: GridLaws.antt has that each row lies in the band and in the cell, and what a row more shows.
+-- Assumes nothing.
+use mathlib.Core.Path.{_≡_, refl, ap, _∙_}
+use mathlib.Core.List.{List}
+use Prim.Native.Nat.{ℕ, _+_, _-_, _≤_, _<_}
+use native.Mathlib.Omega.{arith}
+use lib.ListN.{length}
+use Rattle.definitions.proofs.FramebufferLaws.{length-shown}
+use Rattle.sheet_image.specs.Grid.{cellPicture, withCell}
+use Rattle.sheet_image.proofs.GridLaws.{band-row, cell-row, band-small, no-rows, next-row}
+use borrow.Author.Needs.{needs}
+use Rattle.sheet_image.proofs.grid.place_cell.Statement.{statement}
+use Rattle.sheet_image.proofs.grid.place_cell.Tie as tie
+
+abbrev Inv-loop : tie.InvT-loop
+Inv-loop band₀ band-width column cell width height y₀ band y = (y ≤ height) × ((length band ≡ length band₀) × (band ≡ withCell band-width column cell width y band₀))
+
+abbrev μ-loop : tie.MeasureT-loop
+μ-loop band₀ band-width column cell width height y₀ band y = height - y
+
+loop-holds : tie.Need-loop-holds Inv-loop μ-loop
+loop-holds c =
+    let s = c .before .before in
+    (omega arith, (refl, no-rows (s .args .band-width) (s .args .column) (s .args .cell .now) (s .args .width) (s .args .band .now) (omega (arith, s .pre .some, s .pre .right))))
+
+mul-copy-row : tie.Need-mul-copy-row Inv-loop μ-loop
+mul-copy-row c = omega (arith, band-row (c .before .before .before .before .before .pre) (c .before .before .loop .y) (c .before .loop-test .taken), band-small (c .before .before .before .before .before .pre) (c .before .before .loop .y) (c .before .loop-test .taken))
+
+add-copy-row : tie.Need-add-copy-row Inv-loop μ-loop
+add-copy-row c = omega (arith, (c .before .before .before .before .before .pre) .right, band-row (c .before .before .before .before .before .pre) (c .before .before .loop .y) (c .before .loop-test .taken), band-small (c .before .before .before .before .before .pre) (c .before .before .loop .y) (c .before .loop-test .taken))
+
+mul-copy-row-2 : tie.Need-mul-copy-row-2 Inv-loop μ-loop
+mul-copy-row-2 c = omega (arith, cell-row (c .before .before .before .before .before .pre) (c .before .before .loop .y) (c .before .loop-test .taken))
+
+copy-row-requires : tie.Need-copy-row-requires Inv-loop μ-loop
+copy-row-requires c κs = (omega (arith, (c .before .before .before .before .before .pre) .right, band-row (c .before .before .before .before .before .pre) (c .before .before .loop .y) (c .before .loop-test .taken), c .before .before .loop .inv .1 .0), omega (arith, cell-row (c .before .before .before .before .before .pre) (c .before .before .loop .y) (c .before .loop-test .taken)))
+
+add-y : tie.Need-add-y Inv-loop μ-loop
+add-y c = search needs
+
+loop-less : tie.Need-loop-less Inv-loop μ-loop
+loop-less c = search needs
+
+loop-again : tie.Need-loop-again Inv-loop μ-loop
+loop-again c =
+    let a = c .before .before .before .before .before .before .before .before .args in
+    let f = c .before .before .before .before .before .before .before .before .pre in
+    let l = c .before .before .before .before .before .loop in
+    (omega arith, (omega (arith, c .before .band .given, l .inv .1 .0), next-row (a .band-width) (a .column) (a .cell .now) (a .width) (a .band .now) (l .band) _ (l .y) (f .right) (omega (arith, f .some, f .right)) (l .inv .1 .1) (c .before .before .copy-row .ensures)))
+
+same-length : tie.Need-same-length Inv-loop μ-loop
+same-length c = search needs
+
+returns : tie.Need-returns Inv-loop μ-loop
+returns c =
+    let a = c .before .before .before .before .args in
+    let l = c .before .loop in
+    let all : l .y ≡ a .height = omega arith in
+    l .inv .1 .1 ∙ ap (λ (h : ℕ). withCell (a .band-width) (a .column) (a .cell .now) (a .width) h (a .band .now)) all
+
+pub place-cell-spec : {M : Type 1} → statement M
+place-cell-spec =
+    tie.close
+    (tie.spec
+    Inv-loop
+    μ-loop
+    loop-holds
+    mul-copy-row
+    add-copy-row
+    mul-copy-row-2
+    copy-row-requires
+    add-y
+    loop-less
+    loop-again
+    same-length
+    returns)

@@ -1,0 +1,57 @@
+-- The sheet's framebuffers, its band and its image fit. Assumes nothing.
+use mathlib.Core.Path.{_≡_, sym, ap, _∙_}
+use mathlib.Core.List.{List}
+use Prim.Native.Nat.{ℕ, _+_, _-_, _*_, _/_, _≤_, _<_}
+use native.Mathlib.Nat.{div-le-self, mul-le-mul}
+use native.Mathlib.Omega.{arith}
+use lib.ListN.{length, take}
+use lib.Seq.{length-take-le}
+use Rattle.sheet_image.specs.Grid.{BandFits}
+use Rattle.readings.specs.Readings.{PlaceFits}
+use Rattle.sheet_program.specs.Sheets.{SheetFits}
+
+-- the reading's cell in the part of the band that is used
+pub used-band : {width height ground screen alone band n j bytes cell : ℕ} → SheetFits width height ground screen alone band → j < n → n ≤ 30 → bytes ≡ n * ground
+    → cell ≡ screen → BandFits bytes n j cell width height
+used-band {n = n} f some few area same = record {
+  some-wide = f .some-wide;
+  wide = f .wide;
+  high = f .high;
+  whole = omega (arith, f .whole, f .as-screen);
+  some = some;
+  few = few;
+  area = area ∙ ap (λ (m : ℕ). n * m) (f .as-screen ∙ sym same);
+}
+
+pub cell-size : {width height ground screen alone band : ℕ} → SheetFits width height ground screen alone band → (1 ≤ ground) × (ground ≤ 65536)
+cell-size f =
+    (omega (arith, f .whole, mul-le-mul (f .some-wide) (f .some-high)), omega (arith, f .whole, mul-le-mul (f .wide) (f .high)))
+
+-- a framebuffer of the place's size, at the front of the largest
+module _ {width height : ℕ} (f : PlaceFits width height) where
+  pub place-size : width * height ≤ 65536
+  place-size = mul-le-mul (f .wide) (f .high)
+
+  pub front-length : (l : List ℕ) → length l ≡ 65536 → length (take (width * height) l) ≡ width * height
+  front-length l e = length-take-le (width * height) l (omega (arith, place-size))
+
+  pub sheet-fits : (ground screen alone band : List ℕ) → length ground ≡ 65536 → length screen ≡ 65536 → length alone ≡ 65536 → length band ≡ 262000
+      → SheetFits width height (length (take (width * height) ground)) (length (take (width * height) screen)) (length (take (width * height) alone)) (length band)
+  sheet-fits ground screen alone band g s a b = record {
+    some-wide = f .some-wide;
+    wide = f .wide;
+    some-high = f .some-high;
+    high = f .high;
+    whole = front-length ground g;
+    as-screen = front-length ground g ∙ sym (front-length screen s);
+    as-alone = front-length ground g ∙ sym (front-length alone a);
+    enough = b;
+  }
+
+-- the image's size
+pub image-size : (n width height : ℕ) → n ≤ 30 → width ≤ 256 → height ≤ 256 → 1 ≤ n → (n * width ≤ 7680) × ((901 + n - 1) / n * height ≤ 238080)
+image-size n width height few wide high some =
+    let a : n * width ≤ 30 * 256 = mul-le-mul few wide in
+    let r : (901 + n - 1) / n ≤ 930 = omega (arith, div-le-self (901 + n - 1) n) in
+    let b : (901 + n - 1) / n * height ≤ 930 * 256 = mul-le-mul r high in
+    (omega arith, omega arith)

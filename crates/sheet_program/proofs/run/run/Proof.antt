@@ -1,0 +1,128 @@
+-- The screen and the totals are those of the first k readings, and SheetLaws has what holds of all.
+use mathlib.Core.Path.{_≡_, refl, sym, ap, subst, _∙_}
+use Prim.Native.Nat.{ℕ, _*_, _-_, _≤_, _<_}
+use native.Mathlib.Omega.{arith}
+use lib.ListN.{length}
+use lib.Seq.{length-take-le}
+use Rattle.readings.specs.Sheet.{Screen, screenOf, screenAt, totalsTo, Sound}
+use Rattle.sheet_program.proofs.FitLaws.{used-band, cell-size}
+use Rattle.readings.proofs.SheetLaws.{start-screen, start-totals, few, next-screen, next-totals, sound}
+use borrow.Author.Needs.{needs}
+use Rattle.sheet_program.proofs.run.run.Statement.{statement}
+use Rattle.sheet_program.proofs.run.run.Tie as tie
+
+abbrev Inv-loop : tie.InvT-loop
+Inv-loop font narrow place ground screen₀ alone₀ band₀ image n used totals₀ old₀ j₀ k₀ screen alone band totals old j k =
+    (k ≤ 901) × ((j < n) × ((length screen ≡ length screen₀) × ((length alone ≡ length alone₀) × ((length band ≡ length band₀)
+    × ((screenOf old screen ≡ screenAt narrow font place ground k) × (totals ≡ totalsTo narrow font place ground k))))))
+
+abbrev μ-loop : tie.MeasureT-loop
+μ-loop font narrow place ground screen₀ alone₀ band₀ image n used totals₀ old₀ j₀ k₀ screen alone band totals old j k = 901 - k
+
+columns-requires : tie.Need-columns-requires Inv-loop μ-loop
+columns-requires c κs = cell-size (c .before .before .before .before .before .pre .0)
+
+mul-used : tie.Need-mul-used Inv-loop μ-loop
+mul-used c = omega (arith, c .columns .ensures .1 .1)
+
+loop-holds : tie.Need-loop-holds Inv-loop μ-loop
+loop-holds c =
+    let a = c .before .before .before .before .before .before .args in
+    let s = start-screen (a .narrow) (a .font .now) (a .place) (a .ground .now) in
+    (omega arith, (omega (arith, c .columns .ensures .0), (refl, (refl, (refl, (ap (screenOf 901) (c .before .before .before .before .before .before .pre .1) ∙ s, start-totals (a .narrow) (a .font .now) (a .place) (a .ground .now)))))))
+
+step-requires : tie.Need-step-requires Inv-loop μ-loop
+step-requires c κs = search needs
+
+report-requires : tie.Need-report-requires Inv-loop μ-loop
+report-requires c κs = search needs
+
+counted-requires : tie.Need-counted-requires Inv-loop μ-loop
+counted-requires c κs =
+    let a = c .before .before .before .before .before .before .before .before .before .before .before .before .before .before .before .before .args in
+    few (a .narrow) (a .font .now) (a .place) (a .ground .now) (c .before .before .before .before .before .before .before .before .loop-test .taken) (c .before .before .before .before .before .before .before .before .before .loop .inv .1 .1 .1 .1 .1 .1)
+
+add-is-last : tie.Need-add-is-last Inv-loop μ-loop
+add-is-last c = search needs
+
+slice-relend-prefix-put-cell : tie.Need-slice-relend-prefix-put-cell Inv-loop μ-loop
+slice-relend-prefix-put-cell c = search needs
+
+slice-aggregate-put-cell : tie.Need-slice-aggregate-put-cell Inv-loop μ-loop
+slice-aggregate-put-cell c =
+    let s = c .before .before .before .before .before .before .before .before .before .before .before .before .before .before .before .before .before .before in
+    let l = c .before .before .before .before .before .before .before .before .before .before .before .loop in
+    let n = c .before .before .before .before .before .before .before .before .before .before .before .before .columns in
+    sym (length-take-le (n .result * length (s .args .ground .now)) (l .band) (omega (arith, n .ensures .1 .1, s .pre .0 .enough, l .inv .1 .1 .1 .1 .0)))
+
+put-cell-requires : tie.Need-put-cell-requires Inv-loop μ-loop
+put-cell-requires c κs =
+    let s = c .before .before .before .before .before .before .before .before .before .before .before .before .before .before .before .before .before .before .before in
+    let l = c .before .before .before .before .before .before .before .before .before .before .before .before .loop in
+    let n = c .before .before .before .before .before .before .before .before .before .before .before .before .before .columns in
+    used-band (s .pre .0) (l .inv .1 .0) (n .ensures .1 .0)
+    (length-take-le (n .result * length (s .args .ground .now)) (l .band) (omega (arith, n .ensures .1 .1, s .pre .0 .enough, l .inv .1 .1 .1 .1 .0)))
+    (c .before .before .before .before .before .before .before .screen .given ∙ l .inv .1 .1 .0)
+
+add-k : tie.Need-add-k Inv-loop μ-loop
+add-k c = search needs
+
+loop-less : tie.Need-loop-less Inv-loop μ-loop
+loop-less c = search needs
+
+loop-again : tie.Need-loop-again Inv-loop μ-loop
+loop-again c =
+    let a = c .before .before .before .before .before .before .before .before .before .before .before .before .before .before .before .before .before .before .before .before .before .before .args in
+    let l = c .before .before .before .before .before .before .before .before .before .before .before .before .before .before .before .loop in
+    let e = l .inv .1 .1 .1 .1 .1 in
+    let finds = c .before .before .before .before .before .before .before .before .before .before .before .step .ensures in
+    let next-s = next-screen (a .narrow) (a .font .now) (a .place) (a .ground .now) (e .0) finds in
+    let next-t = next-totals (a .narrow) (a .font .now) (a .place) (a .ground .now) (e .0) finds (e .1) (c .before .before .before .before .before .counted .ensures) in
+    (omega arith, (c .before .before .put-cell .ensures .0 .1, (omega (arith, c .before .before .before .before .before .before .before .before .before .before .screen .given, l .inv .1 .1 .0), (omega (arith, c .before .before .before .before .before .before .before .before .alone .given, l .inv .1 .1 .1 .0), (omega (arith, c .before .band .given, l .inv .1 .1 .1 .1 .0), (next-s, next-t))))))
+
+same-length : tie.Need-same-length Inv-loop μ-loop
+same-length c = search needs
+
+same-length-2 : tie.Need-same-length-2 Inv-loop μ-loop
+same-length-2 c = search needs
+
+same-length-3 : tie.Need-same-length-3 Inv-loop μ-loop
+same-length-3 c = search needs
+
+returns : tie.Need-returns Inv-loop μ-loop
+returns c =
+    let a = c .before .before .before .before .before .before .before .before .args in
+    let l = c .before .loop in
+    let all : l .k ≡ 901 = omega arith in
+    let e = l .inv .1 .1 .1 .1 .1 in
+    let t = e .1 ∙ ap (totalsTo (a .narrow) (a .font .now) (a .place) (a .ground .now)) all in (
+      t,
+      (
+        ap (λ (s : Screen). s .bytes) (e .0 ∙ ap (screenAt (a .narrow) (a .font .now) (a .place) (a .ground .now)) all),
+        λ clear. subst (Sound (a .narrow) (a .font .now) (a .place) (a .ground .now)) (sym t) (sound (a .narrow) (a .font .now) (a .place) (a .ground .now) clear),
+      ),
+    )
+
+pub run-spec : {M : Type 1} → statement M
+run-spec =
+    tie.close
+    (tie.spec
+    Inv-loop
+    μ-loop
+    columns-requires
+    mul-used
+    loop-holds
+    step-requires
+    report-requires
+    counted-requires
+    add-is-last
+    slice-relend-prefix-put-cell
+    slice-aggregate-put-cell
+    put-cell-requires
+    add-k
+    loop-less
+    loop-again
+    same-length
+    same-length-2
+    same-length-3
+    returns)

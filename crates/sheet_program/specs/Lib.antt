@@ -1,0 +1,3 @@
+pub mod Sheets
+pub mod Numbers
+pub mod Words
