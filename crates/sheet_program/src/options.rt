@@ -1,6 +1,4 @@
 // What the sheet is asked for: an anchor, `narrow`, and `at X Y`, in any order. A later word of a kind replaces an earlier one.
-ghost use mathlib.Core.Path.{_≡_};
-ghost use Rattle.sheet_program.specs.Words.{wrong, anchored, withWord, withX, withY, withNext, endedBy};
 use crate::number::read_coordinate;
 use crate::values::Asked;
 use crate::values::Next;
@@ -11,9 +9,7 @@ use sheet_extent::values::Wanted;
 use types::geometry::Point;
 use types::style::VerticalPosition;
 
-fn anchored(options: Options, vertical_pos: VerticalPosition) -> Asked
-    ensures { λ r. ⌜ r ≡ anchored options «vertical_pos» ⌝ }
-{
+fn anchored(options: Options, vertical_pos: VerticalPosition) -> Asked {
     let wanted = options.wanted;
     Asked {
         options: Options {
@@ -26,9 +22,7 @@ fn anchored(options: Options, vertical_pos: VerticalPosition) -> Asked
     }
 }
 
-fn wrong(options: Options) -> Asked
-    ensures { λ r. ⌜ r ≡ wrong options ⌝ }
-{
+fn wrong(options: Options) -> Asked {
     Asked {
         options,
         next: Next::Any,
@@ -36,9 +30,7 @@ fn wrong(options: Options) -> Asked
     }
 }
 
-fn with_word(options: Options, word: &[u8]) -> Asked
-    ensures { λ r. ⌜ r ≡ withWord options (now (word .entry)) ⌝ }
-{
+fn with_word(options: Options, word: &[u8]) -> Asked {
     if is_same(word, b"baseline") {
         return anchored(options, VerticalPosition::Baseline);
     }
@@ -74,9 +66,7 @@ fn with_word(options: Options, word: &[u8]) -> Asked
     wrong(options)
 }
 
-fn with_x(options: Options, number: Number) -> Asked
-    ensures { λ r. ⌜ r ≡ withX options number ⌝ }
-{
+fn with_x(options: Options, number: Number) -> Asked {
     match number {
         Number::NotOne => wrong(options),
         Number::Of(x) => Asked {
@@ -87,9 +77,7 @@ fn with_x(options: Options, number: Number) -> Asked
     }
 }
 
-fn with_y(options: Options, x: i32, number: Number) -> Asked
-    ensures { λ r. ⌜ r ≡ withY options x number ⌝ }
-{
+fn with_y(options: Options, x: i32, number: Number) -> Asked {
     match number {
         Number::NotOne => wrong(options),
         Number::Of(y) => {
@@ -108,9 +96,7 @@ fn with_y(options: Options, x: i32, number: Number) -> Asked
 }
 
 // One word more. After a wrong one nothing is right again.
-fn with_next(asked: Asked, word: &[u8]) -> Asked
-    ensures { λ r. ⌜ r ≡ withNext asked (now (word .entry)) ⌝ }
-{
+fn with_next(asked: Asked, word: &[u8]) -> Asked {
     if !asked.right {
         return asked;
     }
@@ -130,9 +116,7 @@ fn with_argument(asked: Asked, i: usize) -> Asked {
 }
 
 // No word may be missing after `at`.
-fn ended(asked: Asked) -> Asked
-    ensures { λ r. ⌜ r ≡ endedBy asked (asked .next) ⌝ }
-{
+fn ended(asked: Asked) -> Asked {
     let next = asked.next;
     let options = asked.options;
     match next {

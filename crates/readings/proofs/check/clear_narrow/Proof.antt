@@ -8,26 +8,11 @@ use borrow.Author.Needs.{needs}
 use Rattle.readings.proofs.check.clear_narrow.Statement.{statement}
 use Rattle.readings.proofs.check.clear_narrow.Tie as tie
 
-get-drawn-dimensions-requires : tie.Need-get-drawn-dimensions-requires
-get-drawn-dimensions-requires c κs = search needs
-
-enum-known-drawn : tie.Need-enum-known-drawn
-enum-known-drawn c = search needs
-
 enum-told : tie.Need-enum-told
 enum-told c = search needs
 
 returns : tie.Need-returns
 returns c = let e = sym (c .before .before .get-drawn-dimensions .ensures) ∙ ap dimensionsOutcome (c .enum-told .given .1) in rw e
-
-narrowed-requires : tie.Need-narrowed-requires
-narrowed-requires c κs = search needs
-
-fill-box-requires : tie.Need-fill-box-requires
-fill-box-requires c κs = search needs
-
-same-length : tie.Need-same-length
-same-length c = search needs
 
 returns-2 : tie.Need-returns-2
 returns-2 c =
@@ -38,12 +23,5 @@ returns-2 c =
 pub clear-narrow-spec : {M : Type 1} → statement M
 clear-narrow-spec =
     tie.close
-    (tie.spec
-    get-drawn-dimensions-requires
-    enum-known-drawn
-    enum-told
-    returns
-    narrowed-requires
-    fill-box-requires
-    same-length
-    returns-2)
+    (tie.spec (λ c κs. search needs) (λ c. search needs) enum-told returns (λ c κs. search needs) (λ c κs. search needs)
+    (λ c. search needs) returns-2)

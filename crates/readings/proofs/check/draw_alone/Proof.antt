@@ -7,32 +7,14 @@ use borrow.Author.Needs.{needs}
 use Rattle.readings.proofs.check.draw_alone.Statement.{statement}
 use Rattle.readings.proofs.check.draw_alone.Tie as tie
 
-copy-requires : tie.Need-copy-requires
-copy-requires c κs = search needs
-
-render-requires : tie.Need-render-requires
-render-requires c κs = search needs
-
 enum-told : tie.Need-enum-told
 enum-told c = search needs
-
-enum-told-2 : tie.Need-enum-told-2
-enum-told-2 c = search needs
-
-copy-requires-2 : tie.Need-copy-requires-2
-copy-requires-2 c κs = search needs
-
-same-length : tie.Need-same-length
-same-length c = search needs
 
 returns : tie.Need-returns
 returns c =
     let a = c .before .before .before .before .before .before .before .before .before .before .before .before .before .before .before .before .args in
     let r = c .before .before .before .before .render .ensures in
     drawn-alone (a .font .now) (asked (a .place) (a .text .now)) (framebuffer (a .place) (a .ground .now)) (c .before .before .before .before .before .before .before .before .before .before .copy .ensures) (r .0) (r .1) (ap dimensionsOutcome (c .enum-told .given .1))
-
-same-length-2 : tie.Need-same-length-2
-same-length-2 c = search needs
 
 returns-2 : tie.Need-returns-2
 returns-2 c =
@@ -43,13 +25,5 @@ returns-2 c =
 pub draw-alone-spec : {M : Type 1} → statement M
 draw-alone-spec =
     tie.close
-    (tie.spec
-    copy-requires
-    render-requires
-    enum-told
-    enum-told-2
-    copy-requires-2
-    same-length
-    returns
-    same-length-2
-    returns-2)
+    (tie.spec (λ c κs. search needs) (λ c κs. search needs) enum-told (λ c. search needs) (λ c κs. search needs)
+    (λ c. search needs) returns (λ c. search needs) returns-2)

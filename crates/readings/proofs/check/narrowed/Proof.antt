@@ -4,24 +4,12 @@ use borrow.Author.Needs.{needs}
 use Rattle.readings.proofs.check.narrowed.Statement.{statement}
 use Rattle.readings.proofs.check.narrowed.Tie as tie
 
-enum-known-bounding-box : tie.Need-enum-known-bounding-box
-enum-known-bounding-box c = search needs
-
-enum-told : tie.Need-enum-told
-enum-told c = search needs
-
-returns : tie.Need-returns
-returns c = search needs
-
 returns-2 : tie.Need-returns-2
 returns-2 c = no-width (c .before .before .before .before .bounding-box .given .1) (c .if1 .taken)
-
-sub-t7 : tie.Need-sub-t7
-sub-t7 c = search needs
 
 returns-3 : tie.Need-returns-3
 returns-3 c = narrower (c .before .before .before .before .bounding-box .given .1)
 
 pub narrowed-spec : {M : Type 1} → statement M
 narrowed-spec =
-    tie.close (tie.spec enum-known-bounding-box enum-told returns returns-2 sub-t7 returns-3)
+    tie.close (tie.spec (λ c. search needs) (λ c. search needs) (λ c. search needs) returns-2 (λ c. search needs) returns-3)

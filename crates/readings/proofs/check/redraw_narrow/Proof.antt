@@ -39,15 +39,6 @@ module _ (c : tie.After-known-told2) where
   is-ready : Ready (entry .args .font .now) (entry .args .old-text .now) (new entry) (screen entry) step
   is-ready = ready _ _ (new entry) (screen entry) step passes (λ i. omega (arith, c .before .before .before .before .before .before .before .before .before .before .shared-slice-known .given i))
 
-check-step-requires : tie.Need-check-step-requires
-check-step-requires c κs = search needs
-
-enum-known-checked : tie.Need-enum-known-checked
-enum-known-checked c = search needs
-
-enum-known-checked-2 : tie.Need-enum-known-checked-2
-enum-known-checked-2 c = search needs
-
 clear-narrow-requires : tie.Need-clear-narrow-requires
 clear-narrow-requires c κs = let r = is-ready (c .before .before .before .before) in (r .opens, (r .old-checked, r .fits))
 
@@ -58,9 +49,6 @@ draw-reading-requires c κs =
     let a = entry k .args in
     (r .opens, (r .new-checked, subst (λ (n : ℕ). BufferFits n (a .place .width) (a .place .height)) (sym (c .before .before .screen .given)) (r .fits)))
 
-same-length : tie.Need-same-length
-same-length c = search needs
-
 returns : tie.Need-returns
 unfolding stepBuffer
 returns c =
@@ -68,9 +56,6 @@ returns c =
     let a = s .args in
     let e = sym (c .before .before .before .check-step .ensures) ∙ ap stepOutcome (c .before .checked .given .1) in
     (stops (a .font .now) (a .old-text .now) (new s) (a .place .background) (screen s) e, held (a .font .now) (a .old-text .now) (new s) (a .place .background) (screen s) e _)
-
-same-length-2 : tie.Need-same-length-2
-same-length-2 c = search needs
 
 returns-2 : tie.Need-returns-2
 unfolding stepBuffer
@@ -88,13 +73,5 @@ returns-2 c =
 pub redraw-narrow-spec : {M : Type 1} → statement M
 redraw-narrow-spec =
     tie.close
-    (tie.spec
-    check-step-requires
-    enum-known-checked
-    enum-known-checked-2
-    clear-narrow-requires
-    draw-reading-requires
-    same-length
-    returns
-    same-length-2
-    returns-2)
+    (tie.spec (λ c κs. search needs) (λ c. search needs) (λ c. search needs) clear-narrow-requires draw-reading-requires
+    (λ c. search needs) returns (λ c. search needs) returns-2)

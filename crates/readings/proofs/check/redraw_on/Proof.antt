@@ -8,23 +8,11 @@ use borrow.Author.Needs.{needs}
 use Rattle.readings.proofs.check.redraw_on.Statement.{statement}
 use Rattle.readings.proofs.check.redraw_on.Tie as tie
 
-redraw-narrow-requires : tie.Need-redraw-narrow-requires
-redraw-narrow-requires c κs = search needs
-
-same-length : tie.Need-same-length
-same-length c = search needs
-
 returns : tie.Need-returns
 returns c =
     let a = c .before .before .before .before .before .before .before .before .before .args in
     let r = c .before .before .redraw-narrow .ensures in
     (r .0, r .1 ∙ ap (λ (b : Bool). stepBuffer b (a .font .now) (a .old-text .now) (asked (a .place) (a .new-text .now)) (a .place .background) (framebuffer (a .place) (a .screen .now))) (sym (c .before .before .before .before .if1 .taken)))
-
-redraw-requires : tie.Need-redraw-requires
-redraw-requires c κs = search needs
-
-same-length-2 : tie.Need-same-length-2
-same-length-2 c = search needs
 
 returns-2 : tie.Need-returns-2
 returns-2 c =
@@ -35,4 +23,4 @@ returns-2 c =
 pub redraw-on-spec : {M : Type 1} → statement M
 redraw-on-spec =
     tie.close
-    (tie.spec redraw-narrow-requires same-length returns redraw-requires same-length-2 returns-2)
+    (tie.spec (λ c κs. search needs) (λ c. search needs) returns (λ c κs. search needs) (λ c. search needs) returns-2)

@@ -5,12 +5,6 @@ use borrow.Author.Needs.{needs}
 use Rattle.readings.proofs.ground.clear_reading.Statement.{statement}
 use Rattle.readings.proofs.ground.clear_reading.Tie as tie
 
-measure-reading-requires : tie.Need-measure-reading-requires
-measure-reading-requires c κs = search needs
-
-enum-known-measured : tie.Need-enum-known-measured
-enum-known-measured c = search needs
-
 enum-told : tie.Need-enum-told
 enum-told c = search needs
 
@@ -18,12 +12,6 @@ returns : tie.Need-returns
 returns c =
     let e = sym (c .before .before .measure-reading .ensures) ∙ ap dimensionsOutcome (c .enum-told .given .1) in
     rw e
-
-fill-box-requires : tie.Need-fill-box-requires
-fill-box-requires c κs = search needs
-
-same-length : tie.Need-same-length
-same-length c = search needs
 
 returns-2 : tie.Need-returns-2
 returns-2 c =
@@ -33,11 +21,4 @@ returns-2 c =
 pub clear-reading-spec : {M : Type 1} → statement M
 clear-reading-spec =
     tie.close
-    (tie.spec
-    measure-reading-requires
-    enum-known-measured
-    enum-told
-    returns
-    fill-box-requires
-    same-length
-    returns-2)
+    (tie.spec (λ c κs. search needs) (λ c. search needs) enum-told returns (λ c κs. search needs) (λ c. search needs) returns-2)

@@ -16,31 +16,16 @@ Inv-loop font place buffer₀ k₀ buffer k = (k ≤ 901) × ((length buffer ≡
 abbrev μ-loop : tie.MeasureT-loop
 μ-loop font place buffer₀ k₀ buffer k = 901 - k
 
-fill-with-rubbish-requires : tie.Need-fill-with-rubbish-requires Inv-loop μ-loop
-fill-with-rubbish-requires c κs = search needs
-
 loop-holds : tie.Need-loop-holds Inv-loop μ-loop
 loop-holds c =
     let a = c .before .before .before .before .before .before .args in
     (omega arith, (refl, laid-start (a .font .now) (a .place) (length (a .buffer .now)) _ (c .before .before .fill-with-rubbish .ensures)))
-
-clear-reading-requires : tie.Need-clear-reading-requires Inv-loop μ-loop
-clear-reading-requires c κs = search needs
-
-add-k : tie.Need-add-k Inv-loop μ-loop
-add-k c = search needs
-
-loop-less : tie.Need-loop-less Inv-loop μ-loop
-loop-less c = search needs
 
 loop-again : tie.Need-loop-again Inv-loop μ-loop
 loop-again c =
     let a = c .before .before .before .before .before .before .before .before .before .before .before .before .args in
     let l = c .before .before .before .before .before .loop in
     (omega arith, (omega (arith, c .before .buffer2 .given, l .inv .1 .0), laid-next (a .font .now) (a .place) _ (l .k) (l .inv .1 .1) (c .before .before .clear-reading .ensures)))
-
-same-length : tie.Need-same-length Inv-loop μ-loop
-same-length c = search needs
 
 returns : tie.Need-returns Inv-loop μ-loop
 returns c =
@@ -51,14 +36,5 @@ returns c =
 pub lay-ground-spec : {M : Type 1} → statement M
 lay-ground-spec =
     tie.close
-    (tie.spec
-    Inv-loop
-    μ-loop
-    fill-with-rubbish-requires
-    loop-holds
-    clear-reading-requires
-    add-k
-    loop-less
-    loop-again
-    same-length
-    returns)
+    (tie.spec Inv-loop μ-loop (λ c κs. search needs) loop-holds (λ c κs. search needs) (λ c. search needs) (λ c. search needs)
+    loop-again (λ c. search needs) returns)

@@ -10,30 +10,6 @@ use borrow.Author.Needs.{needs}
 use Rattle.readings.proofs.step.compare.Statement.{statement}
 use Rattle.readings.proofs.step.compare.Tie as tie
 
-slice-aggregate-write-reading : tie.Need-slice-aggregate-write-reading
-slice-aggregate-write-reading c = search needs
-
-write-reading-requires : tie.Need-write-reading-requires
-write-reading-requires c κs = search needs
-
-sub-draw-alone : tie.Need-sub-draw-alone
-sub-draw-alone c = search needs
-
-part-draw-alone-start : tie.Need-part-draw-alone-start
-part-draw-alone-start c = search needs
-
-part-draw-alone-end : tie.Need-part-draw-alone-end
-part-draw-alone-end c = search needs
-
-draw-alone-requires : tie.Need-draw-alone-requires
-draw-alone-requires c κs = search needs
-
-count-differences-requires : tie.Need-count-differences-requires
-count-differences-requires c κs = search needs
-
-same-length : tie.Need-same-length
-same-length c = search needs
-
 returns : tie.Need-returns
 returns c =
     let a = c .before .before .before .before .before .before .before .before .before .before .before .before .before .before .before .args in
@@ -46,13 +22,5 @@ returns c =
 pub compare-spec : {M : Type 1} → statement M
 compare-spec =
     tie.close
-    (tie.spec
-    slice-aggregate-write-reading
-    write-reading-requires
-    sub-draw-alone
-    part-draw-alone-start
-    part-draw-alone-end
-    draw-alone-requires
-    count-differences-requires
-    same-length
-    returns)
+    (tie.spec (λ c. search needs) (λ c κs. search needs) (λ c. search needs) (λ c. search needs) (λ c. search needs)
+    (λ c κs. search needs) (λ c κs. search needs) (λ c. search needs) returns)

@@ -6,26 +6,14 @@ use borrow.Author.Needs.{needs}
 use Rattle.readings.proofs.step.counted.Statement.{statement}
 use Rattle.readings.proofs.step.counted.Tie as tie
 
-one-if-any-requires : tie.Need-one-if-any-requires
-one-if-any-requires c κs = search needs
-
 enum-told : tie.Need-enum-told
 enum-told c = search needs
-
-add-t6 : tie.Need-add-t6
-add-t6 c = search needs
 
 add-t7 : tie.Need-add-t7
 add-t7 c = omega (arith, at-most (c .before .before .before .before .before .args .found .differing), c .before .before .before .before .one-if-any .ensures, c .before .before .before .before .before .pre .differing)
 
-enum-told-2 : tie.Need-enum-told-2
-enum-told-2 c = search needs
-
 add-t8 : tie.Need-add-t8
 add-t8 c = omega (arith, at-most (c .before .before .before .before .args .found .differing), c .before .before .before .one-if-any .ensures, c .before .before .before .before .pre .differing)
-
-add-t9 : tie.Need-add-t9
-add-t9 c = search needs
 
 returns : tie.Need-returns
 returns c = simp (c .before .before .before .before .one-if-any .ensures, c .before .before .enum-told .given .1, add-zero)
@@ -36,13 +24,5 @@ returns-2 c = simp (c .before .before .before .before .one-if-any .ensures, c .b
 pub counted-spec : {M : Type 1} → statement M
 counted-spec =
     tie.close
-    (tie.spec
-    one-if-any-requires
-    enum-told
-    add-t6
-    add-t7
-    enum-told-2
-    add-t8
-    add-t9
-    returns
+    (tie.spec (λ c κs. search needs) enum-told (λ c. search needs) add-t7 (λ c. search needs) add-t8 (λ c. search needs) returns
     returns-2)

@@ -8,42 +8,6 @@ use borrow.Author.Needs.{needs}
 use Rattle.readings.proofs.step.draw_over.Statement.{statement}
 use Rattle.readings.proofs.step.draw_over.Tie as tie
 
-slice-aggregate-write-reading : tie.Need-slice-aggregate-write-reading
-slice-aggregate-write-reading c = search needs
-
-write-reading-requires : tie.Need-write-reading-requires
-write-reading-requires c κs = search needs
-
-slice-aggregate-write-reading-2 : tie.Need-slice-aggregate-write-reading-2
-slice-aggregate-write-reading-2 c = search needs
-
-write-reading-requires-2 : tie.Need-write-reading-requires-2
-write-reading-requires-2 c κs = search needs
-
-sub-redraw-on : tie.Need-sub-redraw-on
-sub-redraw-on c = search needs
-
-part-redraw-on-start : tie.Need-part-redraw-on-start
-part-redraw-on-start c = search needs
-
-part-redraw-on-end : tie.Need-part-redraw-on-end
-part-redraw-on-end c = search needs
-
-sub-redraw-on-2 : tie.Need-sub-redraw-on-2
-sub-redraw-on-2 c = search needs
-
-part-redraw-on-start-2 : tie.Need-part-redraw-on-start-2
-part-redraw-on-start-2 c = search needs
-
-part-redraw-on-end-2 : tie.Need-part-redraw-on-end-2
-part-redraw-on-end-2 c = search needs
-
-redraw-on-requires : tie.Need-redraw-on-requires
-redraw-on-requires c κs = search needs
-
-same-length : tie.Need-same-length
-same-length c = search needs
-
 returns : tie.Need-returns
 returns c =
     let a = c .before .before .before .before .before .before .before .before .before .before .before .before .before .before .before .before .args in
@@ -60,17 +24,6 @@ returns c =
 pub draw-over-spec : {M : Type 1} → statement M
 draw-over-spec =
     tie.close
-    (tie.spec
-    slice-aggregate-write-reading
-    write-reading-requires
-    slice-aggregate-write-reading-2
-    write-reading-requires-2
-    sub-redraw-on
-    part-redraw-on-start
-    part-redraw-on-end
-    sub-redraw-on-2
-    part-redraw-on-start-2
-    part-redraw-on-end-2
-    redraw-on-requires
-    same-length
-    returns)
+    (tie.spec (λ c. search needs) (λ c κs. search needs) (λ c. search needs) (λ c κs. search needs) (λ c. search needs)
+    (λ c. search needs) (λ c. search needs) (λ c. search needs) (λ c. search needs) (λ c. search needs) (λ c κs. search needs)
+    (λ c. search needs) returns)

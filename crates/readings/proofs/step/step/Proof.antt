@@ -12,21 +12,6 @@ use borrow.Author.Needs.{needs}
 use Rattle.readings.proofs.step.step.Statement.{statement}
 use Rattle.readings.proofs.step.step.Tie as tie
 
-draw-over-requires : tie.Need-draw-over-requires
-draw-over-requires c κs = search needs
-
-next-old-requires : tie.Need-next-old-requires
-next-old-requires c κs = search needs
-
-compare-requires : tie.Need-compare-requires
-compare-requires c κs = search needs
-
-same-length : tie.Need-same-length
-same-length c = search needs
-
-same-length-2 : tie.Need-same-length-2
-same-length-2 c = search needs
-
 returns : tie.Need-returns
 returns c =
     let a = c .before .before .before .before .before .before .before .before .before .before .before .before .before .before .args in
@@ -41,10 +26,5 @@ returns c =
 pub step-spec : {M : Type 1} → statement M
 step-spec =
     tie.close
-    (tie.spec
-    draw-over-requires
-    next-old-requires
-    compare-requires
-    same-length
-    same-length-2
+    (tie.spec (λ c κs. search needs) (λ c κs. search needs) (λ c κs. search needs) (λ c. search needs) (λ c. search needs)
     returns)

@@ -9,24 +9,6 @@ use borrow.Author.Needs.{needs}
 use Rattle.readings.proofs.texts.measure_reading.Statement.{statement}
 use Rattle.readings.proofs.texts.measure_reading.Tie as tie
 
-slice-aggregate-write-reading : tie.Need-slice-aggregate-write-reading
-slice-aggregate-write-reading c = search needs
-
-write-reading-requires : tie.Need-write-reading-requires
-write-reading-requires c κs = search needs
-
-sub-get-rendered-dimensions : tie.Need-sub-get-rendered-dimensions
-sub-get-rendered-dimensions c = search needs
-
-part-get-rendered-dimensions-start : tie.Need-part-get-rendered-dimensions-start
-part-get-rendered-dimensions-start c = search needs
-
-part-get-rendered-dimensions-end : tie.Need-part-get-rendered-dimensions-end
-part-get-rendered-dimensions-end c = search needs
-
-get-rendered-dimensions-requires : tie.Need-get-rendered-dimensions-requires
-get-rendered-dimensions-requires c κs = search needs
-
 returns : tie.Need-returns
 returns c =
     let a = c .before .before .before .before .before .before .before .args in
@@ -38,11 +20,5 @@ returns c =
 pub measure-reading-spec : {M : Type 1} → statement M
 measure-reading-spec =
     tie.close
-    (tie.spec
-    slice-aggregate-write-reading
-    write-reading-requires
-    sub-get-rendered-dimensions
-    part-get-rendered-dimensions-start
-    part-get-rendered-dimensions-end
-    get-rendered-dimensions-requires
-    returns)
+    (tie.spec (λ c. search needs) (λ c κs. search needs) (λ c. search needs) (λ c. search needs) (λ c. search needs)
+    (λ c κs. search needs) returns)

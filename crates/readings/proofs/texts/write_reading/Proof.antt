@@ -25,9 +25,6 @@ returns c =
     let a = c .before .before .args in
     (omega arith, drop-of-length-le (a .out .now) {i = 6} (omega (arith, c .before .before .pre)) ∙ simp (le-leb _ _ (c .if1 .taken)))
 
-cast-write-angle : tie.Need-cast-write-angle
-cast-write-angle c = search needs
-
 sub-write-angle : tie.Need-sub-write-angle
 sub-write-angle c = simp (plain (c .before .before .args .k) (c .if1 .left)) (angle-fits (c .before .before .args .k) (c .if1 .left))
 
@@ -37,9 +34,6 @@ write-angle-requires c κs =
     let h = c .before .if1 .left in
     simp (plain k h, toZ-ofZ, angle-fits k h)
     (c .before .before .before .pre, (omega (zarith, minus (pos k) (pos 450)), omega (zarith, minus (pos k) (pos 450))))
-
-same-length : tie.Need-same-length
-same-length c = search needs
 
 returns-2 : tie.Need-returns-2
 returns-2 c =
@@ -51,4 +45,4 @@ returns-2 c =
 pub write-reading-spec : {M : Type 1} → statement M
 write-reading-spec =
     tie.close
-    (tie.spec returns cast-write-angle sub-write-angle write-angle-requires same-length returns-2)
+    (tie.spec returns (λ c. search needs) sub-write-angle write-angle-requires (λ c. search needs) returns-2)

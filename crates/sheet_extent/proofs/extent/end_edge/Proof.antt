@@ -23,9 +23,6 @@ sum-fits c = let h : c .args .len < 2 ^ 32 = omega arith in omega (zarith, plus 
 cast-result : tie.Need-cast-result
 cast-result c = simp (toZ-ofZ, c .fits .start) (wide c)
 
-cast-result-2 : tie.Need-cast-result-2
-cast-result-2 c = search needs
-
 add-result : tie.Need-add-result
 add-result c = simp (toZ-ofZ, c .fits .start, wide c, len-plain c) (sum-fits c)
 
@@ -33,4 +30,4 @@ returns : tie.Need-returns
 returns c = simp (toZ-ofZ, c .fits .start, wide c, len-plain c, sum-fits c)
 
 pub end-edge-spec : {M : Type 1} → statement M
-end-edge-spec = tie.close (tie.spec cast-result cast-result-2 add-result returns)
+end-edge-spec = tie.close (tie.spec cast-result (λ c. search needs) add-result returns)

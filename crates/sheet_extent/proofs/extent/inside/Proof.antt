@@ -18,9 +18,6 @@ is-before c = simp (toZ-ofZ, c .before .fits .edge) at (c .before-zero .ensures)
 few : (c : tie.After-before-zero) → c .before-zero .result ≤ 1000
 few c = omega (arith, is-before c, before-most (c .before .args .edge))
 
-before-zero-requires : tie.Need-before-zero-requires
-before-zero-requires c κs = search needs
-
 add-result : tie.Need-add-result
 add-result c = omega (arith, few c)
 
@@ -31,4 +28,4 @@ returns : tie.Need-returns
 returns c = toZ-pos w32 (omega (arith, few c)) ∙ ap (λ (n : ℕ). pos (3 + n)) (is-before c)
 
 pub inside-spec : {M : Type 1} → statement M
-inside-spec = tie.close (tie.spec before-zero-requires add-result cast-result returns)
+inside-spec = tie.close (tie.spec (λ c κs. search needs) add-result cast-result returns)

@@ -17,15 +17,6 @@ abbrev μ-loop : tie.MeasureT-loop
 loop-holds : tie.Need-loop-holds Inv-loop μ-loop
 loop-holds c = (omega arith, no-readings (c .before .args .font .now) (c .before .args .vertical-pos))
 
-with-reading-requires : tie.Need-with-reading-requires Inv-loop μ-loop
-with-reading-requires c κs = search needs
-
-add-k : tie.Need-add-k Inv-loop μ-loop
-add-k c = search needs
-
-loop-less : tie.Need-loop-less Inv-loop μ-loop
-loop-less c = search needs
-
 loop-again : tie.Need-loop-again Inv-loop μ-loop
 loop-again c =
     let a = c .before .before .before .before .args in
@@ -42,4 +33,4 @@ returns c =
 pub measure-all-spec : {M : Type 1} → statement M
 measure-all-spec =
     tie.close
-    (tie.spec Inv-loop μ-loop loop-holds with-reading-requires add-k loop-less loop-again returns)
+    (tie.spec Inv-loop μ-loop loop-holds (λ c κs. search needs) (λ c. search needs) (λ c. search needs) loop-again returns)

@@ -35,9 +35,6 @@ cast-n c = simp (toZ-ofZ, c .fits .start) (wide c)
 add-n : tie.Need-add-n
 add-n c = simp (toZ-ofZ, c .fits .start, wide c, c .fits .end) (sum-fits c)
 
-cast-n-2 : tie.Need-cast-n-2
-cast-n-2 c = search needs
-
 add-n-2 : tie.Need-add-n-2
 add-n-2 c = simp (toZ-ofZ, c .fits .start, wide c, c .fits .end, sum-fits c) (total-fits c)
 
@@ -55,4 +52,4 @@ returns-3 c = simp (toZ-ofZ, c .before .before .fits .start, wide (c .before .be
 
 pub side-spec : {M : Type 1} → statement M
 side-spec =
-    tie.close (tie.spec cast-n add-n cast-n-2 add-n-2 returns returns-2 cast-result returns-3)
+    tie.close (tie.spec cast-n add-n (λ c. search needs) add-n-2 returns returns-2 cast-result returns-3)

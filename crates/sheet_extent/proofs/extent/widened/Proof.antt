@@ -10,30 +10,6 @@ use borrow.Author.Needs.{needs}
 use Rattle.sheet_extent.proofs.extent.widened.Statement.{statement}
 use Rattle.sheet_extent.proofs.extent.widened.Tie as tie
 
-start-edge-requires : tie.Need-start-edge-requires
-start-edge-requires c κs = search needs
-
-lesser-requires : tie.Need-lesser-requires
-lesser-requires c κs = search needs
-
-start-edge-requires-2 : tie.Need-start-edge-requires-2
-start-edge-requires-2 c κs = search needs
-
-lesser-requires-2 : tie.Need-lesser-requires-2
-lesser-requires-2 c κs = search needs
-
-end-edge-requires : tie.Need-end-edge-requires
-end-edge-requires c κs = search needs
-
-greater-requires : tie.Need-greater-requires
-greater-requires c κs = search needs
-
-end-edge-requires-2 : tie.Need-end-edge-requires-2
-end-edge-requires-2 c κs = search needs
-
-greater-requires-2 : tie.Need-greater-requires-2
-greater-requires-2 c κs = search needs
-
 returns : tie.Need-returns
 returns c =
     let a = c .before .before .before .before .before .before .before .before .before .before .before .before .before .before .before .before .args in
@@ -55,13 +31,5 @@ returns c =
 pub widened-spec : {M : Type 1} → statement M
 widened-spec =
     tie.close
-    (tie.spec
-    start-edge-requires
-    lesser-requires
-    start-edge-requires-2
-    lesser-requires-2
-    end-edge-requires
-    greater-requires
-    end-edge-requires-2
-    greater-requires-2
-    returns)
+    (tie.spec (λ c κs. search needs) (λ c κs. search needs) (λ c κs. search needs) (λ c κs. search needs) (λ c κs. search needs)
+    (λ c κs. search needs) (λ c κs. search needs) (λ c κs. search needs) returns)

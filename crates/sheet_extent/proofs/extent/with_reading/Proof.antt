@@ -7,12 +7,6 @@ use borrow.Author.Needs.{needs}
 use Rattle.sheet_extent.proofs.extent.with_reading.Statement.{statement}
 use Rattle.sheet_extent.proofs.extent.with_reading.Tie as tie
 
-measure-reading-requires : tie.Need-measure-reading-requires
-measure-reading-requires c κs = search needs
-
-enum-known-measured : tie.Need-enum-known-measured
-enum-known-measured c = search needs
-
 enum-told : tie.Need-enum-told
 enum-told c = search needs
 
@@ -21,19 +15,10 @@ returns c =
     let a = c .before .before .before .before .args in
     (refused-reading (a .extent) (atOrigin (a .font .now) (a .vertical-pos) (a .k)) (sym (c .before .before .measure-reading .ensures) ∙ ap dimensionsOutcome (c .enum-told .given .1)), c .before .before .before .before .pre)
 
-enum-known-bounding-box : tie.Need-enum-known-bounding-box
-enum-known-bounding-box c = search needs
-
-enum-told-2 : tie.Need-enum-told-2
-enum-told-2 c = search needs
-
 returns-2 : tie.Need-returns-2
 returns-2 c =
     let a = c .before .before .before .before .before .before .before .args in
     (boxless-reading (a .extent) (atOrigin (a .font .now) (a .vertical-pos) (a .k)) (sym (c .before .before .before .before .before .measure-reading .ensures) ∙ ap dimensionsOutcome (c .before .before .before .measured .given .1)) (c .enum-told2 .given .1), c .before .before .before .before .before .before .before .pre)
-
-widened-requires : tie.Need-widened-requires
-widened-requires c κs = search needs
 
 returns-3 : tie.Need-returns-3
 returns-3 c =
@@ -44,13 +29,5 @@ returns-3 c =
 pub with-reading-spec : {M : Type 1} → statement M
 with-reading-spec =
     tie.close
-    (tie.spec
-    measure-reading-requires
-    enum-known-measured
-    enum-told
-    returns
-    enum-known-bounding-box
-    enum-told-2
-    returns-2
-    widened-requires
-    returns-3)
+    (tie.spec (λ c κs. search needs) (λ c. search needs) enum-told returns (λ c. search needs) (λ c. search needs) returns-2
+    (λ c κs. search needs) returns-3)

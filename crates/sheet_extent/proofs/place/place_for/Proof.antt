@@ -10,18 +10,6 @@ use borrow.Author.Needs.{needs}
 use Rattle.sheet_extent.proofs.place.place_for.Statement.{statement}
 use Rattle.sheet_extent.proofs.place.place_for.Tie as tie
 
-measure-all-requires : tie.Need-measure-all-requires
-measure-all-requires c κs = search needs
-
-position-for-requires : tie.Need-position-for-requires
-position-for-requires c κs = search needs
-
-side-requires : tie.Need-side-requires
-side-requires c κs = search needs
-
-side-requires-2 : tie.Need-side-requires-2
-side-requires-2 c κs = search needs
-
 returns : tie.Need-returns
 returns c =
     let a = c .before .before .before .before .before .before .before .before .before .args in
@@ -39,4 +27,4 @@ returns c =
 pub place-for-spec : {M : Type 1} → statement M
 place-for-spec =
     tie.close
-    (tie.spec measure-all-requires position-for-requires side-requires side-requires-2 returns)
+    (tie.spec (λ c κs. search needs) (λ c κs. search needs) (λ c κs. search needs) (λ c κs. search needs) returns)

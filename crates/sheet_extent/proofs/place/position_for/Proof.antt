@@ -10,20 +10,8 @@ use borrow.Author.Needs.{needs}
 use Rattle.sheet_extent.proofs.place.position_for.Statement.{statement}
 use Rattle.sheet_extent.proofs.place.position_for.Tie as tie
 
-enum-known-wanted : tie.Need-enum-known-wanted
-enum-known-wanted c = search needs
-
 enum-told : tie.Need-enum-told
 enum-told c = search needs
-
-inside-requires : tie.Need-inside-requires
-inside-requires c κs = search needs
-
-inside-requires-2 : tie.Need-inside-requires-2
-inside-requires-2 c κs = search needs
-
-returns : tie.Need-returns
-returns c = search needs
 
 returns-2 : tie.Need-returns-2
 returns-2 c =
@@ -37,4 +25,4 @@ returns-2 c =
 pub position-for-spec : {M : Type 1} → statement M
 position-for-spec =
     tie.close
-    (tie.spec enum-known-wanted enum-told inside-requires inside-requires-2 returns returns-2)
+    (tie.spec (λ c. search needs) enum-told (λ c κs. search needs) (λ c κs. search needs) (λ c. search needs) returns-2)

@@ -5,12 +5,6 @@ use borrow.Author.Needs.{needs}
 use Rattle.sheet_image.proofs.band.begin_band.Statement.{statement}
 use Rattle.sheet_image.proofs.band.begin_band.Tie as tie
 
-fill-requires : tie.Need-fill-requires
-fill-requires c κs = search needs
-
-same-length : tie.Need-same-length
-same-length c = search needs
-
 returns : tie.Need-returns
 returns c = c .before .before .fill .ensures ∙ begins-white (c .before .before .before .before .before .before .args .j) (c .before .before .before .before .before .before .args .band .now) (c .before .before .before .before .if1 .taken)
 
@@ -18,4 +12,4 @@ returns-2 : tie.Need-returns-2
 returns-2 c = goes-on (c .before .before .args .j) (c .before .before .args .band .now) (c .if1 .left)
 
 pub begin-band-spec : {M : Type 1} → statement M
-begin-band-spec = tie.close (tie.spec fill-requires same-length returns returns-2)
+begin-band-spec = tie.close (tie.spec (λ c κs. search needs) (λ c. search needs) returns returns-2)

@@ -8,9 +8,6 @@ use borrow.Author.Needs.{needs}
 use Rattle.sheet_image.proofs.band.columns.Statement.{statement}
 use Rattle.sheet_image.proofs.band.columns.Tie as tie
 
-div-n : tie.Need-div-n
-div-n c = search needs
-
 returns : tie.Need-returns
 returns c =
     let a = c .before .args in
@@ -24,4 +21,4 @@ returns-2 c =
     (k .0, (omega arith, k .1))
 
 pub columns-spec : {M : Type 1} → statement M
-columns-spec = tie.close (tie.spec div-n returns returns-2)
+columns-spec = tie.close (tie.spec (λ c. search needs) returns returns-2)

@@ -8,9 +8,6 @@ use borrow.Author.Needs.{needs}
 use Rattle.sheet_image.proofs.band.put_cell.Statement.{statement}
 use Rattle.sheet_image.proofs.band.put_cell.Tie as tie
 
-begin-band-requires : tie.Need-begin-band-requires
-begin-band-requires c κs = search needs
-
 mul-place-cell : tie.Need-mul-place-cell
 mul-place-cell c = omega (arith, band-products (c .before .before .before .before .before .before .before .pre))
 
@@ -20,36 +17,15 @@ mul-place-cell-2 c = omega (arith, band-products (c .before .before .before .bef
 place-cell-requires : tie.Need-place-cell-requires
 place-cell-requires c κs = band-cell (c .before .before .before .before .before .before .before .pre) (c .before .before .band .given)
 
-write-all-requires : tie.Need-write-all-requires
-write-all-requires c κs = search needs
-
-same-length : tie.Need-same-length
-same-length c = search needs
-
 returns : tie.Need-returns
 returns c =
     let a = c .before .before .before .before .before .before .before .before .before .before .before .before .before .args in
     ((last-cell (a .n) (a .j) (a .is-last) (c .before .before .if1 .taken), omega (arith, c .before .before .before .before .before .before .before .before .before .before .before .before .before .pre .some)), c .before .before .before .before .before .place-cell .ensures ∙ ap (withCell (a .n * a .width) (a .j * a .width) (a .screen .now) (a .width) (a .height)) (c .before .before .before .before .before .before .before .before .before .begin-band .ensures))
 
-add-if2 : tie.Need-add-if2
-add-if2 c = search needs
-
-add-result : tie.Need-add-result
-add-result c = search needs
-
-same-length-2 : tie.Need-same-length-2
-same-length-2 c = search needs
-
 returns-2 : tie.Need-returns-2
 returns-2 c =
     let a = c .before .before .before .before .before .before .before .before .before .before .before .before .args in
     ((cell-after (a .n) (a .j) (a .is-last) (c .before .if1 .left) (c .if2 .taken), c .if2 .taken), c .before .before .before .before .place-cell .ensures ∙ ap (withCell (a .n * a .width) (a .j * a .width) (a .screen .now) (a .width) (a .height)) (c .before .before .before .before .before .before .before .before .begin-band .ensures))
-
-write-all-requires-2 : tie.Need-write-all-requires-2
-write-all-requires-2 c κs = search needs
-
-same-length-3 : tie.Need-same-length-3
-same-length-3 c = search needs
 
 returns-3 : tie.Need-returns-3
 returns-3 c =
@@ -59,18 +35,6 @@ returns-3 c =
 pub put-cell-spec : {M : Type 1} → statement M
 put-cell-spec =
     tie.close
-    (tie.spec
-    begin-band-requires
-    mul-place-cell
-    mul-place-cell-2
-    place-cell-requires
-    write-all-requires
-    same-length
-    returns
-    add-if2
-    add-result
-    same-length-2
-    returns-2
-    write-all-requires-2
-    same-length-3
-    returns-3)
+    (tie.spec (λ c κs. search needs) mul-place-cell mul-place-cell-2 place-cell-requires (λ c κs. search needs)
+    (λ c. search needs) returns (λ c. search needs) (λ c. search needs) (λ c. search needs) returns-2 (λ c κs. search needs)
+    (λ c. search needs) returns-3)

@@ -15,27 +15,6 @@ Inv-loop band₀ start cell from width i₀ band i = (i ≤ width) × RowCopied 
 abbrev μ-loop : tie.MeasureT-loop
 μ-loop band₀ start cell from width i₀ band i = width - i
 
-loop-holds : tie.Need-loop-holds Inv-loop μ-loop
-loop-holds c = search needs
-
-add-band : tie.Need-add-band Inv-loop μ-loop
-add-band c = search needs
-
-shared-slice-read-band : tie.Need-shared-slice-read-band Inv-loop μ-loop
-shared-slice-read-band c = search needs
-
-add-band-2 : tie.Need-add-band-2 Inv-loop μ-loop
-add-band-2 c = search needs
-
-slice-write-band : tie.Need-slice-write-band Inv-loop μ-loop
-slice-write-band c = search needs
-
-add-i : tie.Need-add-i Inv-loop μ-loop
-add-i c = search needs
-
-loop-less : tie.Need-loop-less Inv-loop μ-loop
-loop-less c = search needs
-
 loop-again : tie.Need-loop-again Inv-loop μ-loop
 loop-again c =
     let a = c .before .before .before .args in
@@ -55,16 +34,5 @@ returns c =
 pub copy-row-spec : {M : Type 1} → statement M
 copy-row-spec =
     tie.close
-    (tie.spec
-    Inv-loop
-    μ-loop
-    loop-holds
-    add-band
-    shared-slice-read-band
-    add-band-2
-    slice-write-band
-    add-i
-    loop-less
-    loop-again
-    same-length
-    returns)
+    (tie.spec Inv-loop μ-loop (λ c. search needs) (λ c. search needs) (λ c. search needs) (λ c. search needs) (λ c. search needs)
+    (λ c. search needs) (λ c. search needs) loop-again same-length returns)

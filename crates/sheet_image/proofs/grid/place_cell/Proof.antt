@@ -35,21 +35,12 @@ mul-copy-row-2 c = omega (arith, cell-row (c .before .before .before .before .be
 copy-row-requires : tie.Need-copy-row-requires Inv-loop μ-loop
 copy-row-requires c κs = (omega (arith, (c .before .before .before .before .before .pre) .right, band-row (c .before .before .before .before .before .pre) (c .before .before .loop .y) (c .before .loop-test .taken), c .before .before .loop .inv .1 .0), omega (arith, cell-row (c .before .before .before .before .before .pre) (c .before .before .loop .y) (c .before .loop-test .taken)))
 
-add-y : tie.Need-add-y Inv-loop μ-loop
-add-y c = search needs
-
-loop-less : tie.Need-loop-less Inv-loop μ-loop
-loop-less c = search needs
-
 loop-again : tie.Need-loop-again Inv-loop μ-loop
 loop-again c =
     let a = c .before .before .before .before .before .before .before .before .args in
     let f = c .before .before .before .before .before .before .before .before .pre in
     let l = c .before .before .before .before .before .loop in
     (omega arith, (omega (arith, c .before .band .given, l .inv .1 .0), next-row (a .band-width) (a .column) (a .cell .now) (a .width) (a .band .now) (l .band) _ (l .y) (f .right) (omega (arith, f .some, f .right)) (l .inv .1 .1) (c .before .before .copy-row .ensures)))
-
-same-length : tie.Need-same-length Inv-loop μ-loop
-same-length c = search needs
 
 returns : tie.Need-returns Inv-loop μ-loop
 returns c =
@@ -61,16 +52,5 @@ returns c =
 pub place-cell-spec : {M : Type 1} → statement M
 place-cell-spec =
     tie.close
-    (tie.spec
-    Inv-loop
-    μ-loop
-    loop-holds
-    mul-copy-row
-    add-copy-row
-    mul-copy-row-2
-    copy-row-requires
-    add-y
-    loop-less
-    loop-again
-    same-length
-    returns)
+    (tie.spec Inv-loop μ-loop loop-holds mul-copy-row add-copy-row mul-copy-row-2 copy-row-requires (λ c. search needs)
+    (λ c. search needs) loop-again (λ c. search needs) returns)

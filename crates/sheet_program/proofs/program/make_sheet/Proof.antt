@@ -15,9 +15,6 @@ fits c =
     let a = c .before .before .before .before .before .before .args in
     subst (λ (p : Place). PlaceFits (p .width) (p .height)) (sym (c .place-for .ensures .0)) (fits-for (a .font .now) (a .options))
 
-place-for-requires : tie.Need-place-for-requires
-place-for-requires c κs = search needs
-
 mul-cell : tie.Need-mul-cell
 mul-cell c = omega (arith, place-size (fits (c .before)))
 
@@ -44,18 +41,6 @@ fill-sheet-requires c κs =
     let s = c .before .before .before .before .before .before .before .before .before .before .before in
     sheet-fits (fits (c .before .before .before .before .before)) (s .args .ground .now) (s .args .screen .now) (s .args .alone .now) (s .args .band .now) (s .pre .0) (s .pre .1 .0) (s .pre .1 .1 .0) (s .pre .1 .1 .1)
 
-same-length : tie.Need-same-length
-same-length c = search needs
-
-same-length-2 : tie.Need-same-length-2
-same-length-2 c = search needs
-
-same-length-3 : tie.Need-same-length-3
-same-length-3 c = search needs
-
-same-length-4 : tie.Need-same-length-4
-same-length-4 c = search needs
-
 returns : tie.Need-returns
 returns c =
     let a = c .before .before .before .before .before .before .before .before .before .before .before .before .before .before .before .before .before .before .before .before .args in
@@ -64,18 +49,6 @@ returns c =
 pub make-sheet-spec : {M : Type 1} → statement M
 make-sheet-spec =
     tie.close
-    (tie.spec
-    place-for-requires
-    mul-cell
-    slice-relend-prefix-fill-sheet
-    slice-aggregate-fill-sheet
-    slice-relend-prefix-fill-sheet-2
-    slice-aggregate-fill-sheet-2
-    slice-relend-prefix-fill-sheet-3
-    slice-aggregate-fill-sheet-3
-    fill-sheet-requires
-    same-length
-    same-length-2
-    same-length-3
-    same-length-4
-    returns)
+    (tie.spec (λ c κs. search needs) mul-cell slice-relend-prefix-fill-sheet slice-aggregate-fill-sheet
+    slice-relend-prefix-fill-sheet-2 slice-aggregate-fill-sheet-2 slice-relend-prefix-fill-sheet-3 slice-aggregate-fill-sheet-3
+    fill-sheet-requires (λ c. search needs) (λ c. search needs) (λ c. search needs) (λ c. search needs) returns)

@@ -31,22 +31,10 @@ loop-holds c =
     let s = start-screen (a .narrow) (a .font .now) (a .place) (a .ground .now) in
     (omega arith, (omega (arith, c .columns .ensures .0), (refl, (refl, (refl, (ap (screenOf 901) (c .before .before .before .before .before .before .pre .1) ∙ s, start-totals (a .narrow) (a .font .now) (a .place) (a .ground .now)))))))
 
-step-requires : tie.Need-step-requires Inv-loop μ-loop
-step-requires c κs = search needs
-
-report-requires : tie.Need-report-requires Inv-loop μ-loop
-report-requires c κs = search needs
-
 counted-requires : tie.Need-counted-requires Inv-loop μ-loop
 counted-requires c κs =
     let a = c .before .before .before .before .before .before .before .before .before .before .before .before .before .before .before .before .args in
     few (a .narrow) (a .font .now) (a .place) (a .ground .now) (c .before .before .before .before .before .before .before .before .loop-test .taken) (c .before .before .before .before .before .before .before .before .before .loop .inv .1 .1 .1 .1 .1 .1)
-
-add-is-last : tie.Need-add-is-last Inv-loop μ-loop
-add-is-last c = search needs
-
-slice-relend-prefix-put-cell : tie.Need-slice-relend-prefix-put-cell Inv-loop μ-loop
-slice-relend-prefix-put-cell c = search needs
 
 slice-aggregate-put-cell : tie.Need-slice-aggregate-put-cell Inv-loop μ-loop
 slice-aggregate-put-cell c =
@@ -64,12 +52,6 @@ put-cell-requires c κs =
     (length-take-le (n .result * length (s .args .ground .now)) (l .band) (omega (arith, n .ensures .1 .1, s .pre .0 .enough, l .inv .1 .1 .1 .1 .0)))
     (c .before .before .before .before .before .before .before .screen .given ∙ l .inv .1 .1 .0)
 
-add-k : tie.Need-add-k Inv-loop μ-loop
-add-k c = search needs
-
-loop-less : tie.Need-loop-less Inv-loop μ-loop
-loop-less c = search needs
-
 loop-again : tie.Need-loop-again Inv-loop μ-loop
 loop-again c =
     let a = c .before .before .before .before .before .before .before .before .before .before .before .before .before .before .before .before .before .before .before .before .before .before .args in
@@ -79,15 +61,6 @@ loop-again c =
     let next-s = next-screen (a .narrow) (a .font .now) (a .place) (a .ground .now) (e .0) finds in
     let next-t = next-totals (a .narrow) (a .font .now) (a .place) (a .ground .now) (e .0) finds (e .1) (c .before .before .before .before .before .counted .ensures) in
     (omega arith, (c .before .before .put-cell .ensures .0 .1, (omega (arith, c .before .before .before .before .before .before .before .before .before .before .screen .given, l .inv .1 .1 .0), (omega (arith, c .before .before .before .before .before .before .before .before .alone .given, l .inv .1 .1 .1 .0), (omega (arith, c .before .band .given, l .inv .1 .1 .1 .1 .0), (next-s, next-t))))))
-
-same-length : tie.Need-same-length Inv-loop μ-loop
-same-length c = search needs
-
-same-length-2 : tie.Need-same-length-2 Inv-loop μ-loop
-same-length-2 c = search needs
-
-same-length-3 : tie.Need-same-length-3 Inv-loop μ-loop
-same-length-3 c = search needs
 
 returns : tie.Need-returns Inv-loop μ-loop
 returns c =
@@ -106,23 +79,6 @@ returns c =
 pub run-spec : {M : Type 1} → statement M
 run-spec =
     tie.close
-    (tie.spec
-    Inv-loop
-    μ-loop
-    columns-requires
-    mul-used
-    loop-holds
-    step-requires
-    report-requires
-    counted-requires
-    add-is-last
-    slice-relend-prefix-put-cell
-    slice-aggregate-put-cell
-    put-cell-requires
-    add-k
-    loop-less
-    loop-again
-    same-length
-    same-length-2
-    same-length-3
-    returns)
+    (tie.spec Inv-loop μ-loop columns-requires mul-used loop-holds (λ c κs. search needs) (λ c κs. search needs) counted-requires
+    (λ c. search needs) (λ c. search needs) slice-aggregate-put-cell put-cell-requires (λ c. search needs) (λ c. search needs)
+    loop-again (λ c. search needs) (λ c. search needs) (λ c. search needs) returns)
