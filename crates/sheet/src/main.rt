@@ -13,5 +13,5 @@ fn main() {
         return;
     }
     let options = asked.options;
-    start(options);
+    start(b"font.bin", options);
 }

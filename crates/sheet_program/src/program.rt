@@ -118,9 +118,8 @@ fn show_sheet(font: &[u8], options: Options) {
     }
 }
 
-// The program: the font is font.bin.
-pub fn start(options: Options) {
-    let path = b"font.bin";
+// The program, for the font in that file.
+pub fn start(path: &[u8], options: Options) {
     let mut font = font_file::buffer();
     match font_file::read(path, &mut font) {
         FontFile::Unreadable => os::fail(path),

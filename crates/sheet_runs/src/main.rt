@@ -1,0 +1,37 @@
+// The sheet's stored runs. With the fault put in, one column too few filled, its output lists the angles at which an old pixel stays.
+// At a place from which the readings run off the framebuffer, to the left and above, and in a font that ends within its "5", each
+// reading with a 5 is refused after its first characters, its field stays empty, and the next one leaves no difference.
+use sheet_extent::values::Options;
+use sheet_extent::values::Wanted;
+use sheet_program::program::start;
+use types::geometry::Point;
+use types::style::VerticalPosition;
+
+fn run_narrow() {
+    printing::text(b"narrow: one column too few is filled\n");
+    start(
+        b"gauge.bin",
+        Options {
+            vertical_pos: VerticalPosition::Baseline,
+            wanted: Wanted::Seen,
+            narrow: true,
+        },
+    );
+}
+
+fn run_cut() {
+    printing::text(b"top at -9 -4, in a font that ends within its 5\n");
+    start(
+        b"cut.bin",
+        Options {
+            vertical_pos: VerticalPosition::Top,
+            wanted: Wanted::At(Point { x: -9, y: -4 }),
+            narrow: false,
+        },
+    );
+}
+
+fn main() {
+    run_narrow();
+    run_cut();
+}
