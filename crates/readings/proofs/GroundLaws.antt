@@ -112,7 +112,8 @@ module _ (font : List ℕ) (place : Place) (fits : PlaceFits (place .width) (pla
         by (yes p) = clear k p e f column row c r i
         by (no p) = let last : n ≡ k = omega arith in absurd (not-both (sym m ∙ ap (λ (j : ℕ). measured font (reading place j)) last ∙ f))
 
-    rubbish-next : (o : Outcome RenderedDimensions) → measured font (reading place n) ≡ o → RubbishBeside n font place bytes → RubbishBeside (suc n) font place (clearedBy (place .width) (place .background) o bytes)
+    rubbish-next : (o : Outcome RenderedDimensions) → measured font (reading place n) ≡ o → RubbishBeside n font place bytes
+        → RubbishBeside (suc n) font place (clearedBy (place .width) (place .background) o bytes)
     rubbish-next (success d) m stays column row c r out =
         beside place fits bytes whole column row c r (d .«bounding_box») (λ i. out n (omega arith) d m i)
         ∙ stays column row c r (λ k h e f i. out k (omega arith) e f i)

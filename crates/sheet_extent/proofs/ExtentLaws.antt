@@ -29,9 +29,9 @@ use Rattle.readings.specs.declared.values.Place.{Place}
 use Rattle.sheet_extent.specs.declared.values.Wanted.{Wanted}
 use Rattle.sheet_extent.specs.declared.values.Wanted.the-variants.{Seen, At}
 use Rattle.definitions.proofs.MovedLaws.{measured-at-zero}
-use Rattle.readings.specs.Readings.{readingText, reading}
-use Rattle.readings.specs.Readings.{PlaceFits}
-use Rattle.sheet_extent.specs.Extent.{atOrigin, widened, withBox, withReading, extentOf, Within, HoldsReadings, NearExtent, beforeZero, inside, positionFor, sideOf, side, placeAt, placeFor, Uncut, OnFramebuffer, AllSeen}
+use Rattle.readings.specs.Readings.{readingText, reading, PlaceFits}
+use Rattle.sheet_extent.specs.Extent.{atOrigin, widened, withBox, withReading, extentOf, Within, HoldsReadings, NearExtent}
+use Rattle.sheet_extent.specs.Extent.{beforeZero, inside, positionFor, sideOf, side, placeAt, placeFor, Uncut, OnFramebuffer, AllSeen}
 
 -- ---- between the edges
 
@@ -53,13 +53,24 @@ module _ (e : Extent) (r : Rectangle) where
   }
 
 -- Edges of 32 bits leave them in reach.
+abbrev Near : ℤ → Type 0
+Near z = (negsuc 8589934591 ≤ℤ z) × (z ≤ℤ pos 8589934592)
+
+near-first : {edge start : ℤ} → Near edge → SFits w32 start → Near (minZ edge start)
+near-first {edge} {start} a f = (omega (zarith, min-is edge start, range f), omega (zarith, min-is edge start, range f))
+
+near-last : {edge start : ℤ} {len : ℕ} → Near edge → SFits w32 start → len < 2 ^ 32 → Near (maxZ edge (start +ℤ pos len))
+near-last {edge} {start} {len} a f h =
+    let m = max-is edge (start +ℤ pos len) in
+    (omega (zarith, m, plus start (pos len), range f), omega (zarith, m, plus start (pos len), range f))
+
 pub near-widened : (e : Extent) (r : Rectangle) → NearExtent e → SFits w32 (left r) → SFits w32 (top r) → r .size .width < 2 ^ 32 → r .size .height < 2 ^ 32
     → NearExtent (widened e r)
 near-widened e r n f g w h = record {
-  left = let a = n .left in (omega (zarith, min-is (e .left) (left r), range f), omega (zarith, min-is (e .left) (left r), range f));
-  top = let a = n .top in (omega (zarith, min-is (e .top) (top r), range g), omega (zarith, min-is (e .top) (top r), range g));
-  right = let a = n .right in (omega (zarith, max-is (e .right) (right r), plus (left r) (pos (r .size .width)), range f), omega (zarith, max-is (e .right) (right r), plus (left r) (pos (r .size .width)), range f));
-  bottom = let a = n .bottom in (omega (zarith, max-is (e .bottom) (bottom r), plus (top r) (pos (r .size .height)), range g), omega (zarith, max-is (e .bottom) (bottom r), plus (top r) (pos (r .size .height)), range g));
+  left = near-first (n .left) f;
+  top = near-first (n .top) g;
+  right = near-last (n .right) f w;
+  bottom = near-last (n .bottom) g h;
 }
 
 -- an edge as the code stores it: a choice between one of 64 bits and one that a call made of 32 bits

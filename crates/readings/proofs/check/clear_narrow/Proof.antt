@@ -1,5 +1,7 @@
 -- The narrowed box of what drawing the text would answer is filled.
 use mathlib.Core.Path.{_≡_, sym, ap, _∙_}
+use mathlib.Core.List.{List}
+use Prim.Native.Nat.{ℕ}
 use Rattle.types.specs.declared.geometry.BoundingBox.{BoundingBox}
 use Rattle.definitions.specs.Framebuffer.{shown}
 use Rattle.definitions.specs.Calls.{dimensionsOutcome}
@@ -18,7 +20,8 @@ returns-2 : tie.Need-returns-2
 returns-2 c =
     let a = c .before .before .before .before .before .before .before .before .before .before .before .before .args in
     let e = sym (c .before .before .before .before .before .before .before .before .get-drawn-dimensions .ensures) ∙ ap dimensionsOutcome (c .before .before .before .before .before .before .drawn .given .1) in
-    rw e (c .before .before .fill-box .ensures ∙ ap (λ (b : BoundingBox). shown (a .place .width) (fillPicture (a .place .background) b) (a .screen .now)) (c .before .before .before .before .narrowed .ensures))
+    let filled : BoundingBox → List ℕ = λ b. shown (a .place .width) (fillPicture (a .place .background) b) (a .screen .now) in
+    rw e (c .before .before .fill-box .ensures ∙ ap filled (c .before .before .before .before .narrowed .ensures))
 
 pub clear-narrow-spec : {M : Type 1} → statement M
 clear-narrow-spec =

@@ -14,13 +14,18 @@ returns : tie.Need-returns
 returns c =
     let a = c .before .before .before .before .before .before .before .before .before .before .before .before .before .before .before .before .args in
     let r = c .before .before .before .before .render .ensures in
-    drawn-alone (a .font .now) (asked (a .place) (a .text .now)) (framebuffer (a .place) (a .ground .now)) (c .before .before .before .before .before .before .before .before .before .before .copy .ensures) (r .0) (r .1) (ap dimensionsOutcome (c .enum-told .given .1))
+    let copied = c .before .before .before .before .before .before .before .before .before .before .copy .ensures in
+    drawn-alone (a .font .now) (asked (a .place) (a .text .now)) (framebuffer (a .place) (a .ground .now)) copied (r .0) (r .1)
+    (ap dimensionsOutcome (c .enum-told .given .1))
 
 returns-2 : tie.Need-returns-2
 returns-2 c =
     let a = c .before .before .before .before .before .before .before .before .before .before .before .before .before .before .before .before .before .before .before .before .args in
+    let r = c .before .before .before .before .before .before .before .before .render .ensures in
+    let copied = c .before .before .before .before .before .before .before .before .before .before .before .before .before .before .copy .ensures in
     c .before .before .copy2 .ensures
-    ∙ refused-alone (a .font .now) (asked (a .place) (a .text .now)) (framebuffer (a .place) (a .ground .now)) (c .before .before .before .before .before .before .before .before .before .before .before .before .before .before .copy .ensures) (c .before .before .before .before .before .before .before .before .render .ensures .0) (ap dimensionsOutcome (c .before .before .before .before .enum-told2 .given .1))
+    ∙ refused-alone (a .font .now) (asked (a .place) (a .text .now)) (framebuffer (a .place) (a .ground .now)) copied (r .0)
+    (ap dimensionsOutcome (c .before .before .before .before .enum-told2 .given .1))
 
 pub draw-alone-spec : {M : Type 1} → statement M
 draw-alone-spec =

@@ -1,6 +1,8 @@
 -- Without the fault the step is the gauge's.
 use mathlib.Core.Path.{_≡_, sym, ap, _∙_}
 use mathlib.Core.Bool.{Bool}
+use mathlib.Core.List.{List}
+use Prim.Native.Nat.{ℕ}
 use Rattle.readings.specs.Readings.{asked, framebuffer}
 use Rattle.readings.specs.Sheet.{stepBuffer}
 use Rattle.readings.proofs.NarrowLaws.{faultless}
@@ -12,7 +14,10 @@ returns : tie.Need-returns
 returns c =
     let a = c .before .before .before .before .before .before .before .before .before .args in
     let r = c .before .before .redraw-narrow .ensures in
-    (r .0, r .1 ∙ ap (λ (b : Bool). stepBuffer b (a .font .now) (a .old-text .now) (asked (a .place) (a .new-text .now)) (a .place .background) (framebuffer (a .place) (a .screen .now))) (sym (c .before .before .before .before .if1 .taken)))
+    let new = asked (a .place) (a .new-text .now) in
+    let screen = framebuffer (a .place) (a .screen .now) in
+    let left : Bool → List ℕ = λ b. stepBuffer b (a .font .now) (a .old-text .now) new (a .place .background) screen in
+    (r .0, r .1 ∙ ap left (sym (c .before .before .before .before .if1 .taken)))
 
 returns-2 : tie.Need-returns-2
 returns-2 c =

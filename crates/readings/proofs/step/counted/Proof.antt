@@ -10,7 +10,9 @@ enum-told : tie.Need-enum-told
 enum-told c = search needs
 
 add-t7 : tie.Need-add-t7
-add-t7 c = omega (arith, at-most (c .before .before .before .before .before .args .found .differing), c .before .before .before .before .one-if-any .ensures, c .before .before .before .before .before .pre .differing)
+add-t7 c =
+    let s = c .before .before .before .before .before in
+    omega (arith, at-most (s .args .found .differing), c .before .before .before .before .one-if-any .ensures, s .pre .differing)
 
 add-t8 : tie.Need-add-t8
 add-t8 c = omega (arith, at-most (c .before .before .before .before .args .found .differing), c .before .before .before .one-if-any .ensures, c .before .before .before .before .pre .differing)

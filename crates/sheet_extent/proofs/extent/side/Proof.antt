@@ -21,13 +21,21 @@ sum-fits : (c : tie.Start) → SFits w64 (c .args .start +ℤ c .args .end)
 sum-fits c = omega (zarith, c .pre .0, c .pre .1, plus (c .args .start) (c .args .end), range (c .fits .start))
 
 total-fits : (c : tie.Start) → SFits w64 (total c)
-total-fits c = omega (zarith, c .pre .0, c .pre .1, plus (c .args .start) (c .args .end), plus (c .args .start +ℤ c .args .end) (pos 3), range (c .fits .start))
+total-fits c =
+    let a = c .args in
+    omega (zarith, c .pre .0, c .pre .1, plus (a .start) (a .end), plus (a .start +ℤ a .end) (pos 3), range (c .fits .start))
 
 low : (c : tie.Else2) → pos 1 ≤ℤ total (c .before .before)
-low c = let t = simp (toZ-ofZ, c .before .before .fits .start, wide (c .before .before), c .before .before .fits .end, sum-fits (c .before .before), total-fits (c .before .before)) at (c .before .if1 .left) in omega zarith
+low c =
+    let s = c .before .before in
+    let t = simp (toZ-ofZ, s .fits .start, wide s, s .fits .end, sum-fits s, total-fits s) at (c .before .if1 .left) in
+    omega zarith
 
 high : (c : tie.Else2) → total (c .before .before) ≤ℤ pos 256
-high c = let t = simp (toZ-ofZ, c .before .before .fits .start, wide (c .before .before), c .before .before .fits .end, sum-fits (c .before .before), total-fits (c .before .before)) at (c .if2 .left) in omega zarith
+high c =
+    let s = c .before .before in
+    let t = simp (toZ-ofZ, s .fits .start, wide s, s .fits .end, sum-fits s, total-fits s) at (c .if2 .left) in
+    omega zarith
 
 cast-n : tie.Need-cast-n
 cast-n c = simp (toZ-ofZ, c .fits .start) (wide c)
@@ -39,16 +47,25 @@ add-n-2 : tie.Need-add-n-2
 add-n-2 c = simp (toZ-ofZ, c .fits .start, wide c, c .fits .end, sum-fits c) (total-fits c)
 
 returns : tie.Need-returns
-returns c = short-side (total (c .before)) (simp (toZ-ofZ, c .before .fits .start, wide (c .before), c .before .fits .end, sum-fits (c .before), total-fits (c .before)) at (c .if1 .taken))
+returns c =
+    let s = c .before in
+    short-side (total s) (simp (toZ-ofZ, s .fits .start, wide s, s .fits .end, sum-fits s, total-fits s) at (c .if1 .taken))
 
 returns-2 : tie.Need-returns-2
-returns-2 c = long-side (total (c .before .before)) (simp (toZ-ofZ, c .before .before .fits .start, wide (c .before .before), c .before .before .fits .end, sum-fits (c .before .before), total-fits (c .before .before)) at (c .if2 .taken))
+returns-2 c =
+    let s = c .before .before in
+    long-side (total s) (simp (toZ-ofZ, s .fits .start, wide s, s .fits .end, sum-fits s, total-fits s) at (c .if2 .taken))
 
 cast-result : tie.Need-cast-result
-cast-result c = simp (toZ-ofZ, c .before .before .fits .start, wide (c .before .before), c .before .before .fits .end, sum-fits (c .before .before), total-fits (c .before .before)) (castable tt (total-fits (c .before .before)) (let l = low c in omega zarith))
+cast-result c =
+    let s = c .before .before in
+    let l = low c in
+    simp (toZ-ofZ, s .fits .start, wide s, s .fits .end, sum-fits s, total-fits s) (castable tt (total-fits s) (omega zarith))
 
 returns-3 : tie.Need-returns-3
-returns-3 c = simp (toZ-ofZ, c .before .before .fits .start, wide (c .before .before), c .before .before .fits .end, sum-fits (c .before .before), total-fits (c .before .before)) (whole-side (total (c .before .before)) (low c) (high c))
+returns-3 c =
+    let s = c .before .before in
+    simp (toZ-ofZ, s .fits .start, wide s, s .fits .end, sum-fits s, total-fits s) (whole-side (total s) (low c) (high c))
 
 pub side-spec : {M : Type 1} → statement M
 side-spec =

@@ -1,5 +1,6 @@
 -- `widened` meets its contract: each edge is chosen and stored, and ExtentLaws.antt has that it stays in reach. Assumes nothing.
 use mathlib.Core.Path.{_≡_, refl, sym, ap, subst, _∙_}
+use Prim.Native.Nat.{_<_, _^_}
 use lib.IntN.{ℤ, pos, _+ℤ_}
 use mir.Syntax.{w32, w64}
 use mir.Val.{SFits}
@@ -19,14 +20,26 @@ returns c =
     let fb : SFits w64 (a .extent .bottom) = search needs in
     let fx : SFits w32 (a .r .«top_left» .x) = search needs in
     let fy : SFits w32 (a .r .«top_left» .y) = search needs in
+    let fw : a .r .size .width < 2 ^ 32 = search needs in
+    let fh : a .r .size .height < 2 ^ 32 = search needs in
     let x = stored w32 (fx .sfits) refl in
     let y = stored w32 (fy .sfits) refl in
-    let l = least-stored (c .before .before .before .before .before .before .before .before .before .before .before .before .lesser .ok) (c .before .before .before .before .before .before .before .before .before .before .before .before .before .before .start-edge .ok) fl (c .before .before .before .before .before .before .before .before .before .before .before .before .lesser .ensures) (c .before .before .before .before .before .before .before .before .before .before .before .before .before .before .start-edge .ensures ∙ x) in
-    let t = least-stored (c .before .before .before .before .before .before .before .before .lesser2 .ok) (c .before .before .before .before .before .before .before .before .before .before .start-edge2 .ok) ft (c .before .before .before .before .before .before .before .before .lesser2 .ensures) (c .before .before .before .before .before .before .before .before .before .before .start-edge2 .ensures ∙ y) in
-    let r = most-stored (c .before .before .before .before .greater .ok) (c .before .before .before .before .before .before .end-edge .ok) fr (c .before .before .before .before .greater .ensures) (c .before .before .before .before .before .before .end-edge .ensures ∙ ap (λ (z : ℤ). z +ℤ pos (a .r .size .width)) x) in
-    let m = most-stored (c .greater2 .ok) (c .before .before .end-edge2 .ok) fb (c .greater2 .ensures) (c .before .before .end-edge2 .ensures ∙ ap (λ (z : ℤ). z +ℤ pos (a .r .size .height)) y) in
+    let left = c .before .before .before .before .before .before .before .before .before .before .before .before in
+    let from-left = c .before .before .before .before .before .before .before .before .before .before .before .before .before .before .start-edge in
+    let l = least-stored (left .lesser .ok) (from-left .ok) fl (left .lesser .ensures) (from-left .ensures ∙ x) in
+    let top = c .before .before .before .before .before .before .before .before in
+    let from-top = c .before .before .before .before .before .before .before .before .before .before .start-edge2 in
+    let t = least-stored (top .lesser2 .ok) (from-top .ok) ft (top .lesser2 .ensures) (from-top .ensures ∙ y) in
+    let right = c .before .before .before .before in
+    let to-right = c .before .before .before .before .before .before .end-edge in
+    let width = ap (λ (z : ℤ). z +ℤ pos (a .r .size .width)) x in
+    let r = most-stored (right .greater .ok) (to-right .ok) fr (right .greater .ensures) (to-right .ensures ∙ width) in
+    let to-bottom = c .before .before .end-edge2 in
+    let height = ap (λ (z : ℤ). z +ℤ pos (a .r .size .height)) y in
+    let m = most-stored (c .greater2 .ok) (to-bottom .ok) fb (c .greater2 .ensures) (to-bottom .ensures ∙ height) in
     let e = four-edges (a .extent) (a .r) l t r m in
-    (e, subst NearExtent (sym e) (near-widened (a .extent) (a .r) (c .before .before .before .before .before .before .before .before .before .before .before .before .before .before .before .before .pre) fx fy (search needs) (search needs)))
+    let near = near-widened (a .extent) (a .r) (c .before .before .before .before .before .before .before .before .before .before .before .before .before .before .before .before .pre) fx fy fw fh in
+    (e, subst NearExtent (sym e) near)
 
 pub widened-spec : {M : Type 1} → statement M
 widened-spec =

@@ -12,19 +12,25 @@ enum-told c = search needs
 
 returns : tie.Need-returns
 returns c =
-    let a = c .before .before .before .before .args in
-    (refused-reading (a .extent) (atOrigin (a .font .now) (a .vertical-pos) (a .k)) (sym (c .before .before .measure-reading .ensures) ∙ ap dimensionsOutcome (c .enum-told .given .1)), c .before .before .before .before .pre)
+    let s = c .before .before .before .before in
+    let a = s .args in
+    let e = sym (c .before .before .measure-reading .ensures) ∙ ap dimensionsOutcome (c .enum-told .given .1) in
+    (refused-reading (a .extent) (atOrigin (a .font .now) (a .vertical-pos) (a .k)) e, s .pre)
 
 returns-2 : tie.Need-returns-2
 returns-2 c =
-    let a = c .before .before .before .before .before .before .before .args in
-    (boxless-reading (a .extent) (atOrigin (a .font .now) (a .vertical-pos) (a .k)) (sym (c .before .before .before .before .before .measure-reading .ensures) ∙ ap dimensionsOutcome (c .before .before .before .measured .given .1)) (c .enum-told2 .given .1), c .before .before .before .before .before .before .before .pre)
+    let s = c .before .before .before .before .before .before .before in
+    let a = s .args in
+    let e = sym (c .before .before .before .before .before .measure-reading .ensures) ∙ ap dimensionsOutcome (c .before .before .before .measured .given .1) in
+    (boxless-reading (a .extent) (atOrigin (a .font .now) (a .vertical-pos) (a .k)) e (c .enum-told2 .given .1), s .pre)
 
 returns-3 : tie.Need-returns-3
 returns-3 c =
     let a = c .before .before .before .before .before .before .before .before .before .args in
     let w = c .widened .ensures in
-    (w .0 ∙ measured-reading (a .extent) (atOrigin (a .font .now) (a .vertical-pos) (a .k)) (sym (c .before .before .before .before .before .before .before .measure-reading .ensures) ∙ ap dimensionsOutcome (c .before .before .before .before .before .measured .given .1)) (c .before .before .bounding-box .given .1), w .1)
+    let e = sym (c .before .before .before .before .before .before .before .measure-reading .ensures) ∙ ap dimensionsOutcome (c .before .before .before .before .before .measured .given .1) in
+    let b = c .before .before .bounding-box .given .1 in
+    (w .0 ∙ measured-reading (a .extent) (atOrigin (a .font .now) (a .vertical-pos) (a .k)) e b, w .1)
 
 pub with-reading-spec : {M : Type 1} → statement M
 with-reading-spec =

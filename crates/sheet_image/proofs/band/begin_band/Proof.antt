@@ -6,7 +6,9 @@ use Rattle.sheet_image.proofs.band.begin_band.Statement.{statement}
 use Rattle.sheet_image.proofs.band.begin_band.Tie as tie
 
 returns : tie.Need-returns
-returns c = c .before .before .fill .ensures ∙ begins-white (c .before .before .before .before .before .before .args .j) (c .before .before .before .before .before .before .args .band .now) (c .before .before .before .before .if1 .taken)
+returns c =
+    let a = c .before .before .before .before .before .before .args in
+    c .before .before .fill .ensures ∙ begins-white (a .j) (a .band .now) (c .before .before .before .before .if1 .taken)
 
 returns-2 : tie.Need-returns-2
 returns-2 c = goes-on (c .before .before .args .j) (c .before .before .args .band .now) (c .if1 .left)

@@ -19,18 +19,24 @@ place-cell-requires c κs = band-cell (c .before .before .before .before .before
 
 returns : tie.Need-returns
 returns c =
-    let a = c .before .before .before .before .before .before .before .before .before .before .before .before .before .args in
-    ((last-cell (a .n) (a .j) (a .is-last) (c .before .before .if1 .taken), omega (arith, c .before .before .before .before .before .before .before .before .before .before .before .before .before .pre .some)), c .before .before .before .before .before .place-cell .ensures ∙ ap (withCell (a .n * a .width) (a .j * a .width) (a .screen .now) (a .width) (a .height)) (c .before .before .before .before .before .before .before .before .before .begin-band .ensures))
+    let s = c .before .before .before .before .before .before .before .before .before .before .before .before .before in
+    let a = s .args in
+    let placed = ap (withCell (a .n * a .width) (a .j * a .width) (a .screen .now) (a .width) (a .height)) (c .before .before .before .before .before .before .before .before .before .begin-band .ensures) in
+    ((last-cell (a .n) (a .j) (a .is-last) (c .before .before .if1 .taken), omega (arith, s .pre .some)), c .before .before .before .before .before .place-cell .ensures ∙ placed)
 
 returns-2 : tie.Need-returns-2
 returns-2 c =
-    let a = c .before .before .before .before .before .before .before .before .before .before .before .before .args in
-    ((cell-after (a .n) (a .j) (a .is-last) (c .before .if1 .left) (c .if2 .taken), c .if2 .taken), c .before .before .before .before .place-cell .ensures ∙ ap (withCell (a .n * a .width) (a .j * a .width) (a .screen .now) (a .width) (a .height)) (c .before .before .before .before .before .before .before .before .begin-band .ensures))
+    let s = c .before .before .before .before .before .before .before .before .before .before .before .before in
+    let a = s .args in
+    let placed = ap (withCell (a .n * a .width) (a .j * a .width) (a .screen .now) (a .width) (a .height)) (c .before .before .before .before .before .before .before .before .begin-band .ensures) in
+    ((cell-after (a .n) (a .j) (a .is-last) (c .before .if1 .left) (c .if2 .taken), c .if2 .taken), c .before .before .before .before .place-cell .ensures ∙ placed)
 
 returns-3 : tie.Need-returns-3
 returns-3 c =
-    let a = c .before .before .before .before .before .before .before .before .before .before .before .before .before .before .args in
-    ((band-after (a .n) (a .j) (a .is-last) (c .before .before .before .if1 .left) (c .before .before .if2 .left), omega (arith, c .before .before .before .before .before .before .before .before .before .before .before .before .before .before .pre .some)), c .before .before .before .before .before .before .place-cell .ensures ∙ ap (withCell (a .n * a .width) (a .j * a .width) (a .screen .now) (a .width) (a .height)) (c .before .before .before .before .before .before .before .before .before .before .begin-band .ensures))
+    let s = c .before .before .before .before .before .before .before .before .before .before .before .before .before .before in
+    let a = s .args in
+    let placed = ap (withCell (a .n * a .width) (a .j * a .width) (a .screen .now) (a .width) (a .height)) (c .before .before .before .before .before .before .before .before .before .before .begin-band .ensures) in
+    ((band-after (a .n) (a .j) (a .is-last) (c .before .before .before .if1 .left) (c .before .before .if2 .left), omega (arith, s .pre .some)), c .before .before .before .before .before .before .place-cell .ensures ∙ placed)
 
 pub put-cell-spec : {M : Type 1} → statement M
 put-cell-spec =

@@ -21,26 +21,43 @@ abbrev μ-loop : tie.MeasureT-loop
 loop-holds : tie.Need-loop-holds Inv-loop μ-loop
 loop-holds c =
     let s = c .before .before in
-    (omega arith, (refl, no-rows (s .args .band-width) (s .args .column) (s .args .cell .now) (s .args .width) (s .args .band .now) (omega (arith, s .pre .some, s .pre .right))))
+    let a = s .args in
+    let some : 0 < a .band-width = omega (arith, s .pre .some, s .pre .right) in
+    (omega arith, (refl, no-rows (a .band-width) (a .column) (a .cell .now) (a .width) (a .band .now) some))
 
 mul-copy-row : tie.Need-mul-copy-row Inv-loop μ-loop
-mul-copy-row c = omega (arith, band-row (c .before .before .before .before .before .pre) (c .before .before .loop .y) (c .before .loop-test .taken), band-small (c .before .before .before .before .before .pre) (c .before .before .loop .y) (c .before .loop-test .taken))
+mul-copy-row c =
+    let f = c .before .before .before .before .before .pre in
+    let y = c .before .before .loop .y in
+    let h = c .before .loop-test .taken in
+    omega (arith, band-row f y h, band-small f y h)
 
 add-copy-row : tie.Need-add-copy-row Inv-loop μ-loop
-add-copy-row c = omega (arith, (c .before .before .before .before .before .pre) .right, band-row (c .before .before .before .before .before .pre) (c .before .before .loop .y) (c .before .loop-test .taken), band-small (c .before .before .before .before .before .pre) (c .before .before .loop .y) (c .before .loop-test .taken))
+add-copy-row c =
+    let f = c .before .before .before .before .before .pre in
+    let y = c .before .before .loop .y in
+    let h = c .before .loop-test .taken in
+    omega (arith, f .right, band-row f y h, band-small f y h)
 
 mul-copy-row-2 : tie.Need-mul-copy-row-2 Inv-loop μ-loop
 mul-copy-row-2 c = omega (arith, cell-row (c .before .before .before .before .before .pre) (c .before .before .loop .y) (c .before .loop-test .taken))
 
 copy-row-requires : tie.Need-copy-row-requires Inv-loop μ-loop
-copy-row-requires c κs = (omega (arith, (c .before .before .before .before .before .pre) .right, band-row (c .before .before .before .before .before .pre) (c .before .before .loop .y) (c .before .loop-test .taken), c .before .before .loop .inv .1 .0), omega (arith, cell-row (c .before .before .before .before .before .pre) (c .before .before .loop .y) (c .before .loop-test .taken)))
+copy-row-requires c κs =
+    let f = c .before .before .before .before .before .pre in
+    let y = c .before .before .loop .y in
+    let h = c .before .loop-test .taken in
+    (omega (arith, f .right, band-row f y h, c .before .before .loop .inv .1 .0), omega (arith, cell-row f y h))
 
 loop-again : tie.Need-loop-again Inv-loop μ-loop
 loop-again c =
-    let a = c .before .before .before .before .before .before .before .before .args in
-    let f = c .before .before .before .before .before .before .before .before .pre in
+    let s = c .before .before .before .before .before .before .before .before in
+    let a = s .args in
+    let f = s .pre in
     let l = c .before .before .before .before .before .loop in
-    (omega arith, (omega (arith, c .before .band .given, l .inv .1 .0), next-row (a .band-width) (a .column) (a .cell .now) (a .width) (a .band .now) (l .band) _ (l .y) (f .right) (omega (arith, f .some, f .right)) (l .inv .1 .1) (c .before .before .copy-row .ensures)))
+    let some : 0 < a .band-width = omega (arith, f .some, f .right) in
+    let next = next-row (a .band-width) (a .column) (a .cell .now) (a .width) (a .band .now) (l .band) _ (l .y) (f .right) some (l .inv .1 .1) in
+    (omega arith, (omega (arith, c .before .band .given, l .inv .1 .0), next (c .before .before .copy-row .ensures)))
 
 returns : tie.Need-returns Inv-loop μ-loop
 returns c =

@@ -12,15 +12,17 @@ use Rattle.sheet_program.proofs.program.fill_sheet.Tie as tie
 columns-requires : tie.Need-columns-requires
 columns-requires c κs =
     let k = cell-size (c .before .before .before .before .before .before .before .before .before .before .before .before .before .before .before .before .before .before .pre) in
-    (omega (arith, k .0, c .before .before .before .before .before .before .before .before .before .before .ground .given), omega (arith, k .1, c .before .before .before .before .before .before .before .before .before .before .ground .given))
+    let same = c .before .before .before .before .before .before .before .before .before .before .ground .given in
+    (omega (arith, k .0, same), omega (arith, k .1, same))
 
 run-requires : tie.Need-run-requires
 run-requires c κs = (search needs, c .before .before .before .before .before .before .before .before .before .before .before .before .copy .ensures)
 
 returns-2 : tie.Need-returns-2
 returns-2 c =
-    let a = c .before .before .before .before .before .before .before .before .before .before .before .before .before .before .before .before .before .before .before .before .before .before .before .before .before .before .before .before .before .before .before .before .args in
-    let g = c .before .before .before .before .before .before .before .before .before .before .before .before .before .before .before .before .before .before .before .before .before .before .before .before .before .lay-ground .ensures in
+    let s = c .before .before .before .before .before .before .before .before .before .before .before .before .before .before .before .before .before .before .before .before .before .before .before .before .before in
+    let a = s .before .before .before .before .before .before .before .args in
+    let g = s .lay-ground .ensures in
     let r = c .before .before .before .before .before .before .before .run in (
       r .ensures .0 ∙ ap (λ (l : List ℕ). totalsTo (a .narrow) (a .font .now) (a .place) l 901) (g .0),
       subst (λ (l : List ℕ). Sound (a .narrow) (a .font .now) (a .place) l (r .result)) (g .0) (r .ensures .1 .1 (g .1 .0)),

@@ -22,29 +22,39 @@ slice-relend-prefix-fill-sheet : tie.Need-slice-relend-prefix-fill-sheet
 slice-relend-prefix-fill-sheet c = omega (arith, place-size (fits (c .before)), c .before .before .before .before .before .before .before .pre .0)
 
 slice-aggregate-fill-sheet : tie.Need-slice-aggregate-fill-sheet
-slice-aggregate-fill-sheet c = sym (front-length (fits (c .before .before)) (c .before .before .before .before .before .before .before .before .args .ground .now) (c .before .before .before .before .before .before .before .before .pre .0))
+slice-aggregate-fill-sheet c =
+    let s = c .before .before .before .before .before .before .before .before in
+    sym (front-length (fits (c .before .before)) (s .args .ground .now) (s .pre .0))
 
 slice-relend-prefix-fill-sheet-2 : tie.Need-slice-relend-prefix-fill-sheet-2
 slice-relend-prefix-fill-sheet-2 c = omega (arith, place-size (fits (c .before .before)), c .before .before .before .before .before .before .before .before .pre .1 .0)
 
 slice-aggregate-fill-sheet-2 : tie.Need-slice-aggregate-fill-sheet-2
-slice-aggregate-fill-sheet-2 c = sym (front-length (fits (c .before .before .before)) (c .before .before .before .before .before .before .before .before .before .args .screen .now) (c .before .before .before .before .before .before .before .before .before .pre .1 .0))
+slice-aggregate-fill-sheet-2 c =
+    let s = c .before .before .before .before .before .before .before .before .before in
+    sym (front-length (fits (c .before .before .before)) (s .args .screen .now) (s .pre .1 .0))
 
 slice-relend-prefix-fill-sheet-3 : tie.Need-slice-relend-prefix-fill-sheet-3
 slice-relend-prefix-fill-sheet-3 c = omega (arith, place-size (fits (c .before .before .before)), c .before .before .before .before .before .before .before .before .before .pre .1 .1 .0)
 
 slice-aggregate-fill-sheet-3 : tie.Need-slice-aggregate-fill-sheet-3
-slice-aggregate-fill-sheet-3 c = sym (front-length (fits (c .before .before .before .before)) (c .before .before .before .before .before .before .before .before .before .before .args .alone .now) (c .before .before .before .before .before .before .before .before .before .before .pre .1 .1 .0))
+slice-aggregate-fill-sheet-3 c =
+    let s = c .before .before .before .before .before .before .before .before .before .before in
+    sym (front-length (fits (c .before .before .before .before)) (s .args .alone .now) (s .pre .1 .1 .0))
 
 fill-sheet-requires : tie.Need-fill-sheet-requires
 fill-sheet-requires c κs =
     let s = c .before .before .before .before .before .before .before .before .before .before .before in
-    sheet-fits (fits (c .before .before .before .before .before)) (s .args .ground .now) (s .args .screen .now) (s .args .alone .now) (s .args .band .now) (s .pre .0) (s .pre .1 .0) (s .pre .1 .1 .0) (s .pre .1 .1 .1)
+    let a = s .args in
+    let p = s .pre in
+    sheet-fits (fits (c .before .before .before .before .before)) (a .ground .now) (a .screen .now) (a .alone .now) (a .band .now) (p .0) (p .1 .0) (p .1 .1 .0) (p .1 .1 .1)
 
 returns : tie.Need-returns
 returns c =
     let a = c .before .before .before .before .before .before .before .before .before .before .before .before .before .before .before .before .before .before .before .before .args in
-    subst (λ (p : Place). SheetOf (a .options .narrow) (a .font .now) p (c .before .before .before .before .before .before .before .before .fill-sheet .result)) (c .before .before .before .before .before .before .before .before .before .before .before .before .before .before .place-for .ensures .0) (c .before .before .before .before .before .before .before .before .fill-sheet .ensures)
+    let filled = c .before .before .before .before .before .before .before .before .fill-sheet in
+    let placed = c .before .before .before .before .before .before .before .before .before .before .before .before .before .before .place-for .ensures .0 in
+    subst (λ (p : Place). SheetOf (a .options .narrow) (a .font .now) p (filled .result)) placed (filled .ensures)
 
 pub make-sheet-spec : {M : Type 1} → statement M
 make-sheet-spec =

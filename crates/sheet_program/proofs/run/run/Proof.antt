@@ -27,14 +27,17 @@ mul-used c = omega (arith, c .columns .ensures .1 .1)
 
 loop-holds : tie.Need-loop-holds Inv-loop μ-loop
 loop-holds c =
-    let a = c .before .before .before .before .before .before .args in
-    let s = start-screen (a .narrow) (a .font .now) (a .place) (a .ground .now) in
-    (omega arith, (omega (arith, c .columns .ensures .0), (refl, (refl, (refl, (ap (screenOf 901) (c .before .before .before .before .before .before .pre .1) ∙ s, start-totals (a .narrow) (a .font .now) (a .place) (a .ground .now)))))))
+    let s = c .before .before .before .before .before .before in
+    let a = s .args in
+    let screen = ap (screenOf 901) (s .pre .1) ∙ start-screen (a .narrow) (a .font .now) (a .place) (a .ground .now) in
+    let totals = start-totals (a .narrow) (a .font .now) (a .place) (a .ground .now) in
+    (omega arith, (omega (arith, c .columns .ensures .0), (refl, (refl, (refl, (screen, totals))))))
 
 counted-requires : tie.Need-counted-requires Inv-loop μ-loop
 counted-requires c κs =
     let a = c .before .before .before .before .before .before .before .before .before .before .before .before .before .before .before .before .args in
-    few (a .narrow) (a .font .now) (a .place) (a .ground .now) (c .before .before .before .before .before .before .before .before .loop-test .taken) (c .before .before .before .before .before .before .before .before .before .loop .inv .1 .1 .1 .1 .1 .1)
+    let l = c .before .before .before .before .before .before .before .before in
+    few (a .narrow) (a .font .now) (a .place) (a .ground .now) (l .loop-test .taken) (l .before .loop .inv .1 .1 .1 .1 .1 .1)
 
 slice-aggregate-put-cell : tie.Need-slice-aggregate-put-cell Inv-loop μ-loop
 slice-aggregate-put-cell c =
@@ -58,9 +61,21 @@ loop-again c =
     let l = c .before .before .before .before .before .before .before .before .before .before .before .before .before .before .before .loop in
     let e = l .inv .1 .1 .1 .1 .1 in
     let finds = c .before .before .before .before .before .before .before .before .before .before .before .step .ensures in
+    let counts = c .before .before .before .before .before .counted .ensures in
     let next-s = next-screen (a .narrow) (a .font .now) (a .place) (a .ground .now) (e .0) finds in
-    let next-t = next-totals (a .narrow) (a .font .now) (a .place) (a .ground .now) (e .0) finds (e .1) (c .before .before .before .before .before .counted .ensures) in
-    (omega arith, (c .before .before .put-cell .ensures .0 .1, (omega (arith, c .before .before .before .before .before .before .before .before .before .before .screen .given, l .inv .1 .1 .0), (omega (arith, c .before .before .before .before .before .before .before .before .alone .given, l .inv .1 .1 .1 .0), (omega (arith, c .before .band .given, l .inv .1 .1 .1 .1 .0), (next-s, next-t))))))
+    let next-t = next-totals (a .narrow) (a .font .now) (a .place) (a .ground .now) (e .0) finds (e .1) counts in
+    let screen = c .before .before .before .before .before .before .before .before .before .before .screen .given in
+    let alone = c .before .before .before .before .before .before .before .before .alone .given in
+    let band = c .before .band .given in (
+      omega arith,
+      (
+        c .before .before .put-cell .ensures .0 .1,
+        (
+          omega (arith, screen, l .inv .1 .1 .0),
+          (omega (arith, alone, l .inv .1 .1 .1 .0), (omega (arith, band, l .inv .1 .1 .1 .1 .0), (next-s, next-t))),
+        ),
+      ),
+    )
 
 returns : tie.Need-returns Inv-loop μ-loop
 returns c =
