@@ -1,19 +1,8 @@
-// Buffers as a whole: copied, filled, compared.
+// Buffers as a whole: filled, compared.
 ghost use mathlib.Core.Path.{_≡_};
 ghost use mathlib.Core.Bool.{true};
 ghost use lib.ListN.{length, replicate};
 ghost use Rattle.buffers.specs.Differences.{differences};
-
-pub fn copy(from: &[u8], to: &mut [u8])
-    requires { ⌜ length (now from) ≡ length (now to) ⌝ }
-    ensures { λ r. ⌜ now (to .exit) ≡ now (from .entry) ⌝ }
-{
-    let mut i: usize = 0;
-    while i < to.len() {
-        to[i] = from[i];
-        i += 1;
-    }
-}
 
 pub fn fill(buffer: &mut [u8], value: u8)
     ensures { λ r. ⌜ now (buffer .exit) ≡ replicate (length (now (buffer .entry))) value ⌝ }

@@ -11,7 +11,7 @@ ghost use Rattle.redraw.specs.Redraw.{readingOn, clearedBy, redrawn};
 ghost use Rattle.readings.specs.Readings.{asked, framebuffer};
 ghost use Rattle.readings.specs.Sheet.{narrowedBox, toFill, stepBuffer};
 use crate::values::Place;
-use buffers::copy;
+use bytes::copy;
 use redraw::fill::fill_box;
 use redraw::reading::draw_reading;
 use redraw::reading::redraw;
@@ -47,7 +47,9 @@ pub fn draw_alone(font: &[u8], text: &[u8], place: Place, ground: &[u8], alone: 
     );
     match drawn {
         DimensionsResult::Ok(_) => {}
-        DimensionsResult::Err(_) => copy(ground, alone),
+        DimensionsResult::Err(_) => {
+            copy(ground, alone);
+        }
     }
 }
 

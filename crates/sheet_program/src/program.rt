@@ -6,7 +6,7 @@ ghost use Rattle.sheet_extent.specs.Extent.{placeFor};
 ghost use Rattle.sheet_program.specs.Sheets.{SheetFits, SheetOf};
 use crate::run::run;
 use crate::values::Sheet;
-use buffers::copy;
+use bytes::copy;
 use font_file::FontFile;
 use libc::STDOUT_FILENO;
 use readings::ground::lay_ground;

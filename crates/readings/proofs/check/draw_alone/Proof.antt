@@ -1,5 +1,6 @@
 -- A refused drawing is taken back.
 use mathlib.Core.Path.{_≡_, ap, _∙_}
+use Rattle.buffers.proofs.CopyLaws.{whole}
 use Rattle.definitions.specs.Calls.{dimensionsOutcome}
 use Rattle.readings.specs.Readings.{asked, framebuffer}
 use Rattle.readings.proofs.AloneLaws.{drawn-alone, refused-alone}
@@ -12,18 +13,21 @@ enum-told c = search needs
 
 returns : tie.Need-returns
 returns c =
-    let a = c .before .before .before .before .before .before .before .before .before .before .before .before .before .before .before .before .args in
+    let s = c .before .before .before .before .before .before .before .before .before .before .before .before .before .before .before .before in
+    let a = s .args in
     let r = c .before .before .before .before .render .ensures in
-    let copied = c .before .before .before .before .before .before .before .before .before .before .copy .ensures in
+    let copied = c .before .before .before .before .before .before .before .before .before .before .copy .ensures .1 ∙ whole (a .ground .now) (a .alone .now) (s .pre) in
     drawn-alone (a .font .now) (asked (a .place) (a .text .now)) (framebuffer (a .place) (a .ground .now)) copied (r .0) (r .1)
     (ap dimensionsOutcome (c .enum-told .given .1))
 
 returns-2 : tie.Need-returns-2
 returns-2 c =
-    let a = c .before .before .before .before .before .before .before .before .before .before .before .before .before .before .before .before .before .before .before .before .args in
+    let s = c .before .before .before .before .before .before .before .before .before .before .before .before .before .before .before .before .before .before .before .before in
+    let a = s .args in
     let r = c .before .before .before .before .before .before .before .before .render .ensures in
-    let copied = c .before .before .before .before .before .before .before .before .before .before .before .before .before .before .copy .ensures in
-    c .before .before .copy2 .ensures
+    let copied = c .before .before .before .before .before .before .before .before .before .before .before .before .before .before .copy .ensures .1 ∙ whole (a .ground .now) (a .alone .now) (s .pre) in
+    c .before .before .copy2 .ensures .1
+    ∙ whole (a .ground .now) _ (search needs)
     ∙ refused-alone (a .font .now) (asked (a .place) (a .text .now)) (framebuffer (a .place) (a .ground .now)) copied (r .0)
     (ap dimensionsOutcome (c .before .before .before .before .enum-told2 .given .1))
 

@@ -3,6 +3,7 @@ use mathlib.Core.Path.{_≡_, ap, subst, _∙_}
 use mathlib.Core.List.{List}
 use Prim.Native.Nat.{ℕ}
 use native.Mathlib.Omega.{arith}
+use Rattle.buffers.proofs.CopyLaws.{whole}
 use Rattle.readings.specs.Sheet.{totalsTo, Sound}
 use Rattle.sheet_program.proofs.FitLaws.{cell-size}
 use borrow.Author.Needs.{needs}
@@ -16,7 +17,7 @@ columns-requires c κs =
     (omega (arith, k .0, same), omega (arith, k .1, same))
 
 run-requires : tie.Need-run-requires
-run-requires c κs = (search needs, c .before .before .before .before .before .before .before .before .before .before .before .before .copy .ensures)
+run-requires c κs = (search needs, c .before .before .before .before .before .before .before .before .before .before .before .before .copy .ensures .1 ∙ whole _ _ (search needs))
 
 returns-2 : tie.Need-returns-2
 returns-2 c =
