@@ -9,6 +9,7 @@ use native.Mathlib.Omega.{arith}
 use lib.IntN.{pos}
 use lib.ListN.{length, getD, replicate, length-replicate}
 use lib.Seq.{ext-getD}
+use Rattle.integers.proofs.Choices.{impossible}
 use Rattle.types.specs.declared.geometry.BoundingBox.{BoundingBox}
 use Rattle.types.specs.declared.geometry.BoundingBox.the-variants.{None, Some}
 use Rattle.types.specs.declared.geometry.RenderedDimensions.{RenderedDimensions}
@@ -16,7 +17,8 @@ use Rattle.definitions.specs.Refusals.{Outcome, success, refused}
 use Rattle.definitions.specs.Geometry.{InsideBox}
 use Rattle.definitions.specs.Picture.{Paint, covers}
 use Rattle.definitions.specs.Framebuffer.{over, mapAt, shown}
-use Rattle.definitions.specs.Agreement.{measured, pixel}
+use Rattle.definitions.specs.Agreement.{pixel}
+use Rattle.redraw.specs.Drawing.{measured}
 use Rattle.redraw.specs.Redraw.{fillPicture, clearedBy}
 use Rattle.definitions.proofs.PictureLaws.{covers-inside}
 use Rattle.definitions.proofs.FramebufferLaws.{length-mapAt, getD-mapAt, length-shown, shown-at}
@@ -88,7 +90,7 @@ same-box : {d e : RenderedDimensions} → _≡_ {A = Outcome RenderedDimensions}
 same-box {d} {e} h = let same : d ≡ e = cc in ap (λ (x : RenderedDimensions). x .«bounding_box») same
 
 not-both : {n c : ℕ} {d : RenderedDimensions} → _≡_ {A = Outcome RenderedDimensions} (refused n c) (success d) → ⊥
-not-both e = let z : _≡_ {A = ℕ} 0 1 = cc in omega arith
+not-both e = impossible cc
 
 module _ (font : List ℕ) (place : Place) (fits : PlaceFits (place .width) (place .height)) where
   length-by : (o : Outcome RenderedDimensions) (bytes : List ℕ) → length bytes ≡ place .width * place .height

@@ -7,12 +7,13 @@ use native.Mathlib.Omega.{arith}
 use Rattle.types.specs.declared.geometry.BoundingBox.{BoundingBox}
 use Rattle.types.specs.declared.geometry.BoundingBox.the-variants.{None, Some}
 use Rattle.types.specs.declared.geometry.Rectangle.{Rectangle}
-use Rattle.definitions.specs.Agreement.{Request, Framebuffer}
+use Rattle.definitions.specs.Agreement.{Ground}
+use Rattle.redraw.specs.Drawing.{Drawing}
 use Rattle.redraw.specs.Redraw.{redrawnBuffer}
 use Rattle.readings.specs.Sheet.{narrowedBox, stepBuffer}
 
 -- Without the fault the step is the gauge's.
-pub faultless : (font old : List ℕ) (new : Request) (color : ℕ) (p : Framebuffer) → stepBuffer false font old new color p ≡ redrawnBuffer font old new color p
+pub faultless : (font old : List ℕ) (new : Drawing) (color : ℕ) (p : Ground) → stepBuffer false font old new color p ≡ redrawnBuffer font old new color p
 unfolding stepBuffer redrawnBuffer
 faultless font old new color p = refl
 

@@ -8,17 +8,19 @@ use native.Mathlib.Decide.{decLt}
 use native.Mathlib.Omega.{arith}
 use lib.Dec.{eqb}
 use lib.ListN.{length}
+use Rattle.integers.proofs.Choices.{impossible}
 use Rattle.integers.specs.Integers.{pick}
 use Rattle.types.specs.declared.geometry.RenderedDimensions.{RenderedDimensions}
 use Rattle.types.specs.declared.style.FontColor.the-variants.{Transparent}
 use Rattle.definitions.specs.Refusals.{Outcome, success, refused, Cause, anyApplies}
 use Rattle.definitions.specs.Header.{fontCauses}
 use Rattle.definitions.specs.Utf8.{table, rowOf, firstCharacter, decodeFrom}
-use Rattle.definitions.specs.Framebuffer.{framebufferCause}
+use Rattle.definitions.specs.Font.{u8g2}
+use Rattle.definitions.specs.Framebuffer.{sized, framebufferCause}
 use Rattle.definitions.specs.Limits.{textCause, positionCause, backgroundCause}
 use Rattle.definitions.specs.Calls.{dimensionsOutcome}
 use Rattle.angles.specs.AngleText.{degreesThen, angleText}
-use Rattle.definitions.specs.Agreement.{drawn, after}
+use Rattle.redraw.specs.Drawing.{drawn, after}
 use Rattle.buffers.specs.Differences.{differences}
 use Rattle.redraw.specs.Redraw.{wholeOr, readingOn, redrawCauses, redrawn, redrawnBuffer, taken}
 use Rattle.redraw.specs.Steps.{Field, fieldOf, Reading, readingOf, asked, on, Screen as StepScreen, alone, showing, ClearFor}
@@ -53,7 +55,7 @@ each-to (suc n) e k h = by (textCause (readingText n) .applies) refl (each-to n)
   where
     by : (b : Bool) → textCause (readingText n) .applies ≡ b → (fineTo n ≡ true → (k : ℕ) → k < n → textCause (readingText k) .applies ≡ false) → Dec (k < n)
         → textCause (readingText k) .applies ≡ false
-    by true a below d = let z : _≡_ {A = ℕ} 0 1 = cc in absurd (omega arith)
+    by true a below d = impossible cc
     by false a below (yes p) = below (rw a at e) k p
     by false a below (no p) = let last : n ≡ k = omega arith in subst (λ (j : ℕ). textCause (readingText j) .applies ≡ false) last a
 
@@ -164,10 +166,10 @@ module _ (narrow : Bool) (font : List ℕ) (place : Place) (ground : List ℕ) w
       (λ (b : Bool).
       anyApplies
       (fontCauses font
-      ++ framebufferCause (place .width) (place .height) ground
+      ++ framebufferCause (sized (place .width) (place .height)) ground
       ∷ record { number = 4; applies = b }
       ∷ positionCause (place .position) (place .«line_height»)
-      ∷ backgroundCause (place .style .color) font
+      ∷ backgroundCause (place .style .color) (u8g2 font .background)
       ∷ []))
       (fine j h ∙ sym (fine k i))
 
@@ -180,7 +182,7 @@ module _ (narrow : Bool) (font : List ℕ) (place : Place) (ground : List ℕ) w
       next-old (all-known k) k ∙ rw early (never-taken h e k (omega arith))
 
   not-drawn : (o : Outcome RenderedDimensions) (drawing : List ℕ) → taken o ≡ false → wholeOr o drawing ground ≡ ground
-  not-drawn (success d) drawing e = let z : _≡_ {A = ℕ} 0 1 = cc in absurd (omega arith)
+  not-drawn (success d) drawing e = impossible cc
   not-drawn (refused n c) drawing e = refl
 
   -- So what is to be cleared next shows the same as reading k.

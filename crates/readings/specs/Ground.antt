@@ -8,7 +8,8 @@ use Rattle.types.specs.declared.geometry.RenderedDimensions.{RenderedDimensions
 use Rattle.definitions.specs.Refusals.{success}
 use Rattle.definitions.specs.Geometry.{InsideBox}
 use Rattle.definitions.specs.Framebuffer.{mapAt}
-use Rattle.definitions.specs.Agreement.{measured, pixel}
+use Rattle.definitions.specs.Agreement.{pixel}
+use Rattle.redraw.specs.Drawing.{measured}
 use Rattle.redraw.specs.Redraw.{AllOf, clearedBy}
 use Rattle.readings.specs.declared.values.Place.{Place}
 use Rattle.readings.specs.Readings.{reading, framebuffer}

@@ -4,7 +4,8 @@ use Prim.Native.Nat.{ℕ, _≤_}
 use lib.Dec.{leb}
 use lib.IntN.{pos, _-ℤ_}
 use Rattle.integers.specs.Integers.{pick}
-use Rattle.definitions.specs.Agreement.{Request, request, Framebuffer, framebufferOf}
+use Rattle.definitions.specs.Agreement.{Ground}
+use Rattle.redraw.specs.Drawing.{Drawing, drawing, groundOf}
 use Rattle.angles.specs.AngleText.{angleText}
 use Rattle.readings.specs.declared.values.Place.{Place}
 
@@ -13,15 +14,15 @@ abbrev pub readingText : ℕ → List ℕ
 readingText k = pick (leb 901 k) [] (angleText (pos k -ℤ pos 450))
 
 -- how a text is drawn at the place
-abbrev pub asked : Place → List ℕ → Request
-asked place text = request text (place .position) (place .style) (place .«line_height»)
+abbrev pub asked : Place → List ℕ → Drawing
+asked place text = drawing text (place .position) (place .style) (place .«line_height»)
 
-abbrev pub reading : Place → ℕ → Request
+abbrev pub reading : Place → ℕ → Drawing
 reading place k = asked place (readingText k)
 
 -- a framebuffer of the place's size
-abbrev pub framebuffer : Place → List ℕ → Framebuffer
-framebuffer place bytes = framebufferOf (place .width) (place .height) bytes
+abbrev pub framebuffer : Place → List ℕ → Ground
+framebuffer place bytes = groundOf (place .width) (place .height) bytes
 
 -- a framebuffer within 01's limits
 pub record PlaceFits (width height : ℕ) : Type 0 where

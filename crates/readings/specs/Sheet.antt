@@ -10,7 +10,8 @@ use Rattle.types.specs.declared.geometry.BoundingBox.the-variants.{None, Some}
 use Rattle.types.specs.declared.geometry.RenderedDimensions.{RenderedDimensions}
 use Rattle.definitions.specs.Refusals.{Outcome, success, refused, anyApplies}
 use Rattle.definitions.specs.Calls.{dimensionsOutcome}
-use Rattle.definitions.specs.Agreement.{Request, Framebuffer, framebufferOf, drawn}
+use Rattle.definitions.specs.Agreement.{on, Ground, width, height}
+use Rattle.redraw.specs.Drawing.{Drawing, drawn}
 use Rattle.buffers.specs.Differences.{differences}
 use Rattle.redraw.specs.Redraw.{readingOn, clearedBy, redrawCauses, withText, redrawn, taken}
 use Rattle.readings.specs.declared.values.Found.{Found}
@@ -35,11 +36,11 @@ toFill true (refused n c) = refused n c
 toFill false o = o
 
 -- What the step leaves, with the fault or without: without it `redrawnBuffer`. What it answers is `redrawn` either way.
-unfoldable pub stepBuffer : Bool → List ℕ → List ℕ → Request → ℕ → Framebuffer → List ℕ
+unfoldable pub stepBuffer : Bool → List ℕ → List ℕ → Drawing → ℕ → Ground → List ℕ
 stepBuffer narrow font old new color p =
     pick (anyApplies (redrawCauses font old new p)) (p .before)
     (readingOn font new
-    (framebufferOf (p .width) (p .height) (clearedBy (p .width) color (toFill narrow (drawn font (withText old new) p)) (p .before))))
+    (on (p .framebuffer) (clearedBy (width p) color (toFill narrow (drawn font (withText old new) p)) (p .before))))
 
 -- ---- one reading after the other
 

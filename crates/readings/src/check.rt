@@ -4,7 +4,8 @@ ghost use mathlib.Core.Bool.{true, false};
 ghost use lib.ListN.{length};
 ghost use Rattle.definitions.specs.Header.{Opened};
 ghost use Rattle.definitions.specs.TextSteps.{measureFrom, start};
-ghost use Rattle.definitions.specs.Calls.{characters, drawnAnswer, dimensionsOutcome};
+ghost use Rattle.definitions.specs.Font.{u8g2, drawnAnswer};
+ghost use Rattle.definitions.specs.Calls.{characters, dimensionsOutcome};
 ghost use Rattle.glyph_renderer.specs.Drawing.{BufferFits};
 ghost use Rattle.layout.specs.Ranges.{Checked};
 ghost use Rattle.redraw.specs.Redraw.{readingOn, clearedBy, redrawn};
@@ -85,7 +86,7 @@ fn clear_narrow(
     screen: &mut [u8],
 )
     requires { ⌜ Opened (now font) head × (Checked (now text) origin (place .«line_height») × BufferFits (length (now screen)) (place .width) (place .height)) ⌝ }
-    ensures { λ r. ⌜ now (screen .exit) ≡ clearedBy (place .width) (place .background) (toFill true (measureFrom (drawnAnswer (now (font .entry)) false) (place .«line_height») origin start (characters (now (text .entry))))) (now (screen .entry)) ⌝ }
+    ensures { λ r. ⌜ now (screen .exit) ≡ clearedBy (place .width) (place .background) (toFill true (measureFrom (drawnAnswer (u8g2 (now (font .entry))) false) (place .«line_height») origin start (characters (now (text .entry))))) (now (screen .entry)) ⌝ }
 {
     let drawn = get_drawn_dimensions(font, head, text, origin, place.line_height, false);
     let DimensionsResult::Ok(dimensions) = drawn else {

@@ -3,7 +3,8 @@ ghost use mathlib.Core.Path.{_≡_};
 ghost use mathlib.Core.Bool.{false};
 ghost use Prim.Native.Nat.{_≤_};
 ghost use lib.ListN.{length, drop};
-ghost use Rattle.definitions.specs.Calls.{measure, dimensionsOutcome};
+ghost use Rattle.definitions.specs.Font.{u8g2};
+ghost use Rattle.definitions.specs.Calls.{plain, measure, dimensionsOutcome};
 ghost use Rattle.readings.specs.Readings.{readingText};
 use angles::write_angle;
 use measuring::rendered_dimensions::get_rendered_dimensions;
@@ -31,7 +32,7 @@ pub fn measure_reading(
     vertical_pos: VerticalPosition,
     line_height: u32,
 ) -> DimensionsResult
-    ensures { λ r. ⌜ dimensionsOutcome r ≡ measure (now (font .entry)) (readingText k) position «vertical_pos» «line_height» false ⌝ }
+    ensures { λ r. ⌜ dimensionsOutcome r ≡ measure (u8g2 (now (font .entry))) (plain (readingText k) position «vertical_pos» «line_height» false) ⌝ }
 {
     let mut text = [0u8; 6];
     let start = write_reading(k, &mut text);

@@ -10,6 +10,7 @@ use lib.Signed.{mag, ltZ, _≤ℤ_, _<ℤ_}
 use mir.Syntax.{w32, w64}
 use mir.Val.{SFits, hbits, toZ, ofZ}
 use mir.Facts.{toZ-ofZ}
+use Rattle.integers.proofs.Choices.{impossible}
 use Rattle.integers.specs.Integers.{minZ, maxZ}
 use Rattle.integers.proofs.Laws.{zarith, up, down, plus, minus, size, min-is, max-is, range, stored}
 use Rattle.types.specs.declared.geometry.BoundingBox.{BoundingBox}
@@ -22,12 +23,14 @@ use Rattle.types.specs.declared.style.VerticalPosition.{VerticalPosition}
 use Rattle.definitions.specs.Refusals.{Outcome, success, refused}
 use Rattle.definitions.specs.Geometry.{left, top, right, bottom, Inside, InsideBox}
 use Rattle.definitions.specs.TextSteps.{movedBox}
-use Rattle.definitions.specs.Agreement.{measured}
+use Rattle.redraw.specs.Drawing.{measured}
 use Rattle.sheet_extent.specs.declared.values.Extent.{Extent}
 use Rattle.sheet_extent.specs.declared.values.Options.{Options}
 use Rattle.readings.specs.declared.values.Place.{Place}
 use Rattle.sheet_extent.specs.declared.values.Wanted.{Wanted}
 use Rattle.sheet_extent.specs.declared.values.Wanted.the-variants.{Seen, At}
+use Rattle.definitions.specs.Font.{u8g2}
+use Rattle.definitions.specs.Calls.{plain}
 use Rattle.definitions.proofs.MovedLaws.{measured-at-zero}
 use Rattle.readings.specs.Readings.{readingText, reading, PlaceFits}
 use Rattle.sheet_extent.specs.Extent.{atOrigin, widened, withBox, withReading, extentOf, Within, HoldsReadings, NearExtent}
@@ -97,7 +100,7 @@ module _ (e : Extent) (o : Outcome RenderedDimensions) where
   measured-reading h b = rw (h, b)
 
 own-box : (e : Extent) (b : BoundingBox) (r : Rectangle) → b ≡ Some r → Within r (withBox e b)
-own-box e None r h = let z : _≡_ {A = ℕ} 0 1 = cc in absurd (omega arith)
+own-box e None r h = impossible cc
 own-box e (Some q) r h = let same : q ≡ r = cc in subst (λ (x : Rectangle). Within r (widened e x)) (sym same) (own e r)
 
 other-box : (e : Extent) (b : BoundingBox) (q : Rectangle) → Within q e → Within q (withBox e b)
@@ -251,7 +254,7 @@ module _ (font : List ℕ) (o : Options) (wanted : o .wanted ≡ Seen) where
   pub all-seen : Uncut (placeFor font o) edges → AllSeen font (placeFor font o)
   unfolding placeFor
   all-seen = rw wanted (λ uncut k h d m column row i.
-      let q = measured-at-zero font (readingText k) (there .position) (o .«vertical_pos») 0 false d m in
+      let q = measured-at-zero (u8g2 font) (plain (readingText k) (there .position) (o .«vertical_pos») 0 false) d m in
       on-framebuffer uncut (q .0 .«bounding_box») (λ r b. all-between font (o .«vertical_pos») 901 k h (q .0) (q .1 .0) r b) column row
       (subst (InsideBox column row) (q .1 .1) i))
 

@@ -16,8 +16,9 @@ use Rattle.types.specs.declared.style.VerticalPosition.{VerticalPosition}
 use Rattle.definitions.specs.Refusals.{Outcome, success, refused}
 use Rattle.definitions.specs.Geometry.{left, top, right, bottom, InsideBox}
 use Rattle.definitions.specs.Text.{point}
-use Rattle.definitions.specs.Calls.{measure}
-use Rattle.definitions.specs.Agreement.{measured}
+use Rattle.definitions.specs.Font.{u8g2}
+use Rattle.definitions.specs.Calls.{plain, measure}
+use Rattle.redraw.specs.Drawing.{measured}
 use Rattle.sheet_extent.specs.declared.values.Extent.{Extent}
 use Rattle.sheet_extent.specs.declared.values.Options.{Options}
 use Rattle.readings.specs.declared.values.Place.{Place}
@@ -29,7 +30,7 @@ use Rattle.readings.specs.Readings.{readingText, reading}
 
 -- what a reading measures at (0, 0), in one line
 abbrev pub atOrigin : List ℕ → VerticalPosition → ℕ → Outcome RenderedDimensions
-atOrigin font v k = measure font (readingText k) (point (pos 0) (pos 0)) v 0 false
+atOrigin font v k = measure (u8g2 font) (plain (readingText k) (point (pos 0) (pos 0)) v 0 false)
 
 abbrev pub widened : Extent → Rectangle → Extent
 widened e r = record {

@@ -6,7 +6,8 @@ use Prim.Native.Nat.{ℕ}
 use native.Mathlib.Omega.{arith}
 use borrow.Author.Needs.{needs}
 use Rattle.definitions.specs.Refusals.{success}
-use Rattle.definitions.specs.Agreement.{Request, Framebuffer}
+use Rattle.definitions.specs.Agreement.{Ground}
+use Rattle.redraw.specs.Drawing.{Drawing}
 use Rattle.glyph_renderer.specs.Drawing.{BufferFits}
 use Rattle.redraw.specs.declared.step.Step.{Step}
 use Rattle.redraw.specs.Checks.{checkedStep, stepOutcome}
@@ -19,10 +20,10 @@ use Rattle.readings.proofs.check.redraw_narrow.Tie as tie
 
 -- what the call was given
 module _ (s : tie.Start) where
-  abbrev new : Request
+  abbrev new : Drawing
   new = asked (s .args .place) (s .args .new-text .now)
 
-  abbrev screen : Framebuffer
+  abbrev screen : Ground
   screen = framebuffer (s .args .place) (s .args .screen .now)
 
 -- the tests passed

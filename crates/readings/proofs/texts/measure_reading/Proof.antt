@@ -3,7 +3,8 @@ use mathlib.Core.Path.{_≡_, ap, _∙_}
 use mathlib.Core.Bool.{false}
 use mathlib.Core.List.{List}
 use Prim.Native.Nat.{ℕ}
-use Rattle.definitions.specs.Calls.{measure}
+use Rattle.definitions.specs.Font.{u8g2}
+use Rattle.definitions.specs.Calls.{plain, measure}
 use Rattle.readings.proofs.TextLaws.{to-the-end}
 use borrow.Author.Needs.{needs}
 use Rattle.readings.proofs.texts.measure_reading.Statement.{statement}
@@ -14,7 +15,7 @@ returns c =
     let a = c .before .before .before .before .before .before .before .args in
     let w = c .before .before .before .before .write-reading in
     c .get-rendered-dimensions .ensures
-    ∙ ap (λ (t : List ℕ). measure (a .font .now) t (a .position) (a .vertical-pos) (a .line-height) false)
+    ∙ ap (λ (t : List ℕ). measure (u8g2 (a .font .now)) (plain t (a .position) (a .vertical-pos) (a .line-height) false))
     (to-the-end (w .last .1 .0) (w .result) 6 (c .before .before .before .text2 .given) ∙ w .ensures .1)
 
 pub measure-reading-spec : {M : Type 1} → statement M
