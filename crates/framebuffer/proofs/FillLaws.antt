@@ -1,31 +1,27 @@
 -- A filled rectangle, row by row, and cut to the framebuffer. Assumes nothing.
-use mathlib.Core.Path.{_≡_, refl, sym, ap, subst, _∙_}
+use mathlib.Core.Path.{_≡_, refl, sym, ap, _∙_}
 use mathlib.Core.Bool.{Bool, true, false}
 use mathlib.Core.List.{List}
-use Prim.Native.Nat.{ℕ, suc, _+_, _-_, _*_, _≤_, _<_}
+use Prim.Native.Nat.{ℕ, _+_, _-_, _≤_, _<_}
 use native.Mathlib.Nat.{mul-le-mul-right, mul-le-mul, mul-comm, zero-mul, zero-add}
 use native.Mathlib.Decide.{decLt}
 use native.Mathlib.Omega.{arith}
-use lib.IntN.{ℤ, pos, natAbs, _+ℤ_, _-ℤ_}
+use lib.IntN.{ℤ, pos, natAbs, _-ℤ_}
 use lib.ListN.{length, getD}
 use Rattle.integers.specs.Integers.{pick}
-use Rattle.integers.proofs.Laws.{zarith, up, down, plus, minus, size}
-use Rattle.types.specs.declared.geometry.BoundingBox.the-variants.{None, Some}
+use Rattle.integers.proofs.Laws.{zarith, plus, minus, size}
+use Rattle.types.specs.declared.geometry.BoundingBox.the-variants.{Some}
 use Rattle.types.specs.declared.geometry.Rectangle.{Rectangle}
 use Rattle.types.specs.declared.style.FontColor.the-variants.{Transparent}
 use Rattle.definitions.specs.Geometry.{left, top, right, bottom, Inside}
-use Rattle.definitions.specs.Picture.{Paint, keep, put, above, paintOf, covers}
+use Rattle.definitions.specs.Picture.{Paint, keep, put, above, covers}
 use Rattle.definitions.specs.Framebuffer.{shown}
-use Rattle.redraw.specs.Redraw.{fillPicture}
 use Rattle.definitions.proofs.PictureLaws.{covers-inside, inside-covers, rectangle-inside, rectangle-outside}
 use Rattle.definitions.proofs.FramebufferLaws.{same-picture, onto, shown-shown, blank, shown-blank}
-use Rattle.redraw.proofs.RedrawLaws.{row-below}
-use Rattle.framebuffer.specs.Rows.{rowRectangle, rowPicture, LineFits}
-use Rattle.framebuffer.proofs.RowLaws.{outside}
-use Rattle.glyph_renderer.specs.Visible.{clamped}
-use Rattle.glyph_renderer.specs.Drawing.{BufferFits}
-use Rattle.glyph_renderer.proofs.VisibleLaws.{clamped-is}
-use Rattle.redraw.specs.Areas.{area, AreaFits}
+use Rattle.framebuffer.specs.Rows.{rowRectangle, rowPicture}
+use Rattle.framebuffer.specs.Areas.{BufferFits, clamped, area, AreaFits, fillPicture}
+use Rattle.framebuffer.proofs.RowLaws.{outside, row-of-pixel}
+use Rattle.framebuffer.proofs.ClampLaws.{clamped-is}
 
 module _ (color : ℕ) (r : Rectangle) (column row : ℤ) where
   pub fill-inside : Inside column row r → fillPicture color (Some r) column row ≡ put color
@@ -181,7 +177,7 @@ module _ (r : Rectangle) {bytes width height : ℕ} (f : BufferFits bytes width 
   visible-shown color buffer l =
       same-picture (f .some) (fillPicture color (Some visible)) (fillPicture color (Some r)) buffer
       (λ column row c h.
-      let k = row-below width height column row (omega (arith, f .area)) in
+      let k = row-of-pixel width height column row (omega (arith, f .area)) in
       fill-same color visible r (pos column) (pos row) (from-visible column row c k) (to-visible column row c k))
 
 -- the same for edges that were computed

@@ -3,3 +3,5 @@ pub mod WriteLaws
 pub mod RowLaws
 pub mod PartLaws
 pub mod ClipLaws
+pub mod ClampLaws
+pub mod FillLaws

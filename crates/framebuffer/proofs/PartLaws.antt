@@ -4,7 +4,7 @@ use mathlib.Core.Path.{_≡_, refl, sym, ap, subst, _∙_}
 use mathlib.Core.List.{List, _++_}
 use mathlib.Core.Bool.{Bool, true, false}
 use Prim.Native.Nat.{ℕ, _+_, _-_, _*_, _≤_, _<_}
-use native.Mathlib.Nat.{mul-le-mul-right, mul-comm, zero-mul, zero-add}
+use native.Mathlib.Nat.{mul-le-mul-right, zero-mul, zero-add}
 use native.Mathlib.Decide.{decLt}
 use native.Mathlib.Omega.{arith}
 use borrow.Rule.Slice.PartMut.{midOf, putMid, same-len-mid}
@@ -22,7 +22,7 @@ use Rattle.definitions.specs.Framebuffer.{over, shown}
 use Rattle.definitions.proofs.PictureLaws.{covers-inside, rectangle-inside, rectangle-outside}
 use Rattle.definitions.proofs.FramebufferLaws.{EveryPixel, is-shown, same-picture, blank, shown-blank}
 use Rattle.framebuffer.specs.Rows.{painted, rowRectangle, rowPicture, LineFits}
-use Rattle.framebuffer.proofs.RowLaws.{outside}
+use Rattle.framebuffer.proofs.RowLaws.{outside, row-of-pixel}
 use Rattle.framebuffer.proofs.WriteLaws.{painted-length, painted-at}
 
 -- ---- a row that lies off the framebuffer
@@ -38,11 +38,7 @@ module _ {width : ℕ} (some : 0 < width) (color : FontColor) (cells : List ℕ)
   row-above h = unseen (λ column row c l i. omega (zarith, i .to-bottom, plus y (pos 1)))
 
   pub row-below : (height : ℕ) → length buffer ≡ width * height → pos height ≤ℤ y → shown width (rowPicture color cells x y) buffer ≡ buffer
-  row-below height n h = unseen (λ column row c l i. below column row l i (decLt row height))
-    where
-      below : (column row : ℕ) → row * width + column < length buffer → Inside (pos column) (pos row) (rowRectangle x y (length cells)) → Dec (row < height) → ⊥
-      below column row l i (yes p) = omega (zarith, i .from-top)
-      below column row l i (no p) = let q : height ≤ row = omega arith in omega (arith, n, mul-le-mul-right width q, mul-comm width height)
+  row-below height n h = unseen (λ column row c l i. let k = row-of-pixel width height column row (omega (arith, n)) in omega (zarith, i .from-top))
 
   -- no column from the first visible to the last
   pub row-beside : minZ (x +ℤ pos (length cells)) (pos width) ≤ℤ maxZ x (pos 0) → shown width (rowPicture color cells x y) buffer ≡ buffer

@@ -2,8 +2,8 @@
 use mathlib.Core.Path.{_≡_, refl, sym, ap, _∙_}
 use mathlib.Core.Bool.{Bool, true, false}
 use mathlib.Core.List.{List}
-use Prim.Native.Nat.{ℕ, _+_, _-_, _*_, _<_}
-use native.Mathlib.Nat.{zero-mul, zero-add}
+use Prim.Native.Nat.{ℕ, _+_, _*_, _≤_, _<_}
+use native.Mathlib.Nat.{mul-le-mul-right, mul-comm, zero-mul, zero-add}
 use native.Mathlib.Decide.{decLt}
 use native.Mathlib.Omega.{arith}
 use lib.IntN.{ℤ, pos, natAbs, _+ℤ_, _-ℤ_}
@@ -18,6 +18,16 @@ use Rattle.definitions.specs.Framebuffer.{shown}
 use Rattle.definitions.proofs.PictureLaws.{above-keep, covers-inside, inside-covers, rectangle-inside, rectangle-outside}
 use Rattle.definitions.proofs.FramebufferLaws.{same-picture, onto, shown-shown, blank, shown-blank}
 use Rattle.framebuffer.specs.Rows.{rowRectangle, rowPicture, firstRows}
+
+-- a pixel of the buffer lies in a row of the framebuffer
+pub row-of-pixel : (width height column row : ℕ) → row * width + column < width * height → row < height
+row-of-pixel width height column row h = by (decLt row height)
+  where
+    by : Dec (row < height) → row < height
+    by (yes k) = k
+    by (no k) =
+        let past : height ≤ row = omega arith in
+        absurd (omega (arith, mul-le-mul-right width past, mul-comm width height))
 
 -- ---- the rows of a rectangle, one after the other
 

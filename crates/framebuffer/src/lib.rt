@@ -1,4 +1,6 @@
 // Writing to the framebuffer: one byte a pixel, rows from the top. Nothing above knows this layout.
+pub mod fill;
+
 use types::style::FontColor;
 use utils::max;
 use utils::min;
@@ -8,6 +10,21 @@ ghost use lib.ListN.{length};
 ghost use Rattle.definitions.specs.Picture.{paintOf};
 ghost use Rattle.definitions.specs.Framebuffer.{over, shown};
 ghost use Rattle.framebuffer.specs.Rows.{painted, rowPicture, LineFits, Apart, RowInReach};
+ghost use Rattle.framebuffer.specs.Areas.{clamped};
+
+// The nearest number from 0 to `limit`.
+pub fn clamp(z: i64, limit: usize) -> usize
+    ensures { λ r. ⌜ r ≡ clamped z limit ⌝ }
+{
+    if z < 0 {
+        return 0;
+    }
+    let n = z as usize;
+    if limit < n {
+        return limit;
+    }
+    n
+}
 
 // What a pixel holds once a bit of a glyph is drawn on it: a transparent colour leaves it where the
 // bit is 0.

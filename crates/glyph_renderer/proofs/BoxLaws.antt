@@ -25,8 +25,9 @@ use Rattle.definitions.proofs.PictureLaws.{rectangle-outside}
 use Rattle.definitions.proofs.FramebufferLaws.{same-picture, blank, shown-blank}
 use Rattle.framebuffer.specs.Rows.{firstRows}
 use Rattle.glyph_renderer.specs.declared.geometry.Rows.{Rows}
-use Rattle.glyph_renderer.specs.Visible.{clamped, visibleRows}
-use Rattle.glyph_renderer.specs.Drawing.{BufferFits, GlyphBox, GlyphArea}
+use Rattle.framebuffer.specs.Areas.{BufferFits, clamped}
+use Rattle.glyph_renderer.specs.Visible.{visibleRows}
+use Rattle.glyph_renderer.specs.Drawing.{GlyphBox, GlyphArea}
 use Rattle.glyph_renderer.proofs.VisibleLaws.{rows-within, row-from-first, row-to-past}
 
 module _ {width height : ℕ} (buffer : List ℕ) (f : BufferFits (length buffer) width height) (color : FontColor) (ps : List ℕ) (area : Rectangle)

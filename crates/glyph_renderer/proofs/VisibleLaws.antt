@@ -1,28 +1,14 @@
 -- The visible rows of a glyph: no row before the first and none from `past` on lies on the framebuffer. Assumes nothing.
-use mathlib.Core.Path.{_≡_, refl, _∙_}
-use mathlib.Core.Bool.{Bool, true, false}
-use Prim.Native.Nat.{ℕ, _-_, _≤_, _<_, min}
+use Prim.Native.Nat.{ℕ, _≤_, _<_}
 use native.Mathlib.Omega.{arith}
-use lib.Dec.{ltb}
-use lib.IntN.{ℤ, pos, negsuc, _+ℤ_, _-ℤ_}
+use lib.IntN.{ℤ, pos, _+ℤ_, _-ℤ_}
 use lib.Signed.{_≤ℤ_, _<ℤ_}
 use mir.Syntax.{w32, w64}
 use mir.Val.{SFits}
-use borrow.Author.Tests.{ltb-true, ltb-false, le-ltb}
-use Rattle.integers.specs.Integers.{pick}
-use Rattle.integers.proofs.Laws.{zarith, up, down, plus, minus}
-use Rattle.glyph_renderer.specs.Visible.{Near, clamped}
-
-lesser : (limit n : ℕ) (t : Bool) → ltb limit n ≡ t → pick t limit n ≡ min n limit
-lesser limit n true e = omega (arith, ltb-true limit n e)
-lesser limit n false e = omega (arith, ltb-false limit n e)
-
-pub clamped-is : (x : ℤ) (limit : ℕ) → clamped x limit ≡ min (up x - down x) limit
-unfolding clamped
-clamped-is (pos n) limit =
-    let e : min n limit ≡ min (n - 0) limit = omega arith in
-    simp (le-ltb n 0 (omega arith)) (lesser limit n (ltb limit n) refl ∙ e)
-clamped-is (negsuc n) limit = omega arith
+use Rattle.integers.proofs.Laws.{zarith, plus, minus}
+use Rattle.framebuffer.specs.Areas.{clamped}
+use Rattle.framebuffer.proofs.ClampLaws.{clamped-is}
+use Rattle.glyph_renderer.specs.Visible.{Near}
 
 pub near-fits : {z : ℤ} → Near z → SFits w32 z
 near-fits near = omega (zarith, near .low, near .high)

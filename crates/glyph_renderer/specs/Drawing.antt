@@ -15,17 +15,11 @@ use Rattle.definitions.specs.Picture.{rectanglePicture}
 use Rattle.definitions.specs.Framebuffer.{shown}
 use Rattle.definitions.specs.Font.{u8g2, pixelsOf}
 use Rattle.framebuffer.specs.Rows.{firstRows}
+use Rattle.framebuffer.specs.Areas.{BufferFits}
 use Rattle.glyph_renderer.specs.declared.geometry.Rows.{Rows}
 use Rattle.glyph_renderer.specs.declared.runs.Place.{Place}
 use Rattle.glyph_renderer.specs.Stands.{CheckedGlyph, StandsAt}
 use Rattle.glyph_renderer.specs.Visible.{Near}
-
--- A framebuffer of so many bytes within 01's limits.
-pub record BufferFits (bytes width height : ℕ) : Type 0 where
-  pub some : 1 ≤ width
-  pub wide : width ≤ 256
-  pub high : height ≤ 256
-  pub area : bytes ≡ width * height
 
 -- The bounding box is the glyph's at some place in reach.
 pub record GlyphBox (g : GlyphReader) (b : BoundingBox) : Type 0 where

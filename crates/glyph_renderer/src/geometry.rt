@@ -1,26 +1,13 @@
 // Which rows of a glyph lie on the framebuffer.
 ghost use mathlib.Core.Path.{_≡_};
 ghost use Prim.Native.Nat.{_≤_};
-ghost use Rattle.glyph_renderer.specs.Visible.{Near, clamped, visibleRows};
+ghost use Rattle.glyph_renderer.specs.Visible.{Near, visibleRows};
+use framebuffer::clamp;
 
 // Rows of a glyph, from `first` to before `past`.
 pub struct Rows {
     pub first: usize,
     pub past: usize,
-}
-
-// The nearest number from 0 to `limit`.
-pub fn clamp(z: i64, limit: usize) -> usize
-    ensures { λ r. ⌜ r ≡ clamped z limit ⌝ }
-{
-    if z < 0 {
-        return 0;
-    }
-    let n = z as usize;
-    if limit < n {
-        return limit;
-    }
-    n
 }
 
 // The rows of a glyph that lie on a framebuffer of that height, the first row of the glyph being its row `top`.

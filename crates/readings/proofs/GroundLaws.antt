@@ -18,12 +18,13 @@ use Rattle.definitions.specs.Geometry.{InsideBox}
 use Rattle.definitions.specs.Picture.{Paint, covers}
 use Rattle.definitions.specs.Framebuffer.{over, mapAt, shown}
 use Rattle.definitions.specs.Agreement.{pixel}
+use Rattle.framebuffer.specs.Areas.{fillPicture}
 use Rattle.redraw.specs.Drawing.{measured}
-use Rattle.redraw.specs.Redraw.{fillPicture, clearedBy}
+use Rattle.redraw.specs.Redraw.{clearedBy}
 use Rattle.definitions.proofs.PictureLaws.{covers-inside}
 use Rattle.definitions.proofs.FramebufferLaws.{length-mapAt, getD-mapAt, length-shown, shown-at}
 use Rattle.framebuffer.proofs.RowLaws.{outside}
-use Rattle.redraw.proofs.FillLaws.{fill-inside, fill-outside}
+use Rattle.framebuffer.proofs.FillLaws.{fill-inside, fill-outside}
 use Rattle.readings.specs.declared.values.Place.{Place}
 use Rattle.readings.specs.Readings.{reading, framebuffer}
 use Rattle.readings.specs.Ground.{rubbishAt, rubbish, clearedTo, ground, ClearTo, RubbishBeside}

@@ -2,8 +2,8 @@
 ghost use mathlib.Core.Path.{_≡_};
 ghost use Prim.Native.Nat.{_*_};
 ghost use lib.ListN.{length};
+ghost use Rattle.framebuffer.specs.Areas.{BufferFits};
 ghost use Rattle.redraw.specs.Drawing.{measured};
-ghost use Rattle.glyph_renderer.specs.Drawing.{BufferFits};
 ghost use Rattle.redraw.specs.Redraw.{clearedBy};
 ghost use Rattle.readings.specs.Readings.{reading};
 ghost use Rattle.readings.specs.Ground.{rubbish, ground, ClearTo, RubbishBeside};
@@ -11,7 +11,7 @@ ghost use Rattle.readings.specs.Readings.{PlaceFits};
 use crate::texts::COUNT;
 use crate::texts::measure_reading;
 use crate::values::Place;
-use redraw::fill::fill_box;
+use framebuffer::fill::fill_box;
 use types::results::DimensionsResult;
 
 fn fill_with_rubbish(buffer: &mut [u8])

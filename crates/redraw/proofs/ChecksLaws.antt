@@ -1,13 +1,13 @@
 -- The step's tests: what each of them leaves of the step, and what a step that passes all of them may count on. Assumes nothing.
-use mathlib.Core.Path.{_≡_, refl, sym, ap, subst, _∙_}
-use mathlib.Core.Bool.{Bool, true, false}
-use mathlib.Core.List.{List, [], _∷_, _++_}
+use mathlib.Core.Path.{_≡_, sym, ap, subst, _∙_}
+use mathlib.Core.Bool.{true, false}
+use mathlib.Core.List.{List, [], _∷_}
 use Prim.Native.Nat.{ℕ, _<_}
 use lib.ListN.{length, getD}
 use Rattle.integers.proofs.Laws.{signed8-fits}
 use Rattle.types.specs.declared.font_reader.FontReader.{FontReader}
 use Rattle.types.specs.declared.geometry.Point.{Point}
-use Rattle.definitions.specs.Refusals.{Outcome, success, refused, Cause, unlessRefused, anyApplies}
+use Rattle.definitions.specs.Refusals.{Outcome, success, refused, Cause, anyApplies}
 use Rattle.definitions.specs.Header.{header, fontCauses, Opened}
 use Rattle.definitions.specs.Framebuffer.{framebufferCause}
 use Rattle.definitions.specs.Limits.{textCause, positionCause, backgroundCause}
@@ -16,12 +16,12 @@ use Rattle.definitions.specs.Calls.{openFont}
 use Rattle.definitions.specs.Agreement.{Ground, width, height}
 use Rattle.redraw.specs.Drawing.{Drawing, asks}
 use Rattle.definitions.proofs.OpenedLaws.{opened, opened-limits}
-use Rattle.definitions.proofs.RefusalLaws.{succeeded, NoneApplies, each-off}
+use Rattle.definitions.proofs.RefusalLaws.{succeeded, each-off}
 use Rattle.definitions.proofs.ComesLaws.{Comes, comes-none, comes-off, comes-on, comes-passed, comes-stopped}
-use Rattle.glyph_renderer.specs.Drawing.{BufferFits}
+use Rattle.framebuffer.specs.Areas.{BufferFits}
 use Rattle.layout.specs.Ranges.{Checked}
 use Rattle.layout.specs.Origins.{originBy, checkedOrigin}
-use Rattle.layout.proofs.OriginLaws.{text-limits, position-limits, origin-checked, passed, origin-is}
+use Rattle.layout.proofs.OriginLaws.{text-limits, position-limits, origin-checked, origin-is}
 use Rattle.renderer.proofs.SizeLaws.{size-fits}
 use Rattle.redraw.specs.declared.step.Step.{Step}
 use Rattle.redraw.specs.Redraw.{redrawCauses}

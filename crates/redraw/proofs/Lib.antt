@@ -1,4 +1,3 @@
-pub mod FillLaws
 pub mod RedrawLaws
 pub mod ChecksLaws
 pub mod StepsLaws

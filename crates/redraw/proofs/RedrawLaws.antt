@@ -4,8 +4,6 @@ use mathlib.Core.Path.{_≡_, refl, sym, ap, subst, _∙_}
 use mathlib.Core.Bool.{Bool, true, false, _||_, not}
 use mathlib.Core.List.{List, [], _∷_, _++_}
 use Prim.Native.Nat.{ℕ, _+_, _*_, _≤_, _<_}
-use native.Mathlib.Nat.{mul-le-mul-right, mul-comm}
-use native.Mathlib.Decide.{decLt}
 use native.Mathlib.Omega.{arith}
 use borrow.Author.Tests.{eqb-false, lt-ltb, le-ltb}
 use lib.Dec.{eqb, ltb}
@@ -37,7 +35,9 @@ use Rattle.definitions.proofs.ComesLaws.{comes-stopped}
 use Rattle.definitions.proofs.TextLaws.{measure-from, draw-from}
 use Rattle.definitions.proofs.LetterRefusals.{Late, late, late-drawn}
 use Rattle.definitions.proofs.Agreement.{alone, size}
-use Rattle.redraw.specs.Redraw.{wholeOr, readingOn, fillPicture, AllOf, clearedBy, redrawCauses, withText, cleared, redrawn, redrawnBuffer, taken}
+use Rattle.framebuffer.specs.Areas.{fillPicture}
+use Rattle.framebuffer.proofs.RowLaws.{row-of-pixel}
+use Rattle.redraw.specs.Redraw.{wholeOr, readingOn, AllOf, clearedBy, redrawCauses, withText, cleared, redrawn, redrawnBuffer, taken}
 use Rattle.redraw.specs.Checks.{originOf, stepOf, checkedStep}
 
 -- the framebuffer keeps its length
@@ -53,16 +53,6 @@ length-after font r p =
     (width p)
     (textPicture (r .style .color) (pixelsOf (u8g2 font)) (drawnText (u8g2 font) (asks r) .glyphs))
     (p .before)
-
--- a pixel of the buffer lies in a row of the framebuffer
-pub row-below : (width height column row : ℕ) → row * width + column < width * height → row < height
-row-below width height column row h = by (decLt row height)
-  where
-    by : Dec (row < height) → row < height
-    by (yes k) = k
-    by (no k) =
-        let past : height ≤ row = omega arith in
-        absurd (omega (arith, mul-le-mul-right width past, mul-comm width height))
 
 module _ (font : List ℕ) (r : Drawing) (p : Ground) (d : RenderedDimensions) (within : WithinLimits (u8g2 font) (asks r) p)
     (succeeded : drawn font r p ≡ success d) where
@@ -93,7 +83,7 @@ module _ (font : List ℕ) (r : Drawing) (p : Ground) (d : RenderedDimensions) (
         at : (column row : ℕ) → column < width p → row * width p + column < length (p .before)
             → pixel p (shown (width p) (fillPicture color (d .«bounding_box»)) (after font r p)) column row ≡ pixel p (p .before) column row
         at column row c h =
-            let k = row-below (width p) (height p) column row (omega (arith, size (u8g2 font) (asks r) p within)) in
+            let k = row-of-pixel (width p) (height p) column row (omega (arith, size (u8g2 font) (asks r) p within)) in
             shown-at (width p) (fillPicture color (d .«bounding_box»)) (after font r p) column row c (omega (arith, length-after font r p))
             ∙ restored (d .«bounding_box») refl column row c k
 

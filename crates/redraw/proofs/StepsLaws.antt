@@ -21,11 +21,10 @@ use Rattle.definitions.specs.Text.{joinAll, point, letters, lines, lineByLine, 
 use Rattle.definitions.specs.Limits.{textCause, positionCause, backgroundOff, backgroundCause}
 use Rattle.definitions.specs.Font.{u8g2}
 use Rattle.definitions.specs.Calls.{plain, drawnText, draw, drawBuffer}
-use Rattle.definitions.specs.Agreement.{Ground}
 use Rattle.redraw.specs.Drawing.{Drawing, drawn, after}
-use Rattle.definitions.proofs.FramebufferLaws.{length-shown, shown-blank}
+use Rattle.definitions.proofs.FramebufferLaws.{shown-blank}
 use Rattle.definitions.proofs.RefusalLaws.{succeeded, each-off}
-use Rattle.redraw.specs.Redraw.{wholeOr, readingOn, fillPicture, AllOf, clearedBy, redrawCauses, redrawn, redrawnBuffer, taken}
+use Rattle.redraw.specs.Redraw.{wholeOr, readingOn, AllOf, clearedBy, redrawCauses, redrawn, redrawnBuffer, taken}
 use Rattle.redraw.specs.Steps.{Field, Reading, asked, on, Screen, readingOf, bare, stepAnswer, step, steps, answers, alone, lastTaken, showing, ClearFor, ClearForAll, LeavesReading}
 use Rattle.redraw.proofs.RedrawLaws.{length-after, within-limits, same-answer, some-width, fill-restores, length-cleared, refused-early, causesOf, drawn-early, drawn-late, same-causes, redrawn-is}
 

@@ -7,16 +7,15 @@ use lib.Dec.{ltb}
 use lib.IntN.{pos}
 use Rattle.integers.specs.Integers.{pick}
 use Rattle.types.specs.declared.geometry.BoundingBox.{BoundingBox}
-use Rattle.types.specs.declared.geometry.BoundingBox.the-variants.{None, Some}
 use Rattle.types.specs.declared.geometry.RenderedDimensions.{RenderedDimensions}
 use Rattle.definitions.specs.Refusals.{Outcome, success, refused, Cause, unlessRefused, anyApplies}
 use Rattle.definitions.specs.Header.{fontCauses}
 use Rattle.definitions.specs.Geometry.{InsideBox}
-use Rattle.definitions.specs.Picture.{keep, put, Picture, covers}
 use Rattle.definitions.specs.Framebuffer.{shown, framebufferCause}
 use Rattle.definitions.specs.Font.{u8g2}
 use Rattle.definitions.specs.Limits.{textCause, positionCause, backgroundCause}
 use Rattle.definitions.specs.Agreement.{Ground, on, pixel, width, height}
+use Rattle.framebuffer.specs.Areas.{fillPicture}
 use Rattle.redraw.specs.Drawing.{Drawing, drawing, drawn, after}
 
 -- ---- a reading on a ground
@@ -32,11 +31,6 @@ abbrev pub readingOn : List ℕ → Drawing → Ground → List ℕ
 readingOn font r ground = wholeOr (drawn font r ground) (after font r ground) (ground .before)
 
 -- ---- filling
-
--- a box full of one colour
-abbrev pub fillPicture : ℕ → BoundingBox → Picture
-fillPicture color None column row = keep
-fillPicture color (Some r) column row = pick (covers r column row) (put color) keep
 
 -- Every pixel of the framebuffer that lies in the box has that colour.
 abbrev pub AllOf : ℕ → Ground → BoundingBox → Type 0

@@ -1,4 +1,3 @@
 // A reading drawn over the one before: what the gauge does, and what it takes to watch it.
-pub mod fill;
 pub mod reading;
 pub mod step;

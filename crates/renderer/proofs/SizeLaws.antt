@@ -4,7 +4,7 @@ use mathlib.Core.Bool.{false}
 use Prim.Native.Nat.{ℕ}
 use borrow.Author.Tests.{eqb-true}
 use Rattle.definitions.proofs.OpenedLaws.{or-false}
-use Rattle.glyph_renderer.specs.Drawing.{BufferFits}
+use Rattle.framebuffer.specs.Areas.{BufferFits}
 use Rattle.layout.specs.Sizes.{sizeOff}
 use Rattle.layout.proofs.OriginLaws.{not-false}
 use Rattle.layout.proofs.LimitLaws.{side-limits}

@@ -8,7 +8,7 @@ ghost use Rattle.definitions.specs.TextSteps.{answerShown, step, stepShown, mea
 ghost use Rattle.definitions.specs.Font.{u8g2, drawable, drawnAnswer, pixelsOf};
 ghost use Rattle.definitions.specs.Framebuffer.{sized};
 ghost use Rattle.definitions.specs.Calls.{plain, characters, draw, drawBuffer, dimensionsOutcome};
-ghost use Rattle.glyph_renderer.specs.Drawing.{BufferFits};
+ghost use Rattle.framebuffer.specs.Areas.{BufferFits};
 ghost use Rattle.layout.specs.CharAnswers.{asAnswer};
 ghost use Rattle.renderer.specs.CharAnswers.{RunsChecked};
 ghost use Rattle.layout.specs.Ranges.{HasRoom, Checked};

@@ -1,11 +1,10 @@
 -- `clamped` makes the same two tests.
-use native.Mathlib.Omega.{arith}
 use borrow.Author.Tests.{lt-ltb, le-ltb}
 use mir.Facts.{toZ-ofZ}
 use Rattle.integers.proofs.Laws.{zarith, castable}
-use Rattle.glyph_renderer.specs.Visible.{clamped}
-use Rattle.glyph_renderer.proofs.geometry.clamp.Statement.{statement}
-use Rattle.glyph_renderer.proofs.geometry.clamp.Tie as tie
+use Rattle.framebuffer.specs.Areas.{clamped}
+use Rattle.framebuffer.proofs.clamp.Statement.{statement}
+use Rattle.framebuffer.proofs.clamp.Tie as tie
 
 returns : tie.Need-returns
 unfolding clamped

@@ -2,7 +2,7 @@
 -- and PartLaws.antt that the visible part of a row is the row. Assumes nothing.
 use mathlib.Core.Path.{_≡_, sym, _∙_}
 use mathlib.Core.Logic.{⊎-elim}
-use Prim.Native.Nat.{_-_, _<_, _^_}
+use Prim.Native.Nat.{_<_, _^_}
 use native.Mathlib.Omega.{arith}
 use lib.IntN.{pos, _+ℤ_}
 use lib.ListN.{length}

@@ -4,12 +4,12 @@ use Prim.Native.Nat.{_<_, _^_}
 use native.Mathlib.Omega.{arith}
 use lib.IntN.{pos, _+ℤ_}
 use mir.Syntax.{w64}
-use mir.Val.{SFits, toZ, ofZ}
+use mir.Val.{SFits, toZ}
 use mir.Facts.{toZ-ofZ, toZ-pos, sfits-widen}
 use borrow.Author.Needs.{needs}
 use Rattle.integers.proofs.Laws.{zarith, plus, range}
-use Rattle.redraw.proofs.fill.clamp_end.Statement.{statement}
-use Rattle.redraw.proofs.fill.clamp_end.Tie as tie
+use Rattle.framebuffer.proofs.fill.clamp_end.Statement.{statement}
+use Rattle.framebuffer.proofs.fill.clamp_end.Tie as tie
 
 wide : (c : tie.Start) → SFits w64 (c .args .start)
 wide c = sfits-widen tt (c .fits .start)

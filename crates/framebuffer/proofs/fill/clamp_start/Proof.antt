@@ -1,11 +1,11 @@
 -- `clamp_start` meets its contract: the cast keeps the value. Assumes nothing.
-use mathlib.Core.Path.{_≡_, _∙_}
+use mathlib.Core.Path.{_∙_}
 use mir.Syntax.{w64}
 use mir.Val.{SFits}
 use mir.Facts.{toZ-ofZ, sfits-widen}
 use borrow.Author.Needs.{needs}
-use Rattle.redraw.proofs.fill.clamp_start.Statement.{statement}
-use Rattle.redraw.proofs.fill.clamp_start.Tie as tie
+use Rattle.framebuffer.proofs.fill.clamp_start.Statement.{statement}
+use Rattle.framebuffer.proofs.fill.clamp_start.Tie as tie
 
 wide : (c : tie.Start) → SFits w64 (c .args .start)
 wide c = sfits-widen tt (c .fits .start)

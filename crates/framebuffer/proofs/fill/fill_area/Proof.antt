@@ -2,7 +2,7 @@
 -- next. Assumes nothing.
 use mathlib.Core.List.{List}
 use mathlib.Core.Path.{_≡_, sym, ap, _∙_}
-use Prim.Native.Nat.{ℕ, suc, _+_, _*_, _-_, _≤_, _<_}
+use Prim.Native.Nat.{ℕ, _-_, _≤_, _<_}
 use native.Mathlib.Nat.{mul-le-mul-right}
 use native.Mathlib.Omega.{arith}
 use borrow.Author.Needs.{needs}
@@ -12,12 +12,11 @@ use lib.Seq.{length-take-le, getD-take}
 use Rattle.types.specs.declared.geometry.BoundingBox.the-variants.{Some}
 use Rattle.types.specs.declared.style.FontColor.the-variants.{Transparent}
 use Rattle.definitions.specs.Framebuffer.{shown}
-use Rattle.redraw.specs.Redraw.{fillPicture}
 use Rattle.framebuffer.specs.Rows.{rowPicture, LineFits}
-use Rattle.redraw.specs.Areas.{area, AreaFits}
-use Rattle.redraw.proofs.FillLaws.{no-line-shown, next-line-shown}
-use Rattle.redraw.proofs.fill.fill_area.Statement.{statement}
-use Rattle.redraw.proofs.fill.fill_area.Tie as tie
+use Rattle.framebuffer.specs.Areas.{area, AreaFits, fillPicture}
+use Rattle.framebuffer.proofs.FillLaws.{no-line-shown, next-line-shown}
+use Rattle.framebuffer.proofs.fill.fill_area.Statement.{statement}
+use Rattle.framebuffer.proofs.fill.fill_area.Tie as tie
 
 -- as many ones as the area has columns
 module _ (n : ℕ) (h : n ≤ 256) where

@@ -1,14 +1,12 @@
 -- `fill_box` meets its contract: no box is the blank picture. Assumes nothing.
-use mathlib.Core.Path.{_≡_, sym, ap, _∙_}
-use mathlib.Core.List.{List}
+use mathlib.Core.Path.{sym, ap, _∙_}
 use borrow.Author.Needs.{needs}
 use Rattle.types.specs.declared.geometry.BoundingBox.{BoundingBox}
-use Rattle.types.specs.declared.geometry.BoundingBox.the-variants.{None}
 use Rattle.definitions.specs.Framebuffer.{shown}
-use Rattle.redraw.specs.Redraw.{fillPicture}
+use Rattle.framebuffer.specs.Areas.{fillPicture}
 use Rattle.definitions.proofs.FramebufferLaws.{shown-blank}
-use Rattle.redraw.proofs.fill.fill_box.Statement.{statement}
-use Rattle.redraw.proofs.fill.fill_box.Tie as tie
+use Rattle.framebuffer.proofs.fill.fill_box.Statement.{statement}
+use Rattle.framebuffer.proofs.fill.fill_box.Tie as tie
 
 enum-told : tie.Need-enum-told
 enum-told c = search needs

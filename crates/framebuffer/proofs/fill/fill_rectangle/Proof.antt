@@ -1,16 +1,15 @@
 -- `fill_rectangle` meets its contract: what the framebuffer shows of the rectangle lies between the edges that are computed.
 -- Assumes nothing.
 use mathlib.Core.Path.{_≡_, refl, _∙_}
-use lib.IntN.{pos, _+ℤ_}
 use mir.Syntax.{w32}
 use mir.Val.{SFits}
 use mir.Facts.{toZ-ofZ}
 use borrow.Author.Needs.{needs}
 use Rattle.definitions.specs.Geometry.{left, top, right, bottom}
-use Rattle.glyph_renderer.specs.Visible.{clamped}
-use Rattle.redraw.proofs.FillLaws.{edges-fit, edges-shown}
-use Rattle.redraw.proofs.fill.fill_rectangle.Statement.{statement}
-use Rattle.redraw.proofs.fill.fill_rectangle.Tie as tie
+use Rattle.framebuffer.specs.Areas.{clamped}
+use Rattle.framebuffer.proofs.FillLaws.{edges-fit, edges-shown}
+use Rattle.framebuffer.proofs.fill.fill_rectangle.Statement.{statement}
+use Rattle.framebuffer.proofs.fill.fill_rectangle.Tie as tie
 
 -- the edges
 x-fits : (s : tie.Start) → SFits w32 (s .args .rectangle .«top_left» .x)

@@ -7,7 +7,7 @@ use mir.Syntax.{w32, w64}
 use mir.Val.{SFits, toZ, ofZ}
 use mir.Facts.{toZ-ofZ, toZ-pos, sfits-widen}
 use borrow.Author.Needs.{needs}
-use Rattle.glyph_renderer.specs.Visible.{clamped}
+use Rattle.framebuffer.specs.Areas.{clamped}
 use Rattle.glyph_renderer.proofs.VisibleLaws.{difference-fits}
 use Rattle.glyph_renderer.proofs.geometry.get_visible_rows.Statement.{statement}
 use Rattle.glyph_renderer.proofs.geometry.get_visible_rows.Tie as tie

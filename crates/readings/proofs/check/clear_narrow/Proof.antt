@@ -5,7 +5,7 @@ use Prim.Native.Nat.{ℕ}
 use Rattle.types.specs.declared.geometry.BoundingBox.{BoundingBox}
 use Rattle.definitions.specs.Framebuffer.{shown}
 use Rattle.definitions.specs.Calls.{dimensionsOutcome}
-use Rattle.redraw.specs.Redraw.{fillPicture}
+use Rattle.framebuffer.specs.Areas.{fillPicture}
 use borrow.Author.Needs.{needs}
 use Rattle.readings.proofs.check.clear_narrow.Statement.{statement}
 use Rattle.readings.proofs.check.clear_narrow.Tie as tie

@@ -7,8 +7,8 @@ use native.Mathlib.Omega.{arith}
 use borrow.Author.Needs.{needs}
 use Rattle.definitions.specs.Refusals.{success}
 use Rattle.definitions.specs.Agreement.{Ground}
+use Rattle.framebuffer.specs.Areas.{BufferFits}
 use Rattle.redraw.specs.Drawing.{Drawing}
-use Rattle.glyph_renderer.specs.Drawing.{BufferFits}
 use Rattle.redraw.specs.declared.step.Step.{Step}
 use Rattle.redraw.specs.Checks.{checkedStep, stepOutcome}
 use Rattle.redraw.proofs.ChecksLaws.{Ready, ready}

@@ -8,7 +8,7 @@ use Rattle.definitions.specs.Refusals.{success}
 use Rattle.definitions.specs.Calls.{dimensionsOutcome}
 use Rattle.definitions.specs.Agreement.{Ground}
 use Rattle.redraw.specs.Drawing.{Drawing, drawing, groundOf}
-use Rattle.glyph_renderer.specs.Drawing.{BufferFits}
+use Rattle.framebuffer.specs.Areas.{BufferFits}
 use Rattle.redraw.specs.declared.step.Step.{Step}
 use Rattle.redraw.specs.Checks.{checkedStep, stepOutcome}
 use Rattle.redraw.specs.Redraw.{redrawnBuffer}

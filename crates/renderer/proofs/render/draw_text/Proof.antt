@@ -9,7 +9,7 @@ use Rattle.definitions.specs.Utf8.{character, firstCharacter}
 use Rattle.definitions.specs.Font.{u8g2, drawnAnswer, pixelsOf}
 use Rattle.definitions.specs.Calls.{dimensionsOutcome}
 use Rattle.definitions.proofs.Utf8Laws.{Position, position, none-malformed}
-use Rattle.glyph_renderer.specs.Drawing.{BufferFits}
+use Rattle.framebuffer.specs.Areas.{BufferFits}
 use Rattle.layout.proofs.MeasureLaws.{measured-room, measured-end, measured-stops}
 use Rattle.renderer.proofs.DrawLaws.{drawn-small, DrawnTo, drawn-start, drawn-end, drawn-next, drawn-stops}
 use Rattle.renderer.proofs.render.draw_text.Statement.{statement}
