@@ -25,14 +25,14 @@ use Rattle.definitions.specs.Font.{u8g2, pixelsOf}
 use Rattle.framebuffer.specs.Rows.{rowPicture, firstRows, RowInReach}
 use Rattle.framebuffer.proofs.RowLaws.{next-row-shown}
 use Rattle.glyph_renderer.specs.declared.geometry.Rows.{Rows}
-use Rattle.glyph_renderer.specs.declared.runs.Place.{Place}
-use Rattle.glyph_renderer.specs.declared.runs.Runs.{Runs}
-use Rattle.glyph_renderer.specs.declared.runs.RunsRead.the-variants.{Pair, Ends}
-use Rattle.glyph_renderer.specs.RunReads.{nextPair}
-use Rattle.glyph_renderer.specs.Stands.{StandsAt}
+use Rattle.runs.specs.declared.Place.{Place}
+use Rattle.runs.specs.declared.Runs.{Runs}
+use Rattle.runs.specs.declared.RunsRead.the-variants.{Pair, Ends}
+use Rattle.runs.specs.RunReads.{nextPair}
+use Rattle.runs.specs.Stands.{StandsAt}
 use Rattle.glyph_renderer.specs.Drawing.{RowsFit}
 use Rattle.glyph_renderer.proofs.VisibleLaws.{near-fits}
-use Rattle.glyph_renderer.proofs.StandsLaws.{stands-pixel, stands-on, next-known, stands-next}
+use Rattle.runs.proofs.StandsLaws.{stands-pixel, stands-on, next-known, stands-next}
 
 -- The rows before `row` are drawn on `old`, and of this one so many columns are collected.
 pub record Drawn (font : List ℕ) (head : FontReader) (g : GlyphReader) (area : Rectangle) (color : FontColor) (width : ℕ) (old new bits : List ℕ)

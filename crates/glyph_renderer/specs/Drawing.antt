@@ -17,8 +17,8 @@ use Rattle.definitions.specs.Font.{u8g2, pixelsOf}
 use Rattle.framebuffer.specs.Rows.{firstRows}
 use Rattle.framebuffer.specs.Areas.{BufferFits}
 use Rattle.glyph_renderer.specs.declared.geometry.Rows.{Rows}
-use Rattle.glyph_renderer.specs.declared.runs.Place.{Place}
-use Rattle.glyph_renderer.specs.Stands.{CheckedGlyph, StandsAt}
+use Rattle.runs.specs.declared.Place.{Place}
+use Rattle.runs.specs.Stands.{CheckedGlyph, StandsAt}
 use Rattle.glyph_renderer.specs.Visible.{Near}
 
 -- The bounding box is the glyph's at some place in reach.

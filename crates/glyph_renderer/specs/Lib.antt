@@ -1,4 +1,2 @@
-pub mod RunReads
 pub mod Visible
-pub mod Stands
 pub mod Drawing

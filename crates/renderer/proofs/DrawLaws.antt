@@ -30,7 +30,7 @@ use Rattle.definitions.proofs.RefusalLaws.{succeeded}
 use Rattle.definitions.proofs.GlyphLaws.{glyph-range}
 use Rattle.definitions.proofs.TextLaws.{measure-from, draw-from, draw-next}
 use Rattle.definitions.proofs.Utf8Laws.{next}
-use Rattle.glyph_renderer.specs.RunReads.{isWhole}
+use Rattle.runs.specs.RunReads.{isWhole}
 use Rattle.renderer.specs.CharAnswers.{RunsChecked}
 use Rattle.layout.specs.Ranges.{Checked}
 use Rattle.layout.specs.Origins.{originBy}

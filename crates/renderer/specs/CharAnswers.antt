@@ -5,7 +5,7 @@ use Prim.Native.Nat.{ℕ}
 use Rattle.types.specs.declared.font_reader.FontReader.{FontReader}
 use Rattle.types.specs.declared.glyph_reader.GlyphReader.{GlyphReader}
 use Rattle.definitions.specs.Text.{Answer, shows}
-use Rattle.glyph_renderer.specs.Stands.{CheckedGlyph}
+use Rattle.runs.specs.Stands.{CheckedGlyph}
 
 -- the runs of the glyph that it shows were read to the last pixel
 abbrev pub RunsChecked : List ℕ → FontReader → Answer → Type 0

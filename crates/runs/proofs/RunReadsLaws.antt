@@ -17,10 +17,10 @@ use Rattle.definitions.specs.Refusals.{success, refused}
 use Rattle.definitions.specs.Font.{withRuns}
 use Rattle.definitions.proofs.BitsLaws.{read-inside}
 use Rattle.definitions.proofs.RunsLaws.{pairPixels, NewPair, runs-reads, after-reads}
-use Rattle.glyph_renderer.specs.declared.runs.Runs.{Runs}
-use Rattle.glyph_renderer.specs.declared.runs.RunsRead.{RunsRead}
-use Rattle.glyph_renderer.specs.declared.runs.RunsRead.the-variants.{Pair, Ends}
-use Rattle.glyph_renderer.specs.RunReads.{isWhole, unlessEnds, onPair, pairAt, nextPair}
+use Rattle.runs.specs.declared.Runs.{Runs}
+use Rattle.runs.specs.declared.RunsRead.{RunsRead}
+use Rattle.runs.specs.declared.RunsRead.the-variants.{Pair, Ends}
+use Rattle.runs.specs.RunReads.{isWhole, unlessEnds, onPair, pairAt, nextPair}
 
 taken : (r : Read) (rest : ℕ → RunsRead) (q : Runs) → unlessEnds r rest ≡ Pair q → (n : ℕ) × ((r ≡ got n) × (rest n ≡ Pair q))
 taken (got n) rest q e = (n, (refl, e))

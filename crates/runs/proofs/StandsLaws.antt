@@ -17,12 +17,12 @@ use Rattle.definitions.specs.Header.{header}
 use Rattle.definitions.specs.Runs.{Pixels, pixels, cut, glyphPixels}
 use Rattle.definitions.specs.Font.{u8g2, pixelList, pixelsOf}
 use Rattle.definitions.proofs.RunsLaws.{pixel-in-pair, pixels-after-pair}
-use Rattle.glyph_renderer.specs.declared.runs.Runs.{Runs}
-use Rattle.glyph_renderer.specs.declared.runs.RunsRead.{RunsRead}
-use Rattle.glyph_renderer.specs.declared.runs.RunsRead.the-variants.{Pair, Ends}
-use Rattle.glyph_renderer.specs.RunReads.{isWhole, onPair, pairAt, nextPair}
-use Rattle.glyph_renderer.specs.Stands.{Stands, StandsAt}
-use Rattle.glyph_renderer.proofs.RunReadsLaws.{first-place, next-place, next-gives, glyph-gives}
+use Rattle.runs.specs.declared.Runs.{Runs}
+use Rattle.runs.specs.declared.RunsRead.{RunsRead}
+use Rattle.runs.specs.declared.RunsRead.the-variants.{Pair, Ends}
+use Rattle.runs.specs.RunReads.{isWhole, onPair, pairAt, nextPair}
+use Rattle.runs.specs.Stands.{Stands, StandsAt}
+use Rattle.runs.proofs.RunReadsLaws.{first-place, next-place, next-gives, glyph-gives}
 
 -- a pair that leads to pixels
 paired : (r : RunsRead) (rest : Runs → Pixels) (ps : List ℕ) → onPair rest r ≡ pixels ps → (q : Runs) × ((r ≡ Pair q) × (rest q ≡ pixels ps))

@@ -7,9 +7,9 @@ use lib.ListN.{length}
 use Rattle.integers.specs.Integers.{pick}
 use Rattle.definitions.specs.Bits.{Read, got, ends, readAt}
 use Rattle.definitions.specs.Runs.{Pixels, pixels, cut}
-use Rattle.glyph_renderer.specs.declared.runs.Runs.{Runs}
-use Rattle.glyph_renderer.specs.declared.runs.RunsRead.{RunsRead}
-use Rattle.glyph_renderer.specs.declared.runs.RunsRead.the-variants.{Pair, Ends}
+use Rattle.runs.specs.declared.Runs.{Runs}
+use Rattle.runs.specs.declared.RunsRead.{RunsRead}
+use Rattle.runs.specs.declared.RunsRead.the-variants.{Pair, Ends}
 
 -- what a reader of runs may count on: the widths of the runs and the place are within limits
 pub record Readable (font : List ℕ) (m0 m1 at : ℕ) : Type 0 where

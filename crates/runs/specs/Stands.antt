@@ -9,8 +9,8 @@ use Rattle.types.specs.declared.glyph_reader.GlyphReader.{GlyphReader}
 use Rattle.definitions.specs.Header.{Opened}
 use Rattle.definitions.specs.Runs.{pixels, glyphPixels, pixelsFrom}
 use Rattle.definitions.specs.Font.{u8g2, pixelsOf}
-use Rattle.glyph_renderer.specs.declared.runs.Runs.{Runs}
-use Rattle.glyph_renderer.specs.RunReads.{isWhole}
+use Rattle.runs.specs.declared.Runs.{Runs}
+use Rattle.runs.specs.RunReads.{isWhole}
 
 -- The pixel i of n is the one after `offset` pixels of the pair; `before` pixels lie before the pair.
 pub record Stands (font : List ℕ) (m0 m1 n : ℕ) (ps : List ℕ) (runs : Runs) (offset i : ℕ) : Type 0 where

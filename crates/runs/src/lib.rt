@@ -1,11 +1,14 @@
-// A glyph's runs, pair by pair.
+// A glyph's runs (01, "Runs"), pair by pair.
 ghost use mathlib.Core.Path.{_≡_};
-ghost use Prim.Native.Nat.{_+_, _*_, _<_};
+ghost use Prim.Native.Nat.{_+_, _*_, _≤_, _<_};
 ghost use lib.Dec.{ltb};
+ghost use lib.ListN.{length};
 ghost use Rattle.integers.specs.Integers.{pick};
-ghost use Rattle.glyph_renderer.specs.RunReads.{Readable, pairAt, nextPair};
-ghost use Rattle.glyph_renderer.specs.Stands.{CheckedGlyph, StandsAt};
-ghost use Rattle.glyph_renderer.specs.declared.runs.RunsRead.the-variants.{Pair, Ends};
+ghost use Rattle.definitions.specs.Header.{Opened};
+ghost use Rattle.definitions.specs.Runs.{glyphPixels};
+ghost use Rattle.runs.specs.RunReads.{Readable, isWhole, pairAt, nextPair};
+ghost use Rattle.runs.specs.Stands.{CheckedGlyph, StandsAt};
+ghost use Rattle.runs.specs.declared.RunsRead.the-variants.{Pair, Ends};
 use glyph_reader::BitReader;
 use glyph_reader::UnsignedRead;
 use types::font_reader::FontReader;
@@ -81,6 +84,29 @@ pub fn next_pair(font: &[u8], m0: u8, m1: u8, runs: Runs) -> RunsRead
         });
     }
     read_pair(font, m0, m1, after_repeat.bit_pos)
+}
+
+// Whether the font has all of a glyph's runs. The pixels are counted, run by run, and none is looked at.
+pub fn check_runs(font: &[u8], head: FontReader, glyph: GlyphReader) -> bool
+    requires { ⌜ Opened (now font) head × (glyph .«bit_pos» ≤ 8 * length (now font)) ⌝ }
+    ensures { λ r. ⌜ r ≡ isWhole (glyphPixels (now (font .entry)) head glyph) ⌝ }
+{
+    let mut missing = (glyph.glyph_width as usize) * (glyph.glyph_height as usize);
+    if missing == 0 {
+        return true;
+    }
+    let RunsRead::Pair(first) = read_pair(font, head.m0, head.m1, glyph.bit_pos) else {
+        return false;
+    };
+    let mut runs = first;
+    while runs.count() < missing {
+        missing -= runs.count();
+        let RunsRead::Pair(next) = next_pair(font, head.m0, head.m1, runs) else {
+            return false;
+        };
+        runs = next;
+    }
+    true
 }
 
 // The pair of a read before which the font cannot end, as the runs were checked.

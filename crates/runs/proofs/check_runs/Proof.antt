@@ -7,10 +7,10 @@ use native.Mathlib.Omega.{arith}
 use lib.ListN.{length}
 use borrow.Author.Needs.{needs}
 use Rattle.definitions.specs.Runs.{glyphPixels}
-use Rattle.glyph_renderer.specs.RunReads.{isWhole}
-use Rattle.glyph_renderer.proofs.RunReadsLaws.{given, first-place, next-place, whole-last, whole-next, whole-not, no-pixels, glyph-gives}
-use Rattle.glyph_renderer.proofs.check_runs.Statement.{statement}
-use Rattle.glyph_renderer.proofs.check_runs.Tie as tie
+use Rattle.runs.specs.RunReads.{isWhole}
+use Rattle.runs.proofs.RunReadsLaws.{given, first-place, next-place, whole-last, whole-next, whole-not, no-pixels, glyph-gives}
+use Rattle.runs.proofs.check_runs.Statement.{statement}
+use Rattle.runs.proofs.check_runs.Tie as tie
 
 abbrev Inv-loop : tie.InvT-loop
 Inv-loop font head missing₀ runs₀ missing runs =

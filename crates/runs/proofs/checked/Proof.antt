@@ -1,7 +1,7 @@
 -- The other answer is excluded.
 use borrow.Author.Needs.{needs}
-use Rattle.glyph_renderer.proofs.runs.checked.Statement.{statement}
-use Rattle.glyph_renderer.proofs.runs.checked.Tie as tie
+use Rattle.runs.proofs.checked.Statement.{statement}
+use Rattle.runs.proofs.checked.Tie as tie
 
 enum-told : tie.Need-enum-told
 enum-told c = search needs

@@ -5,11 +5,11 @@ use native.Mathlib.Omega.{arith}
 use Rattle.definitions.specs.Bits.{got, readAt}
 use Rattle.definitions.proofs.BitsLaws.{read-inside}
 use Rattle.glyph_reader.proofs.ReadLaws.{unsigned-value, unsigned-ends}
-use Rattle.glyph_renderer.specs.RunReads.{nextPair}
+use Rattle.runs.specs.RunReads.{nextPair}
 use borrow.Author.Needs.{needs}
 use borrow.Author.Tests.{eq-eqb, ne-eqb}
-use Rattle.glyph_renderer.proofs.runs.next_pair.Statement.{statement}
-use Rattle.glyph_renderer.proofs.runs.next_pair.Tie as tie
+use Rattle.runs.proofs.next_pair.Statement.{statement}
+use Rattle.runs.proofs.next_pair.Tie as tie
 
 enum-told : tie.Need-enum-told
 enum-told c = search needs

@@ -4,10 +4,10 @@ use Prim.Native.Nat.{_+_}
 use native.Mathlib.Omega.{arith}
 use Rattle.definitions.specs.Bits.{got, readAt}
 use Rattle.glyph_reader.proofs.ReadLaws.{unsigned-value, unsigned-ends}
-use Rattle.glyph_renderer.specs.RunReads.{pairAt}
+use Rattle.runs.specs.RunReads.{pairAt}
 use borrow.Author.Needs.{needs}
-use Rattle.glyph_renderer.proofs.runs.read_pair.Statement.{statement}
-use Rattle.glyph_renderer.proofs.runs.read_pair.Tie as tie
+use Rattle.runs.proofs.read_pair.Statement.{statement}
+use Rattle.runs.proofs.read_pair.Tie as tie
 
 enum-told : tie.Need-enum-told
 enum-told c = search needs

@@ -5,11 +5,11 @@ use Prim.Native.Nat.{ℕ, _-_, _*_, _<_}
 use native.Mathlib.Omega.{arith}
 use lib.ListN.{length}
 use borrow.Author.Needs.{needs}
-use Rattle.glyph_renderer.specs.Stands.{Stands, StandsAt}
-use Rattle.glyph_renderer.proofs.RunReadsLaws.{next-place}
-use Rattle.glyph_renderer.proofs.StandsLaws.{first-known, stands-first, next-known, stands-next}
-use Rattle.glyph_renderer.proofs.runs.seek.Statement.{statement}
-use Rattle.glyph_renderer.proofs.runs.seek.Tie as tie
+use Rattle.runs.specs.Stands.{Stands, StandsAt}
+use Rattle.runs.proofs.RunReadsLaws.{next-place}
+use Rattle.runs.proofs.StandsLaws.{first-known, stands-first, next-known, stands-next}
+use Rattle.runs.proofs.seek.Statement.{statement}
+use Rattle.runs.proofs.seek.Tie as tie
 
 abbrev Inv-loop : tie.InvT-loop
 Inv-loop font head pixel runs₀ offset₀ runs offset =

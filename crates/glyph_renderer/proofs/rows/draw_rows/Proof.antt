@@ -6,7 +6,7 @@ use Prim.Native.Nat.{ℕ, _+_, _-_, _*_, _≤_, _<_}
 use native.Mathlib.Omega.{arith}
 use lib.ListN.{length, take, set, length-set}
 use borrow.Author.Needs.{needs}
-use Rattle.glyph_renderer.proofs.RunReadsLaws.{next-place}
+use Rattle.runs.proofs.RunReadsLaws.{next-place}
 use Rattle.glyph_renderer.proofs.DrawLaws.{Drawn, none-drawn, left-is, top-fits, row-place, row-length, row-reach, next-column, next-row, pair-known, next-runs}
 use Rattle.glyph_renderer.proofs.rows.draw_rows.Statement.{statement}
 use Rattle.glyph_renderer.proofs.rows.draw_rows.Tie as tie

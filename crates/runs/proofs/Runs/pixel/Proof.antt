@@ -1,8 +1,8 @@
 -- The definition makes the same test.
 use borrow.Author.Tests.{lt-ltb, le-ltb}
 use borrow.Author.Needs.{needs}
-use Rattle.glyph_renderer.proofs.runs.Runs.pixel.Statement.{statement}
-use Rattle.glyph_renderer.proofs.runs.Runs.pixel.Tie as tie
+use Rattle.runs.proofs.Runs.pixel.Statement.{statement}
+use Rattle.runs.proofs.Runs.pixel.Tie as tie
 
 returns : tie.Need-returns
 returns c = simp (lt-ltb _ _ (c .if1 .taken))

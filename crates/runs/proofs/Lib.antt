@@ -1,0 +1,2 @@
+pub mod RunReadsLaws
+pub mod StandsLaws

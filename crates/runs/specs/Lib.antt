@@ -1,0 +1,2 @@
+pub mod RunReads
+pub mod Stands
