@@ -1,12 +1,8 @@
 // The calls for programs in C or Rust, which link the static library (`rt staticlib c_api`). Numbers
 // and slices go in; a slice is a pointer and a length. Each call answers with a status: 0 for
 // success, 01's number for a refusal, 255 where a code has no meaning or `out` is too short. The
-// answer's values are stored in `out`: specs/Replies.antt says which. oracle/papayahelm.h declares
-// the calls.
-mod codes;
-mod header;
-mod reply;
-
+// answer's values are stored in `out`: Replies.antt of c_values says which. oracle/papayahelm.h
+// declares the calls.
 ghost use mathlib.Core.Path.{_≡_};
 ghost use lib.ListN.{length};
 ghost use Rattle.definitions.specs.Font.{u8g2};
@@ -15,28 +11,26 @@ ghost use Rattle.definitions.specs.Calls.{openFont, fontBoundingBox, request, p
 ghost use Rattle.redraw.specs.Drawing.{drawing, groundOf};
 ghost use Rattle.definitions.specs.Text.{point};
 ghost use Rattle.redraw.specs.Redraw.{redrawn, redrawnBuffer};
-ghost use Rattle.c_api.specs.Codes.{meaningOf};
-ghost use Rattle.c_api.specs.Replies.{Answers, inkOf, styleOf, drawnBy, boxReply, textReply, alignedReply};
-ghost use Rattle.c_api.specs.Headers.{Opens};
-use codes::Codes;
-use codes::Meaning;
-use codes::known_codes;
+ghost use Rattle.c_values.specs.Codes.{meaningOf};
+ghost use Rattle.c_values.specs.Replies.{Answers, inkOf, styleOf, drawnBy, boxReply, textReply, alignedReply};
+ghost use Rattle.c_values.specs.Headers.{Opens};
+use c_values::codes::Codes;
+use c_values::codes::known_codes;
+use c_values::codes::style_of;
+use c_values::header::store_header;
+use c_values::reply::BAD_ARGUMENT;
+use c_values::reply::of_bounding_box;
+use c_values::reply::of_dimensions;
+use c_values::reply::of_rectangle;
+use c_values::reply::store;
 use font_reader::new_from_raw_data;
-use header::store_header;
 use measuring::font_bounding_box::get_font_bounding_box;
 use measuring::rendered_dimensions::get_rendered_dimensions;
 use measuring::rendered_dimensions_aligned::get_rendered_dimensions_aligned;
 use redraw::reading::redraw;
 use renderer::render::render;
-use reply::BAD_ARGUMENT;
-use reply::of_bounding_box;
-use reply::of_dimensions;
-use reply::of_rectangle;
-use reply::store;
 use types::geometry::Point;
 use types::results::FontReaderResult;
-use types::style::FontColor;
-use types::style::FontStyle;
 use utils::error::error_number;
 
 // The header's values and the default line height.
@@ -122,22 +116,6 @@ pub extern "C" fn papayahelm_measure_aligned(
         m.skip,
     );
     store(out, of_bounding_box(result))
-}
-
-fn style_of(m: Meaning, fg: u8, bg: u8) -> FontStyle
-    ensures { λ r. ⌜ r ≡ styleOf (m .«vertical_pos») (m .background) fg bg ⌝ }
-{
-    let vertical_pos = m.vertical_pos;
-    if m.background {
-        return FontStyle {
-            color: FontColor::WithBackground { fg, bg },
-            vertical_pos,
-        };
-    }
-    FontStyle {
-        color: FontColor::Transparent(fg),
-        vertical_pos,
-    }
 }
 
 // Draws a text into the buffer, one byte a pixel.

@@ -6,15 +6,15 @@ use native.Mathlib.Omega.{arith}
 use borrow.Author.Tests.{ltb-false}
 use lib.Dec.{ltb}
 use Rattle.integers.proofs.Choices.{impossible}
-use Rattle.c_api.specs.declared.codes.Anchor.{Anchor}
-use Rattle.c_api.specs.declared.codes.Anchor.the-variants.{Known as Anchor·Known, Unknown as Anchor·Unknown}
-use Rattle.c_api.specs.declared.codes.Alignment.{Alignment}
-use Rattle.c_api.specs.declared.codes.Alignment.the-variants.{Known as Alignment·Known, Unknown as Alignment·Unknown}
-use Rattle.c_api.specs.declared.codes.Flag.{Flag}
-use Rattle.c_api.specs.declared.codes.Flag.the-variants.{Known as Flag·Known, Unknown as Flag·Unknown}
-use Rattle.c_api.specs.declared.codes.Meaning.{Meaning}
-use Rattle.c_api.specs.declared.codes.Codes.the-variants.{Known, Unknown}
-use Rattle.c_api.specs.Codes.{allKnown, anchorOf, alignmentOf, flagOf, meaningOf}
+use Rattle.c_values.specs.declared.codes.Anchor.{Anchor}
+use Rattle.c_values.specs.declared.codes.Anchor.the-variants.{Known as Anchor·Known, Unknown as Anchor·Unknown}
+use Rattle.c_values.specs.declared.codes.Alignment.{Alignment}
+use Rattle.c_values.specs.declared.codes.Alignment.the-variants.{Known as Alignment·Known, Unknown as Alignment·Unknown}
+use Rattle.c_values.specs.declared.codes.Flag.{Flag}
+use Rattle.c_values.specs.declared.codes.Flag.the-variants.{Known as Flag·Known, Unknown as Flag·Unknown}
+use Rattle.c_values.specs.declared.codes.Meaning.{Meaning}
+use Rattle.c_values.specs.declared.codes.Codes.the-variants.{Known, Unknown}
+use Rattle.c_values.specs.Codes.{allKnown, anchorOf, alignmentOf, flagOf, meaningOf}
 
 never : (m : Meaning) → Unknown ≡ Known m → ⊥
 never m e = impossible cc

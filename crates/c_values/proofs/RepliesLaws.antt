@@ -3,11 +3,11 @@ use mathlib.Core.Path.{_≡_, refl, ap, _∙_}
 use mathlib.Core.List.{List}
 use Prim.Native.Nat.{ℕ}
 use lib.IntN.{ℤ}
-use Rattle.c_api.specs.declared.codes.Codes.{Codes}
-use Rattle.c_api.specs.declared.codes.Codes.the-variants.{Known, Unknown}
-use Rattle.c_api.specs.declared.codes.Meaning.{Meaning}
-use Rattle.c_api.specs.declared.reply.Reply.{Reply}
-use Rattle.c_api.specs.Replies.{Answers, stored, drawnBy}
+use Rattle.c_values.specs.declared.codes.Codes.{Codes}
+use Rattle.c_values.specs.declared.codes.Codes.the-variants.{Known, Unknown}
+use Rattle.c_values.specs.declared.codes.Meaning.{Meaning}
+use Rattle.c_values.specs.declared.reply.Reply.{Reply}
+use Rattle.c_values.specs.Replies.{Answers, stored, drawnBy}
 
 module _ (codes : Codes) (reply : Meaning → Reply) (before : List ℤ) where
   pub bad-argument : codes ≡ Unknown → Answers codes reply 255 before before

@@ -5,15 +5,15 @@ use lib.Dec.{eqb, ltb}
 use Rattle.integers.specs.Integers.{pick}
 use Rattle.types.specs.declared.style.HorizontalAlignment.the-variants.{Left, Center as Centre, Right}
 use Rattle.types.specs.declared.style.VerticalPosition.the-variants.{Baseline, Top, Center, Bottom}
-use Rattle.c_api.specs.declared.codes.Anchor.{Anchor}
-use Rattle.c_api.specs.declared.codes.Anchor.the-variants.{Known as Anchor·Known, Unknown as Anchor·Unknown}
-use Rattle.c_api.specs.declared.codes.Alignment.{Alignment}
-use Rattle.c_api.specs.declared.codes.Alignment.the-variants.{Known as Alignment·Known, Unknown as Alignment·Unknown}
-use Rattle.c_api.specs.declared.codes.Flag.{Flag}
-use Rattle.c_api.specs.declared.codes.Flag.the-variants.{Known as Flag·Known, Unknown as Flag·Unknown}
-use Rattle.c_api.specs.declared.codes.Meaning.{Meaning}
-use Rattle.c_api.specs.declared.codes.Codes.{Codes}
-use Rattle.c_api.specs.declared.codes.Codes.the-variants.{Known, Unknown}
+use Rattle.c_values.specs.declared.codes.Anchor.{Anchor}
+use Rattle.c_values.specs.declared.codes.Anchor.the-variants.{Known as Anchor·Known, Unknown as Anchor·Unknown}
+use Rattle.c_values.specs.declared.codes.Alignment.{Alignment}
+use Rattle.c_values.specs.declared.codes.Alignment.the-variants.{Known as Alignment·Known, Unknown as Alignment·Unknown}
+use Rattle.c_values.specs.declared.codes.Flag.{Flag}
+use Rattle.c_values.specs.declared.codes.Flag.the-variants.{Known as Flag·Known, Unknown as Flag·Unknown}
+use Rattle.c_values.specs.declared.codes.Meaning.{Meaning}
+use Rattle.c_values.specs.declared.codes.Codes.{Codes}
+use Rattle.c_values.specs.declared.codes.Codes.the-variants.{Known, Unknown}
 
 unfoldable pub anchorOf : ℕ → Anchor
 anchorOf code =

@@ -8,7 +8,7 @@ use lib.IntN.{ℤ, pos}
 use Rattle.integers.specs.Integers.{pick}
 use Rattle.types.specs.declared.font_reader.FontReader.{FontReader}
 use Rattle.definitions.specs.Refusals.{Outcome, success, refused}
-use Rattle.c_api.specs.Replies.{storedAt}
+use Rattle.c_values.specs.Replies.{storedAt}
 
 abbrev pub widthValues : FontReader → List ℤ
 widthValues h =

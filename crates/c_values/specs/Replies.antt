@@ -17,10 +17,10 @@ use Rattle.types.specs.declared.style.FontStyle.{FontStyle}
 use Rattle.types.specs.declared.style.VerticalPosition.{VerticalPosition}
 use Rattle.definitions.specs.Refusals.{Outcome, success, refused, number, codePoint}
 use Rattle.definitions.specs.Text.{point}
-use Rattle.c_api.specs.declared.reply.Reply.{Reply}
-use Rattle.c_api.specs.declared.codes.Codes.{Codes}
-use Rattle.c_api.specs.declared.codes.Codes.the-variants.{Known, Unknown}
-use Rattle.c_api.specs.declared.codes.Meaning.{Meaning}
+use Rattle.c_values.specs.declared.reply.Reply.{Reply}
+use Rattle.c_values.specs.declared.codes.Codes.{Codes}
+use Rattle.c_values.specs.declared.codes.Codes.the-variants.{Known, Unknown}
+use Rattle.c_values.specs.declared.codes.Meaning.{Meaning}
 
 -- A refusal: 01's number as the status, the code point, and zeros.
 abbrev pub refusedReply : ℕ → ℕ → Reply

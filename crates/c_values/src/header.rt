@@ -4,8 +4,8 @@ ghost use mathlib.Core.Bool.{cond};
 ghost use Prim.Native.Nat.{_≤_};
 ghost use lib.IntN.{pos};
 ghost use lib.ListN.{length};
-ghost use Rattle.c_api.specs.Replies.{storedAt};
-ghost use Rattle.c_api.specs.Headers.{widthValues, boxValues, heightValues, offsetValues, headerValues};
+ghost use Rattle.c_values.specs.Replies.{storedAt};
+ghost use Rattle.c_values.specs.Headers.{widthValues, boxValues, heightValues, offsetValues, headerValues};
 use crate::reply::unsigned;
 use types::font_reader::FontReader;
 

@@ -4,7 +4,7 @@ ghost use Prim.Native.Nat.{_≤_};
 ghost use lib.IntN.{pos};
 ghost use lib.ListN.{length};
 ghost use Rattle.definitions.specs.Calls.{rectangleOutcome, dimensionsOutcome, boundingBoxOutcome};
-ghost use Rattle.c_api.specs.Replies.{refusedReply, errorReply, boxedReply, boundsReply, boxReply, textReply, alignedReply, stored};
+ghost use Rattle.c_values.specs.Replies.{refusedReply, errorReply, boxedReply, boundsReply, boxReply, textReply, alignedReply, stored};
 use types::error::Error;
 use types::geometry::BoundingBox;
 use types::geometry::Point;

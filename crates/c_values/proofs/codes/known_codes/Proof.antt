@@ -1,10 +1,10 @@
 -- Each code is known as its function says, and the room is tested last.
 use mathlib.Core.Path.{sym, _∙_}
 use borrow.Author.Tests.{lt-ltb, le-ltb}
-use Rattle.c_api.specs.Codes.{meaningOf}
+use Rattle.c_values.specs.Codes.{meaningOf}
 use borrow.Author.Needs.{needs}
-use Rattle.c_api.proofs.codes.known_codes.Statement.{statement}
-use Rattle.c_api.proofs.codes.known_codes.Tie as tie
+use Rattle.c_values.proofs.codes.known_codes.Statement.{statement}
+use Rattle.c_values.proofs.codes.known_codes.Tie as tie
 
 enum-told : tie.Need-enum-told
 enum-told c = search needs

@@ -1,6 +1,6 @@
 -- One case each.
-use Rattle.c_api.proofs.style_of.Statement.{statement}
-use Rattle.c_api.proofs.style_of.Tie as tie
+use Rattle.c_values.proofs.codes.style_of.Statement.{statement}
+use Rattle.c_values.proofs.codes.style_of.Tie as tie
 
 returns : tie.Need-returns
 returns c = simp (c .if1 .taken)

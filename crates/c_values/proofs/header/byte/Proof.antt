@@ -2,8 +2,8 @@
 use mir.Syntax.{w64}
 use mir.Facts.{toZ-pos}
 use borrow.Author.Needs.{needs}
-use Rattle.c_api.proofs.header.byte.Statement.{statement}
-use Rattle.c_api.proofs.header.byte.Tie as tie
+use Rattle.c_values.proofs.header.byte.Statement.{statement}
+use Rattle.c_values.proofs.header.byte.Tie as tie
 
 returns : tie.Need-returns
 returns c = toZ-pos w64 (search needs)

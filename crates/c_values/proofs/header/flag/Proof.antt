@@ -1,6 +1,6 @@
 -- One case each.
-use Rattle.c_api.proofs.header.flag.Statement.{statement}
-use Rattle.c_api.proofs.header.flag.Tie as tie
+use Rattle.c_values.proofs.header.flag.Statement.{statement}
+use Rattle.c_values.proofs.header.flag.Tie as tie
 
 returns : tie.Need-returns
 returns c = simp (c .if1 .taken)

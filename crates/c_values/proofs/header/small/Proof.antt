@@ -1,8 +1,8 @@
 -- An i8 fits an i64, so the cast leaves it as it is.
 use mir.Syntax.{w8, w64}
 use mir.Facts.{toZ-ofZ, sfits-widen}
-use Rattle.c_api.proofs.header.small.Statement.{statement}
-use Rattle.c_api.proofs.header.small.Tie as tie
+use Rattle.c_values.proofs.header.small.Statement.{statement}
+use Rattle.c_values.proofs.header.small.Tie as tie
 
 cast-result : tie.Need-cast-result
 cast-result c = let f = c .fits .n in simp (toZ-ofZ, f) (sfits-widen {w = w8} {w′ = w64} tt f)

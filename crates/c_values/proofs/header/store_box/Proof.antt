@@ -6,8 +6,8 @@ use mir.Val.{SFits}
 use mir.Facts.{toZ-ofZ}
 use Rattle.integers.proofs.Laws.{stored}
 use borrow.Author.Needs.{needs}
-use Rattle.c_api.proofs.header.store_box.Statement.{statement}
-use Rattle.c_api.proofs.header.store_box.Tie as tie
+use Rattle.c_values.proofs.header.store_box.Statement.{statement}
+use Rattle.c_values.proofs.header.store_box.Tie as tie
 
 slice-set-from-font-bounding-box-height : tie.Need-slice-set-from-font-bounding-box-height
 slice-set-from-font-bounding-box-height c = simp length-set (omega (arith, c .before .before .before .before .before .before .before .before .pre))

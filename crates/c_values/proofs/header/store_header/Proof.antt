@@ -1,8 +1,8 @@
 -- One part after the other.
 use mathlib.Core.Path.{_∙_}
 use borrow.Author.Needs.{needs}
-use Rattle.c_api.proofs.header.store_header.Statement.{statement}
-use Rattle.c_api.proofs.header.store_header.Tie as tie
+use Rattle.c_values.proofs.header.store_header.Statement.{statement}
+use Rattle.c_values.proofs.header.store_header.Tie as tie
 
 returns : tie.Need-returns
 returns c =

@@ -6,8 +6,8 @@ use mir.Val.{SFits}
 use mir.Facts.{toZ-ofZ}
 use Rattle.integers.proofs.Laws.{stored}
 use borrow.Author.Needs.{needs}
-use Rattle.c_api.proofs.header.store_heights.Statement.{statement}
-use Rattle.c_api.proofs.header.store_heights.Tie as tie
+use Rattle.c_values.proofs.header.store_heights.Statement.{statement}
+use Rattle.c_values.proofs.header.store_heights.Tie as tie
 
 ascent-fits : (c : tie.Start) → SFits w8 (c .args .head .ascent)
 ascent-fits c = search needs

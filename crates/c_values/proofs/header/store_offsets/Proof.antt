@@ -4,8 +4,8 @@ use lib.ListN.{length-set}
 use mir.Syntax.{w8, w64}
 use Rattle.integers.proofs.Laws.{stored}
 use borrow.Author.Needs.{needs}
-use Rattle.c_api.proofs.header.store_offsets.Statement.{statement}
-use Rattle.c_api.proofs.header.store_offsets.Tie as tie
+use Rattle.c_values.proofs.header.store_offsets.Statement.{statement}
+use Rattle.c_values.proofs.header.store_offsets.Tie as tie
 
 slice-set-from-array-offset-lower-a : tie.Need-slice-set-from-array-offset-lower-a
 slice-set-from-array-offset-lower-a c = simp length-set (omega arith)

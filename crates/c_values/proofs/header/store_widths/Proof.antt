@@ -4,8 +4,8 @@ use lib.ListN.{length-set}
 use mir.Syntax.{w8, w64}
 use Rattle.integers.proofs.Laws.{stored}
 use borrow.Author.Needs.{needs}
-use Rattle.c_api.proofs.header.store_widths.Statement.{statement}
-use Rattle.c_api.proofs.header.store_widths.Tie as tie
+use Rattle.c_values.proofs.header.store_widths.Statement.{statement}
+use Rattle.c_values.proofs.header.store_widths.Tie as tie
 
 slice-set-from-supports-background-color : tie.Need-slice-set-from-supports-background-color
 slice-set-from-supports-background-color c = simp length-set (omega arith)

@@ -4,8 +4,8 @@ use mir.Val.{SFits}
 use mir.Facts.{toZ-ofZ}
 use Rattle.integers.proofs.Laws.{stored}
 use borrow.Author.Needs.{needs}
-use Rattle.c_api.proofs.reply.boxed.Statement.{statement}
-use Rattle.c_api.proofs.reply.boxed.Tie as tie
+use Rattle.c_values.proofs.reply.boxed.Statement.{statement}
+use Rattle.c_values.proofs.reply.boxed.Tie as tie
 
 returns : tie.Need-returns
 returns c =

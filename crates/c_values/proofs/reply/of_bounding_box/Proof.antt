@@ -1,10 +1,10 @@
 -- Success and refusal, each by its function.
 use mathlib.Core.Path.{sym, _∙_, ap}
 use Rattle.definitions.specs.Calls.{boundingBoxOutcome}
-use Rattle.c_api.specs.Replies.{alignedReply}
+use Rattle.c_values.specs.Replies.{alignedReply}
 use borrow.Author.Needs.{needs}
-use Rattle.c_api.proofs.reply.of_bounding_box.Statement.{statement}
-use Rattle.c_api.proofs.reply.of_bounding_box.Tie as tie
+use Rattle.c_values.proofs.reply.of_bounding_box.Statement.{statement}
+use Rattle.c_values.proofs.reply.of_bounding_box.Tie as tie
 
 returns : tie.Need-returns
 returns c = c .of-bounds .ensures ∙ ap (λ r. alignedReply (boundingBoxOutcome r)) (sym (c .before .before .result .given .1))

@@ -5,8 +5,8 @@ use mir.Facts.{toZ-ofZ}
 use Rattle.integers.proofs.Laws.{stored}
 use mathlib.Core.Path.{sym, _∙_, ap}
 use borrow.Author.Needs.{needs}
-use Rattle.c_api.proofs.reply.of_bounds.Statement.{statement}
-use Rattle.c_api.proofs.reply.of_bounds.Tie as tie
+use Rattle.c_values.proofs.reply.of_bounds.Statement.{statement}
+use Rattle.c_values.proofs.reply.of_bounds.Tie as tie
 
 enum-told : tie.Need-enum-told
 enum-told c = search needs

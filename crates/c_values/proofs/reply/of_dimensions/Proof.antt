@@ -1,10 +1,10 @@
 -- Success and refusal, each by its function.
 use mathlib.Core.Path.{sym, _∙_, ap}
 use Rattle.definitions.specs.Calls.{dimensionsOutcome}
-use Rattle.c_api.specs.Replies.{textReply}
+use Rattle.c_values.specs.Replies.{textReply}
 use borrow.Author.Needs.{needs}
-use Rattle.c_api.proofs.reply.of_dimensions.Statement.{statement}
-use Rattle.c_api.proofs.reply.of_dimensions.Tie as tie
+use Rattle.c_values.proofs.reply.of_dimensions.Statement.{statement}
+use Rattle.c_values.proofs.reply.of_dimensions.Tie as tie
 
 returns : tie.Need-returns
 returns c = c .of-bounds .ensures ∙ ap (λ r. textReply (dimensionsOutcome r)) (sym (c .before .before .before .result .given .1))

@@ -1,8 +1,8 @@
 -- The number and the code point are what their functions ensure.
 use mathlib.Core.Path.{_∙_}
 use borrow.Author.Needs.{needs}
-use Rattle.c_api.proofs.reply.of_error.Statement.{statement}
-use Rattle.c_api.proofs.reply.of_error.Tie as tie
+use Rattle.c_values.proofs.reply.of_error.Statement.{statement}
+use Rattle.c_values.proofs.reply.of_error.Tie as tie
 
 returns : tie.Need-returns
 returns c = c .refused .ensures ∙ simp (c .before .before .error-number .ensures, c .before .error-code-point .ensures)

@@ -1,10 +1,10 @@
 -- Success and refusal, each by its function.
 use mathlib.Core.Path.{sym, _∙_, ap}
 use Rattle.definitions.specs.Calls.{rectangleOutcome}
-use Rattle.c_api.specs.Replies.{boxReply}
+use Rattle.c_values.specs.Replies.{boxReply}
 use borrow.Author.Needs.{needs}
-use Rattle.c_api.proofs.reply.of_rectangle.Statement.{statement}
-use Rattle.c_api.proofs.reply.of_rectangle.Tie as tie
+use Rattle.c_values.proofs.reply.of_rectangle.Statement.{statement}
+use Rattle.c_values.proofs.reply.of_rectangle.Tie as tie
 
 returns : tie.Need-returns
 returns c = c .boxed .ensures ∙ ap (λ r. boxReply (rectangleOutcome r)) (sym (c .before .before .result .given .1))

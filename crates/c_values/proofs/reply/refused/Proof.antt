@@ -2,8 +2,8 @@
 use mir.Syntax.{w64}
 use Rattle.integers.proofs.Laws.{stored}
 use borrow.Author.Needs.{needs}
-use Rattle.c_api.proofs.reply.refused.Statement.{statement}
-use Rattle.c_api.proofs.reply.refused.Tie as tie
+use Rattle.c_values.proofs.reply.refused.Statement.{statement}
+use Rattle.c_values.proofs.reply.refused.Tie as tie
 
 returns : tie.Need-returns
 returns c = simp (stored w64 (c .unsigned .ok) (c .unsigned .ensures))

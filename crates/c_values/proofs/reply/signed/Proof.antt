@@ -1,8 +1,8 @@
 -- An i32 fits an i64, so the cast leaves it as it is.
 use mir.Syntax.{w32, w64}
 use mir.Facts.{toZ-ofZ, sfits-widen}
-use Rattle.c_api.proofs.reply.signed.Statement.{statement}
-use Rattle.c_api.proofs.reply.signed.Tie as tie
+use Rattle.c_values.proofs.reply.signed.Statement.{statement}
+use Rattle.c_values.proofs.reply.signed.Tie as tie
 
 cast-result : tie.Need-cast-result
 cast-result c = let f = c .fits .n in simp (toZ-ofZ, f) (sfits-widen {w = w32} {w′ = w64} tt f)

@@ -2,8 +2,8 @@
 use native.Mathlib.Omega.{arith}
 use lib.ListN.{length-set}
 use borrow.Author.Needs.{needs}
-use Rattle.c_api.proofs.reply.store.Statement.{statement}
-use Rattle.c_api.proofs.reply.store.Tie as tie
+use Rattle.c_values.proofs.reply.store.Statement.{statement}
+use Rattle.c_values.proofs.reply.store.Tie as tie
 
 slice-set-from-x : tie.Need-slice-set-from-x
 slice-set-from-x c = simp length-set (omega arith)

@@ -2,8 +2,8 @@
 use borrow.Author.Needs.{needs}
 use mir.Syntax.{w64}
 use mir.Facts.{toZ-pos}
-use Rattle.c_api.proofs.reply.unsigned.Statement.{statement}
-use Rattle.c_api.proofs.reply.unsigned.Tie as tie
+use Rattle.c_values.proofs.reply.unsigned.Statement.{statement}
+use Rattle.c_values.proofs.reply.unsigned.Tie as tie
 
 returns : tie.Need-returns
 returns c = toZ-pos w64 (search needs)
