@@ -18,7 +18,6 @@ use c_values::codes::Codes;
 use c_values::codes::known_codes;
 use c_values::codes::style_of;
 use c_values::header::store_header;
-use c_values::reply::BAD_ARGUMENT;
 use c_values::reply::of_bounding_box;
 use c_values::reply::of_dimensions;
 use c_values::reply::of_rectangle;
@@ -32,6 +31,8 @@ use renderer::render::render;
 use types::geometry::Point;
 use types::results::FontReaderResult;
 use utils::error::error_number;
+
+const BAD_ARGUMENT: u32 = 255;
 
 // The header's values and the default line height.
 #[no_mangle]

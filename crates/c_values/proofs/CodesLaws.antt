@@ -1,5 +1,5 @@
 -- Codes that have a meaning leave room for the answer.
-use mathlib.Core.Path.{_≡_, refl}
+use mathlib.Core.Path.{_≡_, refl, sym, _∙_}
 use mathlib.Core.Bool.{Bool, true, false}
 use Prim.Native.Nat.{ℕ, _≤_}
 use native.Mathlib.Omega.{arith}
@@ -13,6 +13,7 @@ use Rattle.c_values.specs.declared.codes.Alignment.the-variants.{Known a
 use Rattle.c_values.specs.declared.codes.Flag.{Flag}
 use Rattle.c_values.specs.declared.codes.Flag.the-variants.{Known as Flag·Known, Unknown as Flag·Unknown}
 use Rattle.c_values.specs.declared.codes.Meaning.{Meaning}
+use Rattle.c_values.specs.declared.codes.Codes.{Codes}
 use Rattle.c_values.specs.declared.codes.Codes.the-variants.{Known, Unknown}
 use Rattle.c_values.specs.Codes.{allKnown, anchorOf, alignmentOf, flagOf, meaningOf}
 
@@ -27,8 +28,9 @@ wide (Anchor·Known v) (Alignment·Known h) Flag·Unknown b narrow m e = absurd 
 wide (Anchor·Known v) Alignment·Unknown s b narrow m e = absurd (never m e)
 wide Anchor·Unknown h s b narrow m e = absurd (never m e)
 
-pub has-room : (anchor align skip background room : ℕ) (m : Meaning) → meaningOf anchor align skip background room ≡ Known m → 8 ≤ room
+pub has-room : (anchor align skip background room : ℕ) {read : Codes} {m : Meaning}
+    → read ≡ meaningOf anchor align skip background room → read ≡ Known m → 8 ≤ room
 unfolding meaningOf
-has-room anchor align skip background room m e =
-    let h = wide (anchorOf anchor) (alignmentOf align) (flagOf skip) (flagOf background) (ltb room 8) m e in
+has-room anchor align skip background room {m = m} is k =
+    let h = wide (anchorOf anchor) (alignmentOf align) (flagOf skip) (flagOf background) (ltb room 8) m (sym is ∙ k) in
     omega (arith, ltb-false room 8 h)

@@ -15,8 +15,6 @@ use types::results::RectangleResult;
 use utils::error::error_code_point;
 use utils::error::error_number;
 
-pub const BAD_ARGUMENT: u32 = 255;
-
 // The numbers are as wide as every value that goes into them.
 pub struct Reply {
     pub status: u32,

@@ -1,5 +1,5 @@
 -- The answer is what drawing ensures once the codes have a meaning.
-use mathlib.Core.Path.{sym, ap, _∙_}
+use mathlib.Core.Path.{ap, _∙_}
 use mir.Facts.{toZ-ofZ}
 use Rattle.c_values.specs.Replies.{textReply}
 use Rattle.c_values.proofs.CodesLaws.{has-room}
@@ -8,25 +8,26 @@ use borrow.Author.Needs.{needs}
 use Rattle.c_api.proofs.papayahelm_draw.Statement.{statement}
 use Rattle.c_api.proofs.papayahelm_draw.Tie as tie
 
-enum-told : tie.Need-enum-told
-enum-told c = search needs
-
 returns : tie.Need-returns
-returns c = not-drawn _ _ _ _ _ (sym (c .before .before .known-codes .ensures) ∙ c .enum-told .given .1)
+returns c = not-drawn (c .before .before .known-codes .ensures) _ _ _ _ (c .enum-told .given .1)
 
 store-requires : tie.Need-store-requires
-store-requires c κs = has-room _ _ _ _ _ _ (sym (c .before .before .before .before .before .before .before .before .before .before .known-codes .ensures) ∙ c .before .before .before .before .before .before .before .before .m .given .1)
+store-requires c κs =
+    let known = c .before .before .before .before .before .before .before .before in
+    has-room _ _ _ _ _ (known .before .before .known-codes .ensures) (known .m .given .1)
 
 returns-2 : tie.Need-returns-2
 returns-2 c =
-    let a = c .before .before .before .before .before .before .before .before .before .before .before .before .before .before .before .before .fits .x in
-    let b = c .before .before .before .before .before .before .before .before .before .before .before .before .before .before .before .before .fits .y in
-    let e = sym (c .before .before .before .before .before .before .before .before .before .before .before .before .known-codes .ensures) ∙ c .before .before .before .before .before .before .before .before .before .before .m .given .1 in
-    let s = c .before .before .before .before .before .before .before .before .style-of .ensures in
-    drawn _ _ _ _ _ _ _ _ _ _ e
-    (c .before .before .of-dimensions .ensures ∙ ap textReply (simp (toZ-ofZ, a, b, s) at (c .before .before .before .before .before .before .render .ensures .0)))
+    let called = c .before .before .before .before .before .before in
+    let styled = called .before .before in
+    let known = styled .before .before in
+    let read = known .before .before in
+    let start = read .before .before .before .before in
+    let style = styled .style-of .ensures in
+    drawn (read .known-codes .ensures) _ _ _ _ (known .m .given .1)
+    (c .before .before .of-dimensions .ensures ∙ ap textReply (simp (toZ-ofZ, start .fits .x, start .fits .y, style) at (called .render .ensures .0)))
     (c .before .store .ensures)
-    (simp (toZ-ofZ, a, b, s) at (c .before .before .before .before .before .before .render .ensures .1))
+    (simp (toZ-ofZ, start .fits .x, start .fits .y, style) at (called .render .ensures .1))
 
 pub papayahelm-draw-spec : {M : Type 1} → statement M
 papayahelm-draw-spec =
@@ -34,7 +35,7 @@ papayahelm-draw-spec =
     (tie.spec
     (λ c κs. search needs)
     (λ c. search needs)
-    enum-told
+    (λ c. search needs)
     returns
     (λ c κs. search needs)
     (λ c κs. search needs)
