@@ -1,7 +1,10 @@
 // Draws the text of standard input in the font font.bin: the answer's line, and then the picture as text, or with the argument
 // `pgm` as an image in the file draw.pgm; with the argument `background` the glyphs have a background colour.
+use libc::STDIN_FILENO;
+use pictures::options::read;
 use pictures::program::start;
 
 fn main() {
-    start();
+    let options = read();
+    start(options, STDIN_FILENO);
 }

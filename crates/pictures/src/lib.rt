@@ -1,4 +1,4 @@
-// A text as a picture: on a framebuffer of its own, and how it is shown. The programs draw and draw_background are over this.
+// A text as a picture: on a framebuffer of its own, and how it is shown. The programs draw and draw_runs are over this.
 pub mod image;
 pub mod marks;
 pub mod options;

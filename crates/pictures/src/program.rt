@@ -1,4 +1,4 @@
-// The program: draws the text of standard input in the font font.bin and prints the answer and the picture.
+// The program: draws a text in the font font.bin and prints the answer and the picture.
 ghost use mathlib.Core.Path.{_≡_};
 ghost use Prim.Native.Nat.{_*_, _≤_};
 ghost use lib.ListN.{length};
@@ -8,11 +8,9 @@ use crate::marks::EMPTY;
 use crate::marks::color;
 use crate::marks::print_rows;
 use crate::options::Options;
-use crate::options::read;
 use crate::whole::Drawing;
 use crate::whole::draw_text;
 use font_file::FontFile;
-use libc::STDIN_FILENO;
 use types::error::Error;
 use types::geometry::RenderedDimensions;
 use types::geometry::Size;
@@ -60,17 +58,16 @@ fn show(drawing: Drawing, pgm: bool, buffer: &[u8])
     }
 }
 
-// The text is standard input. There is room for a byte more than is allowed, so that what is too long is refused.
-fn draw_input(font: &[u8], options: Options) {
+// The text comes from `input`. There is room for a byte more than is allowed, so that what is too long is refused.
+fn draw_input(font: &[u8], options: Options, input: i32) {
     let mut text = [0u8; 4097];
-    let n = io::read_full(STDIN_FILENO, &mut text);
+    let n = io::read_full(input, &mut text);
     let mut buffer = [EMPTY; 65536];
     let drawing = draw_text(font, &text[..n], color(options.background), &mut buffer);
     show(drawing, options.pgm, &buffer);
 }
 
-pub fn start() {
-    let options = read();
+pub fn start(options: Options, input: i32) {
     if !options.right {
         printing::text(
             b"draw: the arguments are pgm (the image goes into draw.pgm) and background (glyphs with a background colour)\n",
@@ -82,6 +79,6 @@ pub fn start() {
     match font_file::read(path, &mut font) {
         FontFile::Unreadable => os::fail(path),
         FontFile::TooLong => printing::refusal_line(Error::FontLength),
-        FontFile::Length(n) => draw_input(&font[..n], options),
+        FontFile::Length(n) => draw_input(&font[..n], options, input),
     }
 }

@@ -10,20 +10,19 @@ use Rattle.pictures.proofs.program.start.Tie as tie
 
 array-share-prefix-font : tie.Need-array-share-prefix-font
 array-share-prefix-font c =
-    let h = subst (EndsWithin (length (c .before .before .before .before .read2 .last .1 .0))) (c .before .n .given .1) (c .before .before .before .before .read2 .ensures) in
+    let h = subst (EndsWithin (length (c .before .before .before .before .read .last .1 .0))) (c .before .n .given .1) (c .before .before .before .before .read .ensures) in
     omega arith
 
 slice-aggregate-draw-input : tie.Need-slice-aggregate-draw-input
 slice-aggregate-draw-input c =
-    let font = c .before .before .before .before .before .read2 .last .1 .0 in
-    let h = subst (EndsWithin (length font)) (c .before .before .n .given .1) (c .before .before .before .before .before .read2 .ensures) in
+    let font = c .before .before .before .before .before .read .last .1 .0 in
+    let h = subst (EndsWithin (length font)) (c .before .before .n .given .1) (c .before .before .before .before .before .read .ensures) in
     sym (length-take-le (c .before .before .n .given .0 .0) font (omega arith))
 
 pub start-spec : {M : Type 1} → statement M
 start-spec =
     tie.close
     (tie.spec
-    (λ c κs. search needs)
     (λ c. search needs)
     (λ c κs. search needs)
     (λ c. search needs)
