@@ -6,8 +6,8 @@ use Prim.Native.Nat.{ℕ}
 use lib.Dec.{eqb}
 use borrow.Author.Tests.{eqb-true, eq-eqb}
 use Rattle.integers.proofs.Choices.{impossible}
-use Rattle.pictures.specs.declared.options.Options.{Options}
-use Rattle.pictures.specs.Words.{same, withWord, withWords}
+use Rattle.draw_program.specs.declared.options.Options.{Options}
+use Rattle.draw_program.specs.Words.{same, withWord, withWords}
 
 both : (s t : Bool) → (s && t) ≡ true → (s ≡ true) × (t ≡ true)
 both true t e = (refl, e)

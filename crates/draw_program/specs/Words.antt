@@ -4,7 +4,7 @@ use mathlib.Core.List.{List, [], _∷_}
 use Prim.Native.Nat.{ℕ}
 use lib.Dec.{eqb}
 use Rattle.integers.specs.Integers.{pick}
-use Rattle.pictures.specs.declared.options.Options.{Options}
+use Rattle.draw_program.specs.declared.options.Options.{Options}
 
 -- the same bytes
 unfoldable pub same : List ℕ → List ℕ → Bool

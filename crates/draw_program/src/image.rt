@@ -1,7 +1,7 @@
 // A PGM image in its binary form: a head, and then the framebuffer's bytes.
 ghost use Rattle.io.specs.Counts.{Counts};
 ghost use Rattle.measure_line.specs.Written.{Written};
-ghost use Rattle.pictures.specs.Images.{pgmHead};
+ghost use Rattle.draw_program.specs.Images.{pgmHead};
 use measure_line::writer::append;
 use measure_line::writer::append_unsigned;
 use types::geometry::Size;

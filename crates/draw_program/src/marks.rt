@@ -3,7 +3,7 @@ ghost use mathlib.Core.Path.{_≡_};
 ghost use Prim.Native.Nat.{ℕ, _*_, _≤_, _<_};
 ghost use lib.ListN.{length, getD};
 ghost use Rattle.io.specs.Counts.{Counts};
-ghost use Rattle.pictures.specs.Marks.{inkOf, shade};
+ghost use Rattle.draw_program.specs.Marks.{inkOf, shade};
 use types::style::FontColor;
 
 const INK: u8 = 0;

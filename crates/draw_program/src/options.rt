@@ -2,7 +2,7 @@
 ghost use mathlib.Core.Path.{_≡_};
 ghost use mathlib.Core.List.{List};
 ghost use Prim.Native.Nat.{ℕ};
-ghost use Rattle.pictures.specs.Words.{withWord, withWords, noWords};
+ghost use Rattle.draw_program.specs.Words.{withWord, withWords, noWords};
 use buffers::is_same;
 
 pub struct Options {

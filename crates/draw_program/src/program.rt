@@ -2,15 +2,15 @@
 ghost use mathlib.Core.Path.{_≡_};
 ghost use Prim.Native.Nat.{_*_, _≤_};
 ghost use lib.ListN.{length};
-ghost use Rattle.pictures.specs.Drawings.{Showable};
+ghost use Rattle.draw_program.specs.Shown.{Showable};
 use crate::image::write_image;
 use crate::marks::EMPTY;
 use crate::marks::color;
 use crate::marks::print_rows;
 use crate::options::Options;
-use crate::whole::Drawing;
-use crate::whole::draw_text;
 use font_file::FontFile;
+use pictures::whole::Drawing;
+use pictures::whole::draw_text;
 use types::error::Error;
 use types::geometry::RenderedDimensions;
 use types::geometry::Size;

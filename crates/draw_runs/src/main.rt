@@ -1,8 +1,8 @@
 // The drawing program's runs with arguments, each under a heading: with `background`; with `background` and `pgm`, and then the
 // image that it wrote.
+use draw_program::options::Options;
+use draw_program::program::start;
 use libc::STDOUT_FILENO;
-use pictures::options::Options;
-use pictures::program::start;
 
 fn run(heading: &[u8], options: Options) {
     printing::text(heading);

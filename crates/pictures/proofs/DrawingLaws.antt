@@ -3,7 +3,7 @@ use mathlib.Core.Path.{_≡_, refl, sym, ap, subst, _∙_}
 use mathlib.Core.Bool.{false}
 use mathlib.Core.List.{List, [], _∷_, _++_}
 use Prim.Native.Nat.{ℕ, _+_, _*_, _≤_, _<_}
-use native.Mathlib.Nat.{mul-le-mul, mul-le-mul-right, mul-comm}
+use native.Mathlib.Nat.{mul-le-mul}
 use native.Mathlib.Omega.{arith}
 use lib.IntN.{pos, natAbs, _+ℤ_}
 use lib.ListN.{length, getD, take, drop}
@@ -17,7 +17,6 @@ use Rattle.types.specs.declared.geometry.BoundingBox.the-variants.{Some}
 use Rattle.types.specs.declared.geometry.Point.{Point}
 use Rattle.types.specs.declared.geometry.Rectangle.{Rectangle}
 use Rattle.types.specs.declared.geometry.RenderedDimensions.{RenderedDimensions}
-use Rattle.types.specs.declared.geometry.Size.{Size}
 use Rattle.types.specs.declared.style.FontColor.{FontColor}
 use Rattle.definitions.specs.Refusals.{Outcome, success, refused, unlessRefused}
 use Rattle.definitions.specs.Header.{header, signedByte}
@@ -27,9 +26,7 @@ use Rattle.definitions.specs.Font.{u8g2}
 use Rattle.definitions.specs.Calls.{openFont, measuredText, measure}
 use Rattle.definitions.specs.Whole.{atZero, whole, measuredAtZero, drawnWhole, shownWhole, boxed, SeenWhole}
 use Rattle.definitions.proofs.OpenedLaws.{opened, open-refused}
-use Rattle.pictures.specs.declared.whole.Drawing.{Drawing}
-use Rattle.pictures.specs.declared.whole.Drawing.the-variants.{Drawn, Blank, TooLarge, Refused}
-use Rattle.pictures.specs.Drawings.{Measured, Framed, area, Called, IsDrawing, Showable}
+use Rattle.pictures.specs.Drawings.{Measured, Framed, area, Called}
 
 -- the largest framebuffer
 pub area-most : {width height : ℕ} → width ≤ 256 → height ≤ 256 → width * height ≤ 65536
@@ -92,20 +89,3 @@ module _ (font : List ℕ) (head : FontReader) (opens : openFont font ≡ succes
       let o = opened font head opens in
       let height : pos 0 ≤ℤ signedByte font 10 = subst (λ (x : FontReader). pos 0 ≤ℤ x .«font_bounding_box_height») (o .read) (o .height) in
       subst (λ (n : ℕ). n ≤ 128) (sym is-default) (low-height (getD font 10 0) h height)
-
--- ---- the rows of a picture
-
-pub row-within : (width height y : ℕ) → y < height → y * width + width ≤ width * height
-row-within width height y h = omega (arith, mul-le-mul-right width h, mul-comm width height)
-
--- ---- what is shown
-
-pub showable : (font text : List ℕ) (lineHeight : ℕ) (color : FontColor) (before after : List ℕ) (d : Drawing)
-    → IsDrawing font text lineHeight color before after d → Showable d
-showable font text lineHeight color before after (Drawn d size) (r, (e, k)) = (subst (λ (s : Size). s .width ≤ 256) e (k .wide), subst (λ (s : Size). s .height ≤ 256) e (k .high))
-showable font text lineHeight color before after (Blank d) h = tt
-showable font text lineHeight color before after (TooLarge r) h = tt
-showable font text lineHeight color before after (Refused e) h = tt
-
-pub shown-length : (size : Size) (buffer : List ℕ) → size .width ≤ 256 → size .height ≤ 256 → length buffer ≡ 65536 → length (take (size .width * size .height) buffer) ≡ size .width * size .height
-shown-length size buffer wide high room = length-take-le (size .width * size .height) buffer (omega (arith, area-most wide high))

@@ -55,10 +55,3 @@ IsDrawing font text lineHeight color before after (TooLarge r) =
 IsDrawing font text lineHeight color before after (Refused e) =
     ((after ≡ before) × (measuredAtZero font text lineHeight ≡ refusal e))
     ⊎ ((r : Rectangle) × Called font text lineHeight color before after r (refusal e))
-
--- what the program must know of a drawing to show it
-abbrev pub Showable : Drawing → Type 0
-Showable (Drawn d size) = (size .width ≤ 256) × (size .height ≤ 256)
-Showable (Blank d) = Unit {0}
-Showable (TooLarge r) = Unit {0}
-Showable (Refused e) = Unit {0}

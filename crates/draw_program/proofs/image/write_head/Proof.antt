@@ -2,8 +2,8 @@
 use native.Mathlib.Omega.{arith}
 use borrow.Author.Needs.{needs}
 use Rattle.measure_line.proofs.WriterLaws.{counted, four-pieces}
-use Rattle.pictures.proofs.image.write_head.Statement.{statement}
-use Rattle.pictures.proofs.image.write_head.Tie as tie
+use Rattle.draw_program.proofs.image.write_head.Statement.{statement}
+use Rattle.draw_program.proofs.image.write_head.Tie as tie
 
 returns : tie.Need-returns
 returns c =

@@ -1,7 +1,7 @@
 -- `mark` meets its contract: `shade` makes the same tests. Assumes nothing.
 use borrow.Author.Tests.{eq-eqb, ne-eqb}
-use Rattle.pictures.proofs.marks.mark.Statement.{statement}
-use Rattle.pictures.proofs.marks.mark.Tie as tie
+use Rattle.draw_program.proofs.marks.mark.Statement.{statement}
+use Rattle.draw_program.proofs.marks.mark.Tie as tie
 
 returns : tie.Need-returns
 returns c = simp (eq-eqb _ _ (c .if1 .taken))

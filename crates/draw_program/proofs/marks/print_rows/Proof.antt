@@ -2,9 +2,10 @@
 use Prim.Native.Nat.{_-_, _≤_}
 use native.Mathlib.Omega.{arith}
 use borrow.Author.Needs.{needs}
-use Rattle.pictures.proofs.DrawingLaws.{area-most, row-within}
-use Rattle.pictures.proofs.marks.print_rows.Statement.{statement}
-use Rattle.pictures.proofs.marks.print_rows.Tie as tie
+use Rattle.pictures.proofs.DrawingLaws.{area-most}
+use Rattle.draw_program.proofs.ShownLaws.{row-within}
+use Rattle.draw_program.proofs.marks.print_rows.Statement.{statement}
+use Rattle.draw_program.proofs.marks.print_rows.Tie as tie
 
 abbrev Inv-loop : tie.InvT-loop
 Inv-loop pixels width height y₀ y = y ≤ height

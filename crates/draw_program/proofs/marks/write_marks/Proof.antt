@@ -5,10 +5,10 @@ use native.Mathlib.Omega.{arith}
 use lib.ListN.{length, getD, length-set}
 use borrow.Author.Needs.{needs}
 use Rattle.io.proofs.Counting.{counts}
-use Rattle.pictures.specs.Marks.{shade}
+use Rattle.draw_program.specs.Marks.{shade}
 use Rattle.buffers.proofs.WriteLaws.{WrittenTo, write-next}
-use Rattle.pictures.proofs.marks.write_marks.Statement.{statement}
-use Rattle.pictures.proofs.marks.write_marks.Tie as tie
+use Rattle.draw_program.proofs.marks.write_marks.Statement.{statement}
+use Rattle.draw_program.proofs.marks.write_marks.Tie as tie
 
 abbrev Inv-loop : tie.InvT-loop
 Inv-loop pixels out₀ i₀ out i = (i ≤ length pixels) × ((length out ≡ length out₀) × WrittenTo (λ k. shade (getD pixels k 0)) out i)

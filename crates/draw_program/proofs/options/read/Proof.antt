@@ -3,11 +3,11 @@ use mathlib.Core.List.{List, [], _∷_, _++_}
 use mathlib.Core.Path.{_≡_, refl, sym, ap, _∙_}
 use Prim.Native.Nat.{ℕ, _-_}
 use borrow.Author.Needs.{needs}
-use Rattle.pictures.proofs.WordsLaws.{one-more}
-use Rattle.pictures.specs.Words.{withWord, withWords, noWords}
-use Rattle.pictures.specs.declared.options.Options.{Options}
-use Rattle.pictures.proofs.options.read.Statement.{statement}
-use Rattle.pictures.proofs.options.read.Tie as tie
+use Rattle.draw_program.proofs.WordsLaws.{one-more}
+use Rattle.draw_program.specs.Words.{withWord, withWords, noWords}
+use Rattle.draw_program.specs.declared.options.Options.{Options}
+use Rattle.draw_program.proofs.options.read.Statement.{statement}
+use Rattle.draw_program.proofs.options.read.Tie as tie
 
 no-words : noWords ≡ withWords noWords []
 unfolding withWords

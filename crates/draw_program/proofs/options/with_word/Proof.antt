@@ -1,10 +1,10 @@
 -- `with_word` meets its contract: WordsLaws.antt has what the comparisons decide. Assumes nothing.
 use mathlib.Core.Path.{_∙_}
 use borrow.Author.Needs.{needs}
-use Rattle.pictures.proofs.WordsLaws.{same-is}
-use Rattle.pictures.specs.Words.{pgm, background}
-use Rattle.pictures.proofs.options.with_word.Statement.{statement}
-use Rattle.pictures.proofs.options.with_word.Tie as tie
+use Rattle.draw_program.proofs.WordsLaws.{same-is}
+use Rattle.draw_program.specs.Words.{pgm, background}
+use Rattle.draw_program.proofs.options.with_word.Statement.{statement}
+use Rattle.draw_program.proofs.options.with_word.Tie as tie
 
 returns : tie.Need-returns
 returns c =

@@ -1,8 +1,8 @@
 -- `draw_input` is safe: what is drawn can be shown. Assumes nothing.
 use borrow.Author.Needs.{needs}
-use Rattle.pictures.proofs.DrawingLaws.{showable}
-use Rattle.pictures.proofs.program.draw_input.Statement.{statement}
-use Rattle.pictures.proofs.program.draw_input.Tie as tie
+use Rattle.draw_program.proofs.ShownLaws.{showable}
+use Rattle.draw_program.proofs.program.draw_input.Statement.{statement}
+use Rattle.draw_program.proofs.program.draw_input.Tie as tie
 
 show-requires : tie.Need-show-requires
 show-requires c κs = (showable _ _ _ _ _ _ (c .before .before .draw-text .result) (c .before .before .draw-text .ensures), search needs)

@@ -1,9 +1,9 @@
 -- `show` is safe. Assumes nothing.
 use mathlib.Core.Path.{subst}
 use borrow.Author.Needs.{needs}
-use Rattle.pictures.specs.Drawings.{Showable}
-use Rattle.pictures.proofs.program.show.Statement.{statement}
-use Rattle.pictures.proofs.program.show.Tie as tie
+use Rattle.draw_program.specs.Shown.{Showable}
+use Rattle.draw_program.proofs.program.show.Statement.{statement}
+use Rattle.draw_program.proofs.program.show.Tie as tie
 
 show-drawn-requires : tie.Need-show-drawn-requires
 show-drawn-requires c κs =

@@ -2,9 +2,10 @@
 use mathlib.Core.Path.{sym}
 use native.Mathlib.Omega.{arith}
 use borrow.Author.Needs.{needs}
-use Rattle.pictures.proofs.DrawingLaws.{area-most, shown-length}
-use Rattle.pictures.proofs.program.show_drawn.Statement.{statement}
-use Rattle.pictures.proofs.program.show_drawn.Tie as tie
+use Rattle.pictures.proofs.DrawingLaws.{area-most}
+use Rattle.draw_program.proofs.ShownLaws.{shown-length}
+use Rattle.draw_program.proofs.program.show_drawn.Statement.{statement}
+use Rattle.draw_program.proofs.program.show_drawn.Tie as tie
 
 mul-n : tie.Need-mul-n
 mul-n c = let p = c .before .before .before .before .pre in omega (arith, area-most (p .0) (p .1 .0))

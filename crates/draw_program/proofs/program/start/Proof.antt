@@ -5,8 +5,8 @@ use lib.Seq.{length-take-le}
 use lib.ListN.{length}
 use borrow.Author.Needs.{needs}
 use Rattle.font_file.specs.Files.{EndsWithin}
-use Rattle.pictures.proofs.program.start.Statement.{statement}
-use Rattle.pictures.proofs.program.start.Tie as tie
+use Rattle.draw_program.proofs.program.start.Statement.{statement}
+use Rattle.draw_program.proofs.program.start.Tie as tie
 
 array-share-prefix-font : tie.Need-array-share-prefix-font
 array-share-prefix-font c =

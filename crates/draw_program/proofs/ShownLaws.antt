@@ -1,0 +1,34 @@
+-- What is drawn can be shown. Assumes nothing.
+use mathlib.Core.Path.{_≡_, subst}
+use mathlib.Core.List.{List}
+use Prim.Native.Nat.{ℕ, _+_, _*_, _≤_, _<_}
+use native.Mathlib.Nat.{mul-le-mul-right, mul-comm}
+use native.Mathlib.Omega.{arith}
+use lib.ListN.{length, take}
+use lib.Seq.{length-take-le}
+use Rattle.types.specs.declared.geometry.Size.{Size}
+use Rattle.types.specs.declared.style.FontColor.{FontColor}
+use Rattle.pictures.specs.declared.whole.Drawing.{Drawing}
+use Rattle.pictures.specs.declared.whole.Drawing.the-variants.{Drawn, Blank, TooLarge, Refused}
+use Rattle.pictures.specs.Drawings.{IsDrawing}
+use Rattle.pictures.proofs.DrawingLaws.{area-most}
+use Rattle.draw_program.specs.Shown.{Showable}
+
+-- ---- the rows of a picture
+
+pub row-within : (width height y : ℕ) → y < height → y * width + width ≤ width * height
+row-within width height y h = omega (arith, mul-le-mul-right width h, mul-comm width height)
+
+-- ---- what is shown
+
+pub showable : (font text : List ℕ) (lineHeight : ℕ) (color : FontColor) (before after : List ℕ) (d : Drawing)
+    → IsDrawing font text lineHeight color before after d → Showable d
+showable font text lineHeight color before after (Drawn d size) (r, (e, k)) =
+    (subst (λ (s : Size). s .width ≤ 256) e (k .wide), subst (λ (s : Size). s .height ≤ 256) e (k .high))
+showable font text lineHeight color before after (Blank d) h = tt
+showable font text lineHeight color before after (TooLarge r) h = tt
+showable font text lineHeight color before after (Refused e) h = tt
+
+pub shown-length : (size : Size) (buffer : List ℕ) → size .width ≤ 256 → size .height ≤ 256 → length buffer ≡ 65536
+    → length (take (size .width * size .height) buffer) ≡ size .width * size .height
+shown-length size buffer wide high room = length-take-le (size .width * size .height) buffer (omega (arith, area-most wide high))

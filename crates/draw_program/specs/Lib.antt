@@ -1,0 +1,4 @@
+pub mod Words
+pub mod Marks
+pub mod Images
+pub mod Shown
