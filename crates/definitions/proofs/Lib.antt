@@ -18,6 +18,3 @@ pub mod LetterRefusals
 pub mod Agreement
 pub mod AgreementCase
 pub mod MovedLaws
-pub mod WholeLaws
-pub mod LineCases
-pub mod LineLaws

@@ -15,8 +15,6 @@ pub mod Framebuffer
 pub mod TextSteps
 pub mod Limits
 pub mod Calls
-pub mod Line
 pub mod Agreement
-pub mod Whole
 pub mod FontT
 pub mod Cases

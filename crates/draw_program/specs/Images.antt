@@ -2,7 +2,7 @@
 -- character before each number and after the last.
 use mathlib.Core.List.{List, [], _∷_, _++_}
 use Prim.Native.Nat.{ℕ}
-use Rattle.definitions.specs.Line.{decimal}
+use Rattle.numbers.specs.Decimal.{decimal}
 
 abbrev pub pgmHead : ℕ → ℕ → List ℕ
 pgmHead width height = 80 ∷ 53 ∷ 32 ∷ decimal width ++ 32 ∷ decimal height ++ 10 ∷ 50 ∷ 53 ∷ 53 ∷ 10 ∷ []

@@ -1,9 +1,9 @@
 // A PGM image in its binary form: a head, and then the framebuffer's bytes.
 ghost use Rattle.io.specs.Counts.{Counts};
-ghost use Rattle.measure_line.specs.Written.{Written};
+ghost use Rattle.numbers.specs.Written.{Written};
 ghost use Rattle.draw_program.specs.Images.{pgmHead};
-use measure_line::writer::append;
-use measure_line::writer::append_unsigned;
+use numbers::writer::append;
+use numbers::writer::append_unsigned;
 use types::geometry::Size;
 
 // The longest head: `P5`, two numbers of ten digits, each after a space, and `255` between newlines.

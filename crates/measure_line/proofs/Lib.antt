@@ -1,3 +1,3 @@
-pub mod WriterLaws
-pub mod DecimalLaws
+pub mod LineLaws
+pub mod LineCases
 pub mod FilledLaws

@@ -3,15 +3,16 @@ use mathlib.Core.Path.{_≡_, refl}
 use mathlib.Core.List.{List, [], _∷_, map}
 use Prim.Native.Nat.{ℕ}
 use Rattle.integers.specs.Integers.{signed8}
 use Rattle.definitions.specs.Header.{header, headerOff}
 use Rattle.definitions.specs.Bits.{lowBits, bits, number, readAt}
 use Rattle.definitions.specs.Lookup.{record8, chain, record16, jumpTable, search}
 use Rattle.definitions.specs.Glyph.{fields, glyph}
 use Rattle.definitions.specs.Utf8.{table, rowOf, firstCharacter, decodeFrom, newlines}
 use Rattle.definitions.specs.Text.{joinAll, letters, lines, lineByLine}
 use Rattle.definitions.specs.Calls.{openFont, measure}
-use Rattle.definitions.specs.Line.{decimalFrom, decimal, measuredByProgram, measuringLine}
 use Rattle.definitions.specs.FontT.{T}
+use Rattle.numbers.specs.Decimal.{decimalFrom, decimal}
+use Rattle.measure_line.specs.Line.{measuredByProgram, measuringLine}
 
 pub record LineCase : Type 0 where
   pub font : List ℕ

@@ -2,9 +2,9 @@
 -- Characters are ASCII codes.
 use mathlib.Core.Bool.{false}
 use mathlib.Core.List.{List, [], _∷_, _++_}
-use Prim.Native.Nat.{ℕ, zero, suc, _+_, _/_, _%_}
+use Prim.Native.Nat.{ℕ}
 use lib.Dec.{ltb}
-use lib.IntN.{ℤ, pos, negsuc}
+use lib.IntN.{pos}
 use lib.ListN.{length}
 use Rattle.integers.specs.Integers.{pick}
 use Rattle.types.specs.declared.font_reader.FontReader.{FontReader}
@@ -12,27 +12,12 @@ use Rattle.types.specs.declared.geometry.BoundingBox.{BoundingBox}
 use Rattle.types.specs.declared.geometry.BoundingBox.the-variants.{None, Some}
 use Rattle.types.specs.declared.geometry.RenderedDimensions.{RenderedDimensions}
 use Rattle.types.specs.declared.style.VerticalPosition.the-variants.{Baseline}
 use Rattle.definitions.specs.Refusals.{Outcome, success, refused}
 use Rattle.definitions.specs.Geometry.{left, top}
 use Rattle.definitions.specs.Text.{point}
 use Rattle.definitions.specs.Font.{u8g2}
 use Rattle.definitions.specs.Calls.{openFont, Request, plain, measure}
-
--- ---- numbers in decimal
-
--- The digits of n: those of n / 10, then n % 10; below 10, one digit. The first argument bounds the recursion and n is always
--- enough of it (`enough-fuel` of proofs/LineLaws.antt).
-unfoldable pub decimalFrom : ℕ → ℕ → List ℕ
-decimalFrom zero n = (48 + n) ∷ []
-decimalFrom (suc fuel) n = let longer = decimalFrom fuel (n / 10) ++ (48 + n % 10) ∷ [] in pick (ltb n 10) ((48 + n) ∷ []) longer
-
-unfoldable pub decimal : ℕ → List ℕ
-decimal n = decimalFrom n n
-
--- with a minus sign where it is negative
-abbrev pub signedDecimal : ℤ → List ℕ
-signedDecimal (pos n) = decimal n
-signedDecimal (negsuc n) = 45 ∷ decimal (suc n)
+use Rattle.numbers.specs.Decimal.{decimal, signedDecimal}
 
 -- ---- the line of an outcome
 

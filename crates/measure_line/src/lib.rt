@@ -1,6 +1,5 @@
 // The line that the measuring program prints (01, the end of "Font T and its readings").
 pub mod program;
-pub mod writer;
 
 ghost use mathlib.Core.Path.{_≡_};
 ghost use Prim.Native.Nat.{_+_, _≤_};
@@ -8,10 +7,13 @@ ghost use lib.ListN.{length};
 ghost use Rattle.io.specs.Counts.{Counts};
 ghost use Rattle.definitions.specs.Refusals.{success, refusal};
 ghost use Rattle.definitions.specs.Calls.{dimensionsOutcome};
-ghost use Rattle.definitions.specs.Line.{spaced, boxWords, outcomeLine, measuredByProgram, measuringLine};
-ghost use Rattle.measure_line.specs.Written.{Written};
+ghost use Rattle.measure_line.specs.Line.{spaced, boxWords, outcomeLine, measuredByProgram, measuringLine};
+ghost use Rattle.numbers.specs.Written.{Written};
 use font_reader::new_from_raw_data;
 use measuring::rendered_dimensions::get_rendered_dimensions;
+use numbers::writer::append;
+use numbers::writer::append_signed;
+use numbers::writer::append_unsigned;
 use types::error::Error;
 use types::geometry::BoundingBox;
 use types::geometry::Point;
@@ -22,9 +24,6 @@ use types::results::FontReaderResult;
 use types::style::VerticalPosition;
 use utils::error::error_code_point;
 use utils::error::error_number;
-use writer::append;
-use writer::append_signed;
-use writer::append_unsigned;
 
 // Left, top, width and height.
 fn append_rectangle(out: &mut [u8], at: usize, r: Rectangle) -> usize

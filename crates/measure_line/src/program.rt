@@ -3,8 +3,8 @@
 ghost use mathlib.Core.List.{List};
 ghost use Prim.Native.Nat.{ℕ};
 ghost use Rattle.io.specs.Counts.{Counts};
-ghost use Rattle.definitions.specs.Line.{measuringLine};
-ghost use Rattle.measure_line.specs.Written.{Written};
+ghost use Rattle.measure_line.specs.Line.{measuringLine};
+ghost use Rattle.numbers.specs.Written.{Written};
 ghost use Rattle.measure_line.specs.Filled.{Filled};
 use crate::LINE_ROOM;
 use crate::measure_line;

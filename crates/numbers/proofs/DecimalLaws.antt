@@ -1,5 +1,5 @@
--- Laws of the measuring program's line. A number's decimal digits: the bound on the recursion decides nothing, and the digits
--- are those of the number and no others. Then signs, and what the program measures. Assumes nothing.
+-- A number's decimal digits: the bound on the recursion decides nothing, and the digits are those of the number and no others.
+-- Then signs. Assumes nothing.
 use mathlib.Core.Path.{_≡_, refl, ap, _∙_}
 use mathlib.Core.Bool.{Bool, true, false}
 use mathlib.Core.List.{List, [], _∷_, _++_}
@@ -13,13 +13,12 @@ use lib.ListN.{length, getD, length-append}
 use lib.Signed.{ltZ}
 use Rattle.integers.specs.Integers.{pick}
 use Rattle.integers.proofs.Laws.{zarith, ltZ-false}
-use Rattle.types.specs.declared.font_reader.FontReader.{FontReader}
-use Rattle.types.specs.declared.style.VerticalPosition.the-variants.{Baseline}
-use Rattle.definitions.specs.Refusals.{success, refused}
-use Rattle.definitions.specs.Text.{point}
-use Rattle.definitions.specs.Font.{u8g2}
-use Rattle.definitions.specs.Calls.{openFont, plain, measure}
-use Rattle.definitions.specs.Line.{decimalFrom, decimal, signedDecimal, measuredByProgram}
+use Rattle.numbers.specs.Decimal.{decimalFrom, decimal, signedDecimal}
+
+-- `7`, without a zero before it
+one-digit : decimal 7 ≡ 55 ∷ []
+unfolding decimal decimalFrom
+one-digit = refl
 
 -- two choices by one test, alike where the test fails
 alike : {A : Type 0} (t : Bool) (a : A) {x y : A} → (t ≡ false → x ≡ y) → pick t a x ≡ pick t a y
@@ -46,10 +45,13 @@ decimal-small (suc n) h = simp (lt-ltb (suc n) 10 h)
 pub decimal-more : (n : ℕ) → 10 ≤ n → decimal n ≡ decimal (n / 10) ++ (48 + n % 10) ∷ []
 unfolding decimal decimalFrom
 decimal-more zero h = absurd (omega arith)
-decimal-more (suc n) h = simp (le-ltb (suc n) 10 h) (ap (λ (ds : List ℕ). ds ++ (48 + suc n % 10) ∷ []) (enough-fuel n (suc n / 10) (suc n / 10) (omega arith) (omega arith)))
+decimal-more (suc n) h =
+    simp (le-ltb (suc n) 10 h)
+    (ap (λ (ds : List ℕ). ds ++ (48 + suc n % 10) ∷ []) (enough-fuel n (suc n / 10) (suc n / 10) (omega arith) (omega arith)))
 
 -- What holds of one digit, and of a number's digits where it holds of its tenth's, holds of all numbers.
-module _ (P : ℕ → List ℕ → Type 0) (one : (n : ℕ) → n < 10 → P n ((48 + n) ∷ [])) (more : (n : ℕ) (ds : List ℕ) → 10 ≤ n → P (n / 10) ds → P n (ds ++ (48 + n % 10) ∷ [])) where
+module _ (P : ℕ → List ℕ → Type 0) (one : (n : ℕ) → n < 10 → P n ((48 + n) ∷ []))
+    (more : (n : ℕ) (ds : List ℕ) → 10 ≤ n → P (n / 10) ds → P n (ds ++ (48 + n % 10) ∷ [])) where
   upto : (bound n : ℕ) → n ≤ bound → P n (decimal n)
   upto zero n h = rw (decimal-small n (omega arith)) (one n (omega arith))
   upto (suc bound) n h = split (decLt n 10) (λ p. upto bound (n / 10) p)
@@ -106,18 +108,3 @@ minus-sign (negsuc n) h = refl
 pub no-sign : (z : ℤ) → ltZ z (pos 0) ≡ false → signedDecimal z ≡ decimal (natAbs z)
 no-sign (pos n) h = refl
 no-sign (negsuc n) h = absurd (omega (zarith, ltZ-false (negsuc n) (pos 0) h))
-
--- What the program measures: a font that is too long, one that does not open, one that opens.
-module _ (font text : List ℕ) where
-  pub font-too-long : 65536 < length font → measuredByProgram font text ≡ refused 1 0
-  unfolding measuredByProgram
-  font-too-long h = simp (lt-ltb 65536 (length font) h)
-
-  module _ (h : length font ≤ 65536) where
-    pub font-refused : (n c : ℕ) → openFont font ≡ refused n c → measuredByProgram font text ≡ refused n c
-    unfolding measuredByProgram
-    font-refused n c e = simp (le-ltb 65536 (length font) h, e)
-
-    pub font-opens : (head : FontReader) → openFont font ≡ success head → measuredByProgram font text ≡ measure (u8g2 font) (plain text (point (pos 0) (pos 0)) Baseline (head .«line_height») false)
-    unfolding measuredByProgram
-    font-opens head e = simp (le-ltb 65536 (length font) h, e)

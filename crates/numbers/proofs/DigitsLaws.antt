@@ -6,8 +6,8 @@ use native.Mathlib.Decide.{decLt}
 use native.Mathlib.Omega.{arith}
 use borrow.Author.Tests.{lt-ltb}
 use Rattle.io.specs.Digits.{glyph, digits, Fewest}
-use Rattle.definitions.specs.Line.{decimal}
-use Rattle.definitions.proofs.LineLaws.{decimal-small, decimal-more}
+use Rattle.numbers.specs.Decimal.{decimal}
+use Rattle.numbers.proofs.DecimalLaws.{decimal-small, decimal-more}
 
 -- a digit's code
 code : (d : ℕ) → d < 10 → glyph d ≡ 48 + d

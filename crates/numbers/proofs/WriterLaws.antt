@@ -1,6 +1,6 @@
 -- Laws of a line that is written piece by piece.
 use mathlib.Core.Path.{_≡_, sym, ap, subst, _∙_}
-use mathlib.Core.List.{List, [], _++_, append-assoc, append-nil}
+use mathlib.Core.List.{List, _++_, append-assoc}
 use Prim.Native.Nat.{ℕ, _+_, _≤_, _<_}
 use native.Mathlib.Numerals.{add-one}
 use native.Mathlib.Omega.{arith}
@@ -8,7 +8,7 @@ use lib.ListN.{length, take, drop, getD, set, length-append}
 use lib.Seq.{take-at, drop-at, drop-drop, take-length, length-take-le, paste, paste-suc}
 use Rattle.io.specs.Counts.{Counts}
 use Rattle.io.proofs.Counting.{counts}
-use Rattle.measure_line.specs.Written.{Written}
+use Rattle.numbers.specs.Written.{Written}
 
 -- One byte more of s is stored.
 pub next-byte : (before out s : List ℕ) (at i : ℕ) → at + i < length before → i < length s → out ≡ paste before at s i
@@ -47,20 +47,7 @@ counted {before} {p} {after} {at} {end} h w =
     (omega
     (arith, w .ends, length-append (take at before ++ p) (drop (at + length p) before), length-append (take at before) p, length-take-le at before h)))
 
--- Four pieces and five, as the definition of the line brackets them.
-module _ {o v x y z p q r s : List ℕ} {at a b c d : ℕ} (h : at ≤ length o)
-    (first : Written o at p a v) (second : Written v a q b x) (third : Written x b r c y) (fourth : Written y c s d z) where
-  pub four-pieces : Written o at (p ++ q ++ r ++ s) d z
-  four-pieces = then h (then h (then h first second) third) fourth
-
-  -- four words, each with its space
-  pub four-words : Written o at (p ++ (q ++ (r ++ (s ++ [])))) d z
-  four-words = spelled-as (simp (append-assoc, append-nil)) four-pieces
-
-  -- a first word, two more and a newline
-  pub refusal-ends : Written o at (p ++ (q ++ (r ++ [])) ++ s) d z
-  refusal-ends = spelled-as (simp (append-assoc, append-nil)) four-pieces
-
-  -- a first word, two more, a box and a newline
-  pub success-ends : {w t : List ℕ} {e : ℕ} → Written z d t e w → Written o at (p ++ (q ++ (r ++ s)) ++ t) e w
-  success-ends fifth = spelled-as (simp append-assoc) (then h four-pieces fifth)
+-- Four pieces.
+pub four-pieces : {o v x y z p q r s : List ℕ} {at a b c d : ℕ} → at ≤ length o
+    → Written o at p a v → Written v a q b x → Written x b r c y → Written y c s d z → Written o at (p ++ q ++ r ++ s) d z
+four-pieces h first second third fourth = then h (then h (then h first second) third) fourth

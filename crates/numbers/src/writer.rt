@@ -3,8 +3,8 @@
 ghost use mathlib.Core.List.{_∷_};
 ghost use Prim.Native.Nat.{_+_, _≤_};
 ghost use lib.ListN.{length};
-ghost use Rattle.definitions.specs.Line.{decimal, signedDecimal};
-ghost use Rattle.measure_line.specs.Written.{Written};
+ghost use Rattle.numbers.specs.Decimal.{decimal, signedDecimal};
+ghost use Rattle.numbers.specs.Written.{Written};
 use utils::number::magnitude;
 
 pub fn append(out: &mut [u8], at: usize, s: &[u8]) -> usize

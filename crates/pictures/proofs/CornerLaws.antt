@@ -15,8 +15,8 @@ use Rattle.definitions.specs.Text.{point}
 use Rattle.definitions.specs.Font.{u8g2}
 use Rattle.definitions.specs.Framebuffer.{sized}
 use Rattle.definitions.specs.Calls.{draw, drawBuffer}
-use Rattle.definitions.specs.Whole.{whole, measuredAtZero, opposite, drawnWhole, shownWhole, boxed, SeenWhole}
-use Rattle.definitions.proofs.WholeLaws.{Near, near, seen-whole}
+use Rattle.pictures.specs.Whole.{whole, measuredAtZero, opposite, drawnWhole, shownWhole, boxed, SeenWhole}
+use Rattle.pictures.proofs.WholeLaws.{Near, near, seen-whole}
 use Rattle.pictures.specs.Drawings.{Measured, Framed}
 
 pub corner-near : {font text : List ℕ} {lineHeight : ℕ} {r : Rectangle} → Measured font text lineHeight r → Near r

@@ -24,7 +24,7 @@ use Rattle.definitions.specs.Text.{dimensions}
 use Rattle.definitions.specs.Limits.{textCause, positionCause}
 use Rattle.definitions.specs.Font.{u8g2}
 use Rattle.definitions.specs.Calls.{openFont, measuredText, measure}
-use Rattle.definitions.specs.Whole.{atZero, whole, measuredAtZero, drawnWhole, shownWhole, boxed, SeenWhole}
+use Rattle.pictures.specs.Whole.{atZero, whole, measuredAtZero, drawnWhole, shownWhole, boxed, SeenWhole}
 use Rattle.definitions.proofs.OpenedLaws.{opened, open-refused}
 use Rattle.pictures.specs.Drawings.{Measured, Framed, area, Called}
 

@@ -20,29 +20,29 @@ use Rattle.types.specs.declared.geometry.Rectangle.{Rectangle}
 use Rattle.types.specs.declared.geometry.RenderedDimensions.{RenderedDimensions}
 use Rattle.types.specs.declared.glyph_reader.GlyphReader.{GlyphReader}
 use Rattle.types.specs.declared.style.FontColor.{FontColor}
 use Rattle.definitions.specs.Refusals.{Outcome, success, refused, anyApplies}
 use Rattle.definitions.specs.Header.{header, Opened}
 use Rattle.definitions.specs.Geometry.{left, top, spanLength, join}
 use Rattle.definitions.specs.Glyph.{glyph}
 use Rattle.definitions.specs.Utf8.{decode, isUtf8}
 use Rattle.definitions.specs.Text.{answer, boxAt, joinAll, Layout, point, dimensions, place, letters, Lines, last, first, lines, newline, thenLines, lineByLine, layout}
 use Rattle.definitions.specs.TextSteps.{movedRectangle}
 use Rattle.definitions.specs.Runs.{Pixels, pixels, cut}
 use Rattle.definitions.specs.Font.{Font, u8g2, measuredAnswer, withRuns, drawable, drawnAnswer}
 use Rattle.definitions.specs.Framebuffer.{sideOff, framebufferCause}
 use Rattle.definitions.specs.Limits.{coordinateOff, positionCause, backgroundCause}
 use Rattle.definitions.specs.Calls.{Request, characters, origin, laid, measureCauses, measuredText, measure, draw}
 use Rattle.definitions.specs.Agreement.{limits, on}
-use Rattle.definitions.specs.Whole.{atZero, whole, measuredAtZero, opposite, roomFor, drawnWhole, inCorner, boxed, SeenWhole}
+use Rattle.pictures.specs.Whole.{atZero, whole, measuredAtZero, opposite, roomFor, drawnWhole, inCorner, boxed, SeenWhole}
 use Rattle.definitions.proofs.OpenedLaws.{or-false, opened-limits}
 use Rattle.definitions.proofs.RefusalLaws.{succeeded, passed, NoneApplies, each-off, all-off}
 use Rattle.definitions.proofs.JoinLaws.{HasCell, end, join-end}
 use Rattle.definitions.proofs.GlyphLaws.{InRange, glyph-range}
 use Rattle.definitions.proofs.BitsLaws.{SignedByte}
 use Rattle.definitions.proofs.Utf8Laws.{utf8-characters, character-count}
 use Rattle.definitions.proofs.TextLaws.{layout-next}
 use Rattle.definitions.proofs.Agreement.{dimensions-success}
 use Rattle.definitions.proofs.MovedLaws.{movedPoint, movedDimensions, dimensions-moved, text-moved}
 
 -- ---- drawing lays a text out as measuring does, or stops at a glyph whose runs are cut off
 

@@ -11,7 +11,7 @@ use Rattle.types.specs.declared.geometry.Rectangle.{Rectangle}
 use Rattle.types.specs.declared.geometry.RenderedDimensions.{RenderedDimensions}
 use Rattle.types.specs.declared.style.FontColor.{FontColor}
 use Rattle.definitions.specs.Refusals.{Outcome, success, refusal}
-use Rattle.definitions.specs.Whole.{measuredAtZero, drawnWhole, shownWhole, boxed, SeenWhole}
+use Rattle.pictures.specs.Whole.{measuredAtZero, drawnWhole, shownWhole, boxed, SeenWhole}
 use Rattle.pictures.specs.declared.whole.Drawing.{Drawing}
 use Rattle.pictures.specs.declared.whole.Drawing.the-variants.{Drawn, Blank, TooLarge, Refused}
 

@@ -8,7 +8,7 @@ ghost use Rattle.types.specs.declared.geometry.Point.{Point};
 ghost use Rattle.definitions.specs.Refusals.{success};
 ghost use Rattle.definitions.specs.Header.{header};
 ghost use Rattle.definitions.specs.Calls.{dimensionsOutcome};
-ghost use Rattle.definitions.specs.Whole.{measuredAtZero, drawnWhole, shownWhole, boxed, SeenWhole};
+ghost use Rattle.pictures.specs.Whole.{measuredAtZero, drawnWhole, shownWhole, boxed, SeenWhole};
 ghost use Rattle.pictures.specs.Drawings.{Measured, Framed, IsDrawing};
 use font_reader::new_from_raw_data;
 use measuring::rendered_dimensions::get_rendered_dimensions;

@@ -5,7 +5,8 @@ use mir.Val.{SFits}
 use mir.Facts.{toZ-ofZ}
 use borrow.Author.Needs.{needs}
 use Rattle.definitions.specs.Geometry.{left, top}
-use Rattle.measure_line.proofs.WriterLaws.{spelled-as, four-words}
+use Rattle.numbers.proofs.WriterLaws.{spelled-as}
+use Rattle.measure_line.proofs.LineLaws.{four-words}
 use Rattle.measure_line.proofs.append_rectangle.Statement.{statement}
 use Rattle.measure_line.proofs.append_rectangle.Tie as tie
 

@@ -2,8 +2,8 @@
 use mathlib.Core.Path.{ap}
 use native.Mathlib.Omega.{arith}
 use borrow.Author.Needs.{needs}
-use Rattle.definitions.specs.Line.{outcomeLine, measuringLine}
-use Rattle.measure_line.proofs.WriterLaws.{spelled-as, counted}
+use Rattle.measure_line.specs.Line.{outcomeLine, measuringLine}
+use Rattle.numbers.proofs.WriterLaws.{spelled-as, counted}
 use Rattle.measure_line.proofs.measure_line.Statement.{statement}
 use Rattle.measure_line.proofs.measure_line.Tie as tie
 

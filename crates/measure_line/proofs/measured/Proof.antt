@@ -4,7 +4,7 @@ use native.Mathlib.Omega.{arith}
 use borrow.Author.Needs.{needs}
 use Rattle.definitions.specs.Refusals.{number, codePoint}
 use Rattle.definitions.specs.Calls.{fontReaderOutcome}
-use Rattle.definitions.proofs.LineLaws.{font-too-long, font-refused, font-opens}
+use Rattle.measure_line.proofs.LineLaws.{font-too-long, font-refused, font-opens}
 use Rattle.measure_line.proofs.measured.Statement.{statement}
 use Rattle.measure_line.proofs.measured.Tie as tie
 

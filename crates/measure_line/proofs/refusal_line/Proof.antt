@@ -1,7 +1,8 @@
 -- What the pieces write, one after the other; the number and the code point are those of the error.
 use native.Mathlib.Omega.{arith}
 use borrow.Author.Needs.{needs}
-use Rattle.measure_line.proofs.WriterLaws.{spelled-as, refusal-ends}
+use Rattle.numbers.proofs.WriterLaws.{spelled-as}
+use Rattle.measure_line.proofs.LineLaws.{refusal-ends}
 use Rattle.measure_line.proofs.refusal_line.Statement.{statement}
 use Rattle.measure_line.proofs.refusal_line.Tie as tie
 

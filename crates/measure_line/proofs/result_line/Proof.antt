@@ -1,6 +1,6 @@
 -- By cases of the result.
 use borrow.Author.Needs.{needs}
-use Rattle.measure_line.proofs.WriterLaws.{spelled-as}
+use Rattle.numbers.proofs.WriterLaws.{spelled-as}
 use Rattle.measure_line.proofs.result_line.Statement.{statement}
 use Rattle.measure_line.proofs.result_line.Tie as tie
 

@@ -4,7 +4,8 @@ use mir.Syntax.{w32}
 use mir.Val.{SFits}
 use mir.Facts.{toZ-ofZ}
 use borrow.Author.Needs.{needs}
-use Rattle.measure_line.proofs.WriterLaws.{spelled-as, success-ends}
+use Rattle.numbers.proofs.WriterLaws.{spelled-as}
+use Rattle.measure_line.proofs.LineLaws.{success-ends}
 use Rattle.measure_line.proofs.success_line.Statement.{statement}
 use Rattle.measure_line.proofs.success_line.Tie as tie
 

@@ -1,7 +1,7 @@
 -- The pieces of the head, one after the other.
 use native.Mathlib.Omega.{arith}
 use borrow.Author.Needs.{needs}
-use Rattle.measure_line.proofs.WriterLaws.{counted, four-pieces}
+use Rattle.numbers.proofs.WriterLaws.{counted, four-pieces}
 use Rattle.draw_program.proofs.image.write_head.Statement.{statement}
 use Rattle.draw_program.proofs.image.write_head.Tie as tie
 

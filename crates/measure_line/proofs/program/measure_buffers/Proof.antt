@@ -2,7 +2,7 @@
 use native.Mathlib.Omega.{arith}
 use borrow.Author.Needs.{needs}
 use Rattle.measure_line.proofs.FilledLaws.{files-line}
-use Rattle.measure_line.proofs.WriterLaws.{spelled-as}
+use Rattle.numbers.proofs.WriterLaws.{spelled-as}
 use Rattle.measure_line.proofs.program.measure_buffers.Statement.{statement}
 use Rattle.measure_line.proofs.program.measure_buffers.Tie as tie
 

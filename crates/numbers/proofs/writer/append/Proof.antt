@@ -5,9 +5,9 @@ use native.Mathlib.Omega.{arith}
 use lib.ListN.{length}
 use lib.Seq.{paste, paste-zero}
 use borrow.Author.Needs.{needs}
-use Rattle.measure_line.proofs.WriterLaws.{next-byte, all-bytes}
-use Rattle.measure_line.proofs.writer.append.Statement.{statement}
-use Rattle.measure_line.proofs.writer.append.Tie as tie
+use Rattle.numbers.proofs.WriterLaws.{next-byte, all-bytes}
+use Rattle.numbers.proofs.writer.append.Statement.{statement}
+use Rattle.numbers.proofs.writer.append.Tie as tie
 
 abbrev Inv-loop : tie.InvT-loop
 Inv-loop out₀ at s i₀ out i = (i ≤ length s) × (length out ≡ length out₀) × (out ≡ paste out₀ at s i)

@@ -2,10 +2,10 @@
 use mathlib.Core.Path.{_∙_}
 use native.Mathlib.Omega.{arith}
 use borrow.Author.Needs.{needs}
-use Rattle.measure_line.proofs.DecimalLaws.{spelled, at-most-ten}
-use Rattle.measure_line.proofs.WriterLaws.{spelled-as}
-use Rattle.measure_line.proofs.writer.append_decimal.Statement.{statement}
-use Rattle.measure_line.proofs.writer.append_decimal.Tie as tie
+use Rattle.numbers.proofs.DigitsLaws.{spelled, at-most-ten}
+use Rattle.numbers.proofs.WriterLaws.{spelled-as}
+use Rattle.numbers.proofs.writer.append_decimal.Statement.{statement}
+use Rattle.numbers.proofs.writer.append_decimal.Tie as tie
 
 append-requires : tie.Need-append-requires
 append-requires c κs = let k = c .before .before .decimal in omega (arith, at-most-ten (k .result) (c .before .before .before .before .before .args .n) (search needs) (k .ensures .1 .0))

@@ -5,11 +5,11 @@ use Prim.Native.Nat.{ℕ}
 use native.Mathlib.Omega.{arith}
 use mir.Facts.{toZ-ofZ}
 use borrow.Author.Needs.{needs}
-use Rattle.definitions.specs.Line.{decimal}
-use Rattle.definitions.proofs.LineLaws.{minus-sign, no-sign}
-use Rattle.measure_line.proofs.WriterLaws.{then, spelled-as}
-use Rattle.measure_line.proofs.writer.append_signed.Statement.{statement}
-use Rattle.measure_line.proofs.writer.append_signed.Tie as tie
+use Rattle.numbers.specs.Decimal.{decimal}
+use Rattle.numbers.proofs.DecimalLaws.{minus-sign, no-sign}
+use Rattle.numbers.proofs.WriterLaws.{then, spelled-as}
+use Rattle.numbers.proofs.writer.append_signed.Statement.{statement}
+use Rattle.numbers.proofs.writer.append_signed.Tie as tie
 
 returns : tie.Need-returns
 returns c =

@@ -1,9 +1,9 @@
 -- A space, then the digits.
 use native.Mathlib.Omega.{arith}
 use borrow.Author.Needs.{needs}
-use Rattle.measure_line.proofs.WriterLaws.{then}
-use Rattle.measure_line.proofs.writer.append_unsigned.Statement.{statement}
-use Rattle.measure_line.proofs.writer.append_unsigned.Tie as tie
+use Rattle.numbers.proofs.WriterLaws.{then}
+use Rattle.numbers.proofs.writer.append_unsigned.Statement.{statement}
+use Rattle.numbers.proofs.writer.append_unsigned.Tie as tie
 
 returns : tie.Need-returns
 returns c = (omega arith, then (omega arith) (c .before .before .before .before .before .before .append .ensures) (c .before .before .append-decimal .ensures .1))
