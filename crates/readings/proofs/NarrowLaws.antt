@@ -5,7 +5,7 @@ use mathlib.Core.List.{List}
 use Prim.Native.Nat.{ℕ, _-_}
 use native.Mathlib.Omega.{arith}
 use Rattle.types.specs.declared.geometry.BoundingBox.{BoundingBox}
-use Rattle.types.specs.declared.geometry.BoundingBox.the-variants.{None, Some}
+use Rattle.types.specs.declared.geometry.BoundingBox.the-variants.{Some}
 use Rattle.types.specs.declared.geometry.Rectangle.{Rectangle}
 use Rattle.definitions.specs.Agreement.{Ground}
 use Rattle.redraw.specs.Drawing.{Drawing}
@@ -16,9 +16,6 @@ use Rattle.readings.specs.Sheet.{narrowedBox, stepBuffer}
 pub faultless : (font old : List ℕ) (new : Drawing) (color : ℕ) (p : Ground) → stepBuffer false font old new color p ≡ redrawnBuffer font old new color p
 unfolding stepBuffer redrawnBuffer
 faultless font old new color p = refl
-
-pub boxless : {b : BoundingBox} → b ≡ None → None ≡ narrowedBox b
-boxless e = rw e
 
 module _ {b : BoundingBox} {r : Rectangle} (e : b ≡ Some r) where
   pub no-width : r .size .width ≡ 0 → Some r ≡ narrowedBox b

@@ -21,18 +21,18 @@ use Rattle.types.specs.declared.geometry.RenderedDimensions.{RenderedDimensions
 use Rattle.types.specs.declared.style.FontColor.the-variants.{Transparent}
 use Rattle.types.specs.declared.style.VerticalPosition.{VerticalPosition}
 use Rattle.definitions.specs.Refusals.{Outcome, success, refused}
-use Rattle.definitions.specs.Geometry.{left, top, right, bottom, Inside, InsideBox}
+use Rattle.definitions.specs.Geometry.{left, top, right, bottom, InsideBox}
 use Rattle.definitions.specs.TextSteps.{movedBox}
 use Rattle.redraw.specs.Drawing.{measured}
 use Rattle.sheet_extent.specs.declared.values.Extent.{Extent}
 use Rattle.sheet_extent.specs.declared.values.Options.{Options}
 use Rattle.readings.specs.declared.values.Place.{Place}
 use Rattle.sheet_extent.specs.declared.values.Wanted.{Wanted}
-use Rattle.sheet_extent.specs.declared.values.Wanted.the-variants.{Seen, At}
+use Rattle.sheet_extent.specs.declared.values.Wanted.the-variants.{Seen}
 use Rattle.definitions.specs.Font.{u8g2}
 use Rattle.definitions.specs.Calls.{plain}
 use Rattle.definitions.proofs.MovedLaws.{measured-at-zero}
-use Rattle.readings.specs.Readings.{readingText, reading, PlaceFits}
+use Rattle.readings.specs.Readings.{readingText, PlaceFits}
 use Rattle.sheet_extent.specs.Extent.{atOrigin, widened, withBox, withReading, extentOf, Within, HoldsReadings, NearExtent}
 use Rattle.sheet_extent.specs.Extent.{beforeZero, inside, positionFor, sideOf, side, placeAt, placeFor, Uncut, OnFramebuffer, AllSeen}
 

@@ -2,7 +2,7 @@
 use mathlib.Core.Path.{_≡_, refl, sym, ap, subst, _∙_}
 use mathlib.Core.Bool.{Bool, true, false}
 use mathlib.Core.List.{List}
-use Prim.Native.Nat.{ℕ, suc, _+_, _-_, _*_, _/_, _%_, _≤_, _<_}
+use Prim.Native.Nat.{ℕ, _+_, _-_, _*_, _/_, _≤_, _<_}
 use native.Mathlib.Decide.{decLt}
 use native.Mathlib.Nat.{mod-lt, mul-assoc, mul-le-mul-right, mul-le-mul, mul-comm, div-add-mod'}
 use native.Mathlib.Omega.{arith}
@@ -20,9 +20,6 @@ use Rattle.definitions.proofs.FramebufferLaws.{is-shown, shown-at, length-shown
 use Rattle.sheet_image.specs.Grid.{cellArea, cellPicture, withCell, RowCopied, begun, nextCell, CellFits, BandFits}
 
 -- ---- a row
-
-pub no-bytes : (b : List ℕ) (start : ℕ) (cell : List ℕ) (from : ℕ) → RowCopied b b start cell from 0
-no-bytes b start cell from = record { same-length = refl; copied = λ i h. absurd (omega arith); kept-before = λ j h. refl; kept-after = λ j h. refl }
 
 pub copy-next : (b c : List ℕ) (start : ℕ) (cell : List ℕ) (from i : ℕ) → start + i < length c → RowCopied b c start cell from i
     → RowCopied b (set c (start + i) (getD cell (from + i) 0)) start cell from (i + 1)

@@ -1,6 +1,6 @@
 -- `count_differences` meets its contract. The loop's invariant: those counted and those among the pixels that are left are all.
 -- Assumes nothing.
-use mathlib.Core.Path.{_≡_, refl, sym, _∙_}
+use mathlib.Core.Path.{_≡_}
 use mathlib.Core.Logic.{⊎-elim}
 use Prim.Native.Nat.{_+_, _≤_, _<_, _-_}
 use native.Mathlib.Omega.{arith}

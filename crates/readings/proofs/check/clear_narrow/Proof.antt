@@ -1,5 +1,5 @@
 -- The narrowed box of what drawing the text would answer is filled.
-use mathlib.Core.Path.{_≡_, sym, ap, _∙_}
+use mathlib.Core.Path.{sym, ap, _∙_}
 use mathlib.Core.List.{List}
 use Prim.Native.Nat.{ℕ}
 use Rattle.types.specs.declared.geometry.BoundingBox.{BoundingBox}

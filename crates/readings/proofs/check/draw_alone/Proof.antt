@@ -1,5 +1,5 @@
 -- A refused drawing is taken back.
-use mathlib.Core.Path.{_≡_, ap, _∙_}
+use mathlib.Core.Path.{ap, _∙_}
 use Rattle.buffers.proofs.CopyLaws.{whole}
 use Rattle.definitions.specs.Calls.{dimensionsOutcome}
 use Rattle.readings.specs.Readings.{asked, framebuffer}

@@ -1,5 +1,5 @@
 -- `clear_reading` meets its contract: each way is a case of what the reading measures. Assumes nothing.
-use mathlib.Core.Path.{_≡_, sym, ap, _∙_}
+use mathlib.Core.Path.{sym, ap, _∙_}
 use Rattle.definitions.specs.Calls.{dimensionsOutcome}
 use borrow.Author.Needs.{needs}
 use Rattle.readings.proofs.ground.clear_reading.Statement.{statement}

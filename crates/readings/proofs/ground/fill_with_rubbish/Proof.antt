@@ -1,8 +1,8 @@
 -- `fill_with_rubbish` meets its contract: WriteLaws.antt of buffers has the step. Assumes nothing.
-use mathlib.Core.Path.{_≡_, refl, sym, _∙_}
-use Prim.Native.Nat.{ℕ, _+_, _%_, _-_, _≤_, _<_}
+use mathlib.Core.Path.{_≡_, refl}
+use Prim.Native.Nat.{_+_, _%_, _-_, _≤_}
 use native.Mathlib.Omega.{arith}
-use lib.ListN.{length, getD, length-set}
+use lib.ListN.{length, length-set}
 use Rattle.buffers.proofs.WriteLaws.{WrittenTo, write-next}
 use Rattle.readings.proofs.GroundLaws.{all-rubbish}
 use borrow.Author.Needs.{needs}

@@ -1,7 +1,7 @@
 -- `lay_ground` meets its contract: the boxes of the first k readings are cleared, and GroundLaws.antt has what that leaves.
 -- Assumes nothing.
-use mathlib.Core.Path.{_≡_, refl, _∙_}
-use Prim.Native.Nat.{_*_, _-_, _≤_}
+use mathlib.Core.Path.{_≡_, refl}
+use Prim.Native.Nat.{_-_, _≤_}
 use native.Mathlib.Omega.{arith}
 use lib.ListN.{length}
 use Rattle.readings.specs.Ground.{rubbish, clearedTo}

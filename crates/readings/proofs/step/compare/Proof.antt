@@ -1,5 +1,5 @@
 -- The text is the reading's.
-use mathlib.Core.Path.{_≡_, ap, _∙_}
+use mathlib.Core.Path.{ap, _∙_}
 use mathlib.Core.List.{List}
 use Prim.Native.Nat.{ℕ}
 use Rattle.buffers.specs.Differences.{differences}

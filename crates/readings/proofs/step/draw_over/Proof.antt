@@ -1,5 +1,5 @@
 -- The texts are the readings'.
-use mathlib.Core.Path.{_≡_, _∙_}
+use mathlib.Core.Path.{_∙_}
 use Rattle.redraw.specs.Redraw.{redrawn}
 use Rattle.readings.specs.Readings.{asked, framebuffer}
 use Rattle.readings.specs.Sheet.{stepBuffer}

@@ -1,5 +1,5 @@
 -- What is found, part by part.
-use mathlib.Core.Path.{_≡_, ap, _∙_}
+use mathlib.Core.Path.{ap, _∙_}
 use mathlib.Core.List.{List}
 use Prim.Native.Nat.{ℕ}
 use Rattle.integers.specs.Integers.{pick}

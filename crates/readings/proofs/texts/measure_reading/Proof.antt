@@ -1,5 +1,5 @@
 -- `measure_reading` meets its contract: what is measured is the part that `write_reading` wrote. Assumes nothing.
-use mathlib.Core.Path.{_≡_, ap, _∙_}
+use mathlib.Core.Path.{ap, _∙_}
 use mathlib.Core.Bool.{false}
 use mathlib.Core.List.{List}
 use Prim.Native.Nat.{ℕ}

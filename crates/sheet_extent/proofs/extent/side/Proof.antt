@@ -1,5 +1,4 @@
 -- `side` meets its contract: in 64 bits the sums fit, and ExtentLaws.antt has the tests. Assumes nothing.
-use mathlib.Core.Path.{_≡_}
 use lib.IntN.{ℤ, pos, _+ℤ_}
 use lib.Signed.{_≤ℤ_}
 use mir.Syntax.{w64}

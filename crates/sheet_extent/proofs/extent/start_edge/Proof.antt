@@ -1,8 +1,6 @@
 -- `start_edge`: 32 bits fit 64. Assumes nothing.
 use mir.Syntax.{w64}
-use mir.Val.{SFits}
 use mir.Facts.{toZ-ofZ, sfits-widen}
-use borrow.Author.Needs.{needs}
 use Rattle.sheet_extent.proofs.extent.start_edge.Statement.{statement}
 use Rattle.sheet_extent.proofs.extent.start_edge.Tie as tie
 

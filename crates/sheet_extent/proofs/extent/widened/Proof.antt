@@ -1,5 +1,5 @@
 -- `widened` meets its contract: each edge is chosen and stored, and ExtentLaws.antt has that it stays in reach. Assumes nothing.
-use mathlib.Core.Path.{_≡_, refl, sym, ap, subst, _∙_}
+use mathlib.Core.Path.{refl, sym, ap, subst, _∙_}
 use Prim.Native.Nat.{_<_, _^_}
 use lib.IntN.{ℤ, pos, _+ℤ_}
 use mir.Syntax.{w32, w64}

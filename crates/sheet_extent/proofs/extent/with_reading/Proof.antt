@@ -1,5 +1,5 @@
 -- `with_reading` meets its contract: each way is a case of what the reading measures (ExtentLaws.antt). Assumes nothing.
-use mathlib.Core.Path.{_≡_, sym, ap, _∙_}
+use mathlib.Core.Path.{sym, ap, _∙_}
 use Rattle.definitions.specs.Calls.{dimensionsOutcome}
 use Rattle.sheet_extent.specs.Extent.{atOrigin}
 use Rattle.sheet_extent.proofs.ExtentLaws.{refused-reading, boxless-reading, measured-reading}

@@ -1,5 +1,5 @@
 -- `begin_band` meets its contract. Assumes nothing.
-use mathlib.Core.Path.{_≡_, _∙_}
+use mathlib.Core.Path.{_∙_}
 use Rattle.sheet_image.proofs.GridLaws.{begins-white, goes-on}
 use borrow.Author.Needs.{needs}
 use Rattle.sheet_image.proofs.band.begin_band.Statement.{statement}

@@ -1,6 +1,4 @@
 -- `columns` meets its contract. Assumes nothing.
-use mathlib.Core.Path.{_≡_}
-use Prim.Native.Nat.{_*_, _/_, _%_, _≤_}
 use native.Mathlib.Nat.{mul-le-mul-right}
 use native.Mathlib.Omega.{arith}
 use Rattle.sheet_image.proofs.GridLaws.{cells}

@@ -1,5 +1,5 @@
 -- `put_cell` meets its contract: GridLaws.antt has that the cell fits, and which cell is next. Assumes nothing.
-use mathlib.Core.Path.{_≡_, ap, _∙_}
+use mathlib.Core.Path.{ap, _∙_}
 use Prim.Native.Nat.{_*_}
 use native.Mathlib.Omega.{arith}
 use Rattle.sheet_image.specs.Grid.{withCell}

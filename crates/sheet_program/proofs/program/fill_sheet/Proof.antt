@@ -1,5 +1,5 @@
 -- `fill_sheet` meets its contract: the ground is background wherever a reading can stand, so what `run` promises holds. Assumes nothing.
-use mathlib.Core.Path.{_≡_, ap, subst, _∙_}
+use mathlib.Core.Path.{ap, subst, _∙_}
 use mathlib.Core.List.{List}
 use Prim.Native.Nat.{ℕ}
 use native.Mathlib.Omega.{arith}

@@ -1,5 +1,5 @@
 -- `make_sheet` meets its contract: GridLaws.antt has that the framebuffers are large enough. Assumes nothing.
-use mathlib.Core.Path.{_≡_, sym, subst}
+use mathlib.Core.Path.{sym, subst}
 use native.Mathlib.Omega.{arith}
 use Rattle.readings.specs.declared.values.Place.{Place}
 use Rattle.readings.specs.Readings.{PlaceFits}
