@@ -22,7 +22,8 @@ use Rattle.pictures.specs.Drawings.{Measured, Framed}
 pub corner-near : {font text : List ℕ} {lineHeight : ℕ} {r : Rectangle} → Measured font text lineHeight r → Near r
 corner-near {font} {text} {lineHeight} {r} m = near font text lineHeight (m .advance) r (m .low) (m .box)
 
-module _ (font text : List ℕ) (lineHeight : ℕ) (color : FontColor) (r : Rectangle) (x y : ℤ) (width height : ℕ) (pixels : List ℕ) (at-x : x ≡ pos 0 -ℤ left r) (at-y : y ≡ pos 0 -ℤ top r) (m : Measured font text lineHeight r) (f : Framed r width height (length pixels)) where
+module _ (font text : List ℕ) (lineHeight : ℕ) (color : FontColor) (r : Rectangle) (x y : ℤ) (width height : ℕ) (pixels : List ℕ)
+    (at-x : x ≡ pos 0 -ℤ left r) (at-y : y ≡ pos 0 -ℤ top r) (m : Measured font text lineHeight r) (f : Framed r width height (length pixels)) where
   place : point x y ≡ opposite r
   place = cc (at-x, at-y)
 

@@ -1,11 +1,9 @@
 // Replays the cases of data/cases.bin through the public calls and prints what each answers. The file
 // stdout holds what tools/model.py, written from 01 alone, says of them (tools/cases.py writes both).
-mod case_file;
-mod framebuffers;
-mod header;
 mod request;
 
-use case_file::unpack;
+use cases::case_file::number;
+use cases::case_file::unpack;
 ghost use Prim.Native.Nat.{_+_, _≤_};
 
 // One case: prints it and answers where the next one begins.
@@ -54,7 +52,7 @@ fn replay_all(
     text: &mut [u8],
     framebuffer: &mut [u8],
 ) {
-    let count = case_file::number(file, 0);
+    let count = number(file, 0);
     let mut at = 4;
     let mut i = 0;
     while i < count {

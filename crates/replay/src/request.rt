@@ -1,9 +1,9 @@
 // A case's numbers, and the call that they ask for.
-use crate::case_file::least;
-use crate::case_file::number;
-use crate::case_file::signed_number;
-use crate::framebuffers;
-use crate::header;
+use cases::case_file::least;
+use cases::case_file::number;
+use cases::case_file::signed_number;
+use cases::framebuffers;
+use cases::header;
 use font_reader::new_from_raw_data;
 use measuring::font_bounding_box::get_font_bounding_box;
 use measuring::rendered_dimensions::get_rendered_dimensions;

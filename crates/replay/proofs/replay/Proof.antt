@@ -6,7 +6,9 @@ use Rattle.replay.proofs.replay.Statement.{statement}
 use Rattle.replay.proofs.replay.Tie as tie
 
 slice-aggregate-text : tie.Need-slice-aggregate-text
-slice-aggregate-text c = sym (length-take-le _ _ (c .before .before .before .before .before .before .before .before .before .before .before .before .before .before .before .before .before .unpack .ensures))
+slice-aggregate-text c =
+    let l = c .before .before .before .before .before .before .before .before .before .before .before .before .before .before .before .before .before .unpack in
+    sym (length-take-le _ _ (l .ensures))
 
 slice-aggregate-answer : tie.Need-slice-aggregate-answer
 slice-aggregate-answer c = sym (length-take-le _ _ (c .before .before .before .before .before .before .before .before .before .before .before .before .before .before .before .unpack2 .ensures))
@@ -15,7 +17,9 @@ slice-aggregate-answer-2 : tie.Need-slice-aggregate-answer-2
 slice-aggregate-answer-2 c = sym (length-take-le _ _ (c .before .before .before .before .before .before .before .before .before .before .unpack3 .ensures))
 
 same-length-7 : tie.Need-same-length-7
-same-length-7 c = c .before .before .before .before .before .before .before .before .before .before .before .before .before .before .before .before .before .before .before .before .before .before .before .before .before .before .before .before .label .given
+same-length-7 c =
+    let answered = c .before .before .before .before .before .before .before .before .before .before .before .before .before .before in
+    answered .before .before .before .before .before .before .before .before .before .before .before .before .before .before .label .given
 
 pub replay-spec : {M : Type 1} → statement M
 replay-spec =

@@ -7,7 +7,11 @@ use Rattle.replay.proofs.replay_all.Statement.{statement}
 use Rattle.replay.proofs.replay_all.Tie as tie
 
 abbrev Inv-loop : tie.InvT-loop
-Inv-loop file label₀ font₀ text₀ framebuffer₀ count at₀ i₀ t9 label font text framebuffer at i = (length label ≡ length label₀) × ((length font ≡ length font₀) × ((length text ≡ length text₀) × ((length framebuffer ≡ length framebuffer₀) × (at ≤ 1048576))))
+Inv-loop file label₀ font₀ text₀ framebuffer₀ count at₀ i₀ t9 label font text framebuffer at i =
+    (length label ≡ length label₀)
+    × ((length font ≡ length font₀)
+    × ((length text ≡ length text₀)
+    × ((length framebuffer ≡ length framebuffer₀) × (at ≤ 1048576))))
 
 abbrev μ-loop : tie.MeasureT-loop
 μ-loop file label₀ font₀ text₀ framebuffer₀ count at₀ i₀ t9 label font text framebuffer at i = count - i

@@ -4,8 +4,8 @@ use Prim.Native.Nat.{_+_, _-_, _≤_}
 use native.Mathlib.Omega.{arith}
 use lib.ListN.{length, length-set}
 use borrow.Author.Needs.{needs}
-use Rattle.replay.proofs.case_file.append.Statement.{statement}
-use Rattle.replay.proofs.case_file.append.Tie as tie
+use Rattle.cases.proofs.case_file.append.Statement.{statement}
+use Rattle.cases.proofs.case_file.append.Tie as tie
 
 abbrev Inv-loop : tie.InvT-loop
 Inv-loop file from len out₀ start n done₀ out done = (length out ≡ length out₀) × ((start + n ≤ length out₀) × (from + n ≤ length file))

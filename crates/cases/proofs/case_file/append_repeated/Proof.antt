@@ -3,8 +3,8 @@ use mathlib.Core.Path.{_≡_}
 use Prim.Native.Nat.{_+_, _-_, _≤_}
 use lib.ListN.{length}
 use borrow.Author.Needs.{needs}
-use Rattle.replay.proofs.case_file.append_repeated.Statement.{statement}
-use Rattle.replay.proofs.case_file.append_repeated.Tie as tie
+use Rattle.cases.proofs.case_file.append_repeated.Statement.{statement}
+use Rattle.cases.proofs.case_file.append_repeated.Tie as tie
 
 abbrev Inv-loop : tie.InvT-loop
 Inv-loop file from len times out₀ start end₀ i₀ out end i = (length out ≡ length out₀) × (end ≤ length out)

@@ -7,8 +7,8 @@ use mir.Val.{SFits, toZ, hbits}
 use mir.Facts.{toZ-pos, toZ-ofZ, sfits-widen}
 use Rattle.integers.proofs.Laws.{zarith, minus}
 use borrow.Author.Needs.{needs}
-use Rattle.replay.proofs.case_file.signed_number.Statement.{statement}
-use Rattle.replay.proofs.case_file.signed_number.Tie as tie
+use Rattle.cases.proofs.case_file.signed_number.Statement.{statement}
+use Rattle.cases.proofs.case_file.signed_number.Tie as tie
 
 plain : (c : tie.Else1) → toZ w64 (c .before .number .result) ≡ pos (c .before .number .result)
 plain c = toZ-pos w64 (omega (arith, c .before .number .ok))

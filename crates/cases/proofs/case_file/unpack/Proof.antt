@@ -3,8 +3,8 @@ use mathlib.Core.Path.{_≡_}
 use Prim.Native.Nat.{_+_, _-_, _≤_}
 use lib.ListN.{length}
 use borrow.Author.Needs.{needs}
-use Rattle.replay.proofs.case_file.unpack.Statement.{statement}
-use Rattle.replay.proofs.case_file.unpack.Tie as tie
+use Rattle.cases.proofs.case_file.unpack.Statement.{statement}
+use Rattle.cases.proofs.case_file.unpack.Tie as tie
 
 abbrev Inv-loop : tie.InvT-loop
 Inv-loop file at out₀ parts next₀ len₀ i₀ out next len i = (length out ≡ length out₀) × (len ≤ length out)

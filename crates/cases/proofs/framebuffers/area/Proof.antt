@@ -2,8 +2,8 @@
 use native.Mathlib.Nat.{mul-le-mul}
 use native.Mathlib.Omega.{arith}
 use borrow.Author.Needs.{needs}
-use Rattle.replay.proofs.framebuffers.area.Statement.{statement}
-use Rattle.replay.proofs.framebuffers.area.Tie as tie
+use Rattle.cases.proofs.framebuffers.area.Statement.{statement}
+use Rattle.cases.proofs.framebuffers.area.Tie as tie
 
 mul-result : tie.Need-mul-result
 mul-result c = omega (arith, mul-le-mul (c .pre .0) (c .pre .1))

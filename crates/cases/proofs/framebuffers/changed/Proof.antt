@@ -2,8 +2,8 @@
 use Prim.Native.Nat.{_-_, _≤_}
 use lib.ListN.{length}
 use borrow.Author.Needs.{needs}
-use Rattle.replay.proofs.framebuffers.changed.Statement.{statement}
-use Rattle.replay.proofs.framebuffers.changed.Tie as tie
+use Rattle.cases.proofs.framebuffers.changed.Statement.{statement}
+use Rattle.cases.proofs.framebuffers.changed.Tie as tie
 
 abbrev Inv-loop : tie.InvT-loop
 Inv-loop framebuffer fill n₀ i₀ n i = (i ≤ length framebuffer) × (n ≤ i)

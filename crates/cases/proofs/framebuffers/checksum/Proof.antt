@@ -2,8 +2,8 @@
 use Prim.Native.Nat.{_-_, _≤_, _<_}
 use lib.ListN.{length}
 use borrow.Author.Needs.{needs}
-use Rattle.replay.proofs.framebuffers.checksum.Statement.{statement}
-use Rattle.replay.proofs.framebuffers.checksum.Tie as tie
+use Rattle.cases.proofs.framebuffers.checksum.Statement.{statement}
+use Rattle.cases.proofs.framebuffers.checksum.Tie as tie
 
 abbrev Inv-loop : tie.InvT-loop
 Inv-loop framebuffer sum₀ i₀ sum i = (i ≤ length framebuffer) × (sum < 65521)

@@ -3,8 +3,8 @@ use mathlib.Core.Path.{_≡_}
 use Prim.Native.Nat.{_-_, _≤_, _<_}
 use lib.ListN.{length}
 use borrow.Author.Needs.{needs}
-use Rattle.replay.proofs.framebuffers.fill.Statement.{statement}
-use Rattle.replay.proofs.framebuffers.fill.Tie as tie
+use Rattle.cases.proofs.framebuffers.fill.Statement.{statement}
+use Rattle.cases.proofs.framebuffers.fill.Tie as tie
 
 abbrev Inv-loop : tie.InvT-loop
 Inv-loop framebuffer₀ fill n i₀ framebuffer i = (length framebuffer ≡ length framebuffer₀) × (n ≡ length framebuffer₀)

@@ -2,8 +2,8 @@
 use Prim.Native.Nat.{_-_, _≤_}
 use lib.ListN.{length}
 use borrow.Author.Needs.{needs}
-use Rattle.replay.proofs.framebuffers.print_rows.Statement.{statement}
-use Rattle.replay.proofs.framebuffers.print_rows.Tie as tie
+use Rattle.cases.proofs.framebuffers.print_rows.Statement.{statement}
+use Rattle.cases.proofs.framebuffers.print_rows.Tie as tie
 
 abbrev Inv-loop : tie.InvT-loop
 Inv-loop framebuffer width i₀ column₀ i column = (i ≤ length framebuffer) × (column ≤ i)

@@ -2,8 +2,8 @@
 use borrow.Author.Needs.{needs}
 use mir.Facts.{toZ-ofZ}
 use Rattle.integers.proofs.Laws.{widens}
-use Rattle.replay.proofs.header.signed_byte.Statement.{statement}
-use Rattle.replay.proofs.header.signed_byte.Tie as tie
+use Rattle.cases.proofs.header.signed_byte.Statement.{statement}
+use Rattle.cases.proofs.header.signed_byte.Tie as tie
 
 cast-signed : tie.Need-cast-signed
 cast-signed c = let f = c .fits .n in simp (toZ-ofZ, f) (widens f)

@@ -22,7 +22,9 @@ loop-holds c = (omega arith, (refl, λ k p. absurd (omega arith)))
 loop-again : tie.Need-loop-again Inv-loop μ-loop
 loop-again c =
     let l = c .before .before .before .loop in
-    (omega arith, (simp length-set (l .inv .1 .0), write-next (λ k. shade (getD (c .before .before .before .before .before .before .args .pixels .now) k 0)) (l .out) (l .i) _ (omega (arith, l .inv .1 .0)) (c .mark .ensures) (l .inv .1 .1)))
+    let pixels = c .before .before .before .before .before .before .args .pixels .now in
+    let marked = write-next (λ k. shade (getD pixels k 0)) (l .out) (l .i) _ (omega (arith, l .inv .1 .0)) (c .mark .ensures) (l .inv .1 .1) in
+    (omega arith, (simp length-set (l .inv .1 .0), marked))
 
 returns : tie.Need-returns Inv-loop μ-loop
 returns c =

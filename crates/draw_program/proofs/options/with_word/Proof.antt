@@ -15,13 +15,19 @@ returns-2 : tie.Need-returns-2
 returns-2 c =
     let first = c .before .before .before .before .is-same in
     let second = c .before .is-same2 in
-    rw (same-is _ pgm (first .result) (first .ensures .0) (first .ensures .1) ∙ c .before .before .before .if1 .left, same-is _ background (second .result) (second .ensures .0) (second .ensures .1) ∙ c .if2 .taken)
+    rw (
+      same-is _ pgm (first .result) (first .ensures .0) (first .ensures .1) ∙ c .before .before .before .if1 .left,
+      same-is _ background (second .result) (second .ensures .0) (second .ensures .1) ∙ c .if2 .taken,
+    )
 
 returns-3 : tie.Need-returns-3
 returns-3 c =
     let first = c .before .before .before .before .is-same in
     let second = c .before .is-same2 in
-    rw (same-is _ pgm (first .result) (first .ensures .0) (first .ensures .1) ∙ c .before .before .before .if1 .left, same-is _ background (second .result) (second .ensures .0) (second .ensures .1) ∙ c .if2 .left)
+    rw (
+      same-is _ pgm (first .result) (first .ensures .0) (first .ensures .1) ∙ c .before .before .before .if1 .left,
+      same-is _ background (second .result) (second .ensures .0) (second .ensures .1) ∙ c .if2 .left,
+    )
 
 pub with-word-spec : {M : Type 1} → statement M
 with-word-spec =

@@ -38,14 +38,21 @@ returns-3 : tie.Need-returns-3
 returns-3 c =
     let s = c .before .before .before .before .before .before .before .before .before .before .before .before .before .before .before in
     let call = c .before .before .before .before .before .draw-at-corner .ensures in
-    inr
-    (s .args .rectangle, called (s .args .rectangle) (s .args .buffer .now) (c .before .before .before .before .before .before .before .before .if1 .left) (c .before .before .before .before .before .before .before .if2 .left) (s .pre .1) (s .args .color) (s .pre .0) (ap dimensionsOutcome (c .before .answer .given .1)) (call .0) (call .1 .0) (call .1 .1))
+    let wide = c .before .before .before .before .before .before .before .before .if1 .left in
+    let high = c .before .before .before .before .before .before .before .if2 .left in
+    let r = s .args .rectangle in
+    let is = ap dimensionsOutcome (c .before .answer .given .1) in
+    inr (r, called r (s .args .buffer .now) wide high (s .pre .1) (s .args .color) (s .pre .0) is (call .0) (call .1 .0) (call .1 .1))
 
 returns-4 : tie.Need-returns-4
 returns-4 c =
     let s = c .before .before .before .before .before .before .before .before .before .before .before .before .before .before .before in
     let call = c .before .before .before .before .before .draw-at-corner .ensures in
-    (s .args .rectangle, (refl, called (s .args .rectangle) (s .args .buffer .now) (c .before .before .before .before .before .before .before .before .if1 .left) (c .before .before .before .before .before .before .before .if2 .left) (s .pre .1) (s .args .color) (s .pre .0) (ap dimensionsOutcome (c .before .answer2 .given .1)) (call .0) (call .1 .0) (call .1 .1)))
+    let wide = c .before .before .before .before .before .before .before .before .if1 .left in
+    let high = c .before .before .before .before .before .before .before .if2 .left in
+    let r = s .args .rectangle in
+    let is = ap dimensionsOutcome (c .before .answer2 .given .1) in
+    (r, (refl, called r (s .args .buffer .now) wide high (s .pre .1) (s .args .color) (s .pre .0) is (call .0) (call .1 .0) (call .1 .1)))
 
 pub draw-box-spec : {M : Type 1} → statement M
 draw-box-spec =

@@ -20,15 +20,19 @@ draw-measured-requires c κs =
 returns : tie.Need-returns
 returns c =
     let s = c .before .before .before .before .before .before .before in
-    inl (refl, opening-refused (s .args .font .now) (s .args .text .now) (header (s .args .font .now) .«line_height») (sym (c .before .before .before .new-from-raw-data .ensures) ∙ ap fontReaderOutcome (c .before .error .given .1)))
+    let font = s .args .font .now in
+    let refused = sym (c .before .before .before .new-from-raw-data .ensures) ∙ ap fontReaderOutcome (c .before .error .given .1) in
+    inl (refl, opening-refused font (s .args .text .now) (header font .«line_height») refused)
 
 returns-2 : tie.Need-returns-2
 returns-2 c =
     let s = c .before .before .before .before .before .before .before .before .before .before .before in
     let opens = sym (c .before .before .before .before .before .before .before .new-from-raw-data .ensures) ∙ ap fontReaderOutcome (c .before .before .before .before .before .head .given .1) in
-    subst (λ (n : ℕ). IsDrawing (s .args .font .now) (s .args .text .now) n (s .args .color) (s .args .buffer .now) (c .before .before .draw-measured .last .1 .1 .1 .1 .0) (c .before .before .draw-measured .result))
-    (is-default (s .args .font .now) _ opens)
-    (c .before .before .draw-measured .ensures)
+    let a = s .args in
+    let call = c .before .before .draw-measured in
+    subst (λ (n : ℕ). IsDrawing (a .font .now) (a .text .now) n (a .color) (a .buffer .now) (call .last .1 .1 .1 .1 .0) (call .result))
+    (is-default (a .font .now) _ opens)
+    (call .ensures)
 
 pub draw-text-spec : {M : Type 1} → statement M
 draw-text-spec =

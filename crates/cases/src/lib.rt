@@ -1,0 +1,4 @@
+// The stored cases: the file that holds them, and how a case's framebuffer and a font's header are printed. The program replay is over this.
+pub mod case_file;
+pub mod framebuffers;
+pub mod header;
