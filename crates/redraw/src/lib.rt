@@ -1,3 +1,3 @@
-// A reading drawn over the one before: what the gauge does, and what it takes to watch it.
+// A reading drawn over the one before: what the gauge does.
 pub mod reading;
 pub mod step;
