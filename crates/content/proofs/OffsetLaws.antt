@@ -15,17 +15,17 @@ abbrev stored : ℤ → ℤ
 stored z = toZ w32 (ofZ w32 z)
 
 -- a value from which another can be subtracted
-pub record Near (z : ℤ) : Type 0 where
+pub record Subtractable (z : ℤ) : Type 0 where
   pub low : negsuc 268431359 ≤ℤ z
   pub high : z ≤ℤ pos 268431360
 
-pub near-byte : {z : ℤ} → SFits w8 z → Near z
+pub near-byte : {z : ℤ} → SFits w8 z → Subtractable z
 near-byte f = record { low = omega (zarith, range f); high = omega (zarith, range f) }
 
-pub near-total : {t : ℕ} → t ≤ 268431360 → Near (pos t)
+pub near-total : {t : ℕ} → t ≤ 268431360 → Subtractable (pos t)
 near-total h = record { low = omega zarith; high = omega zarith }
 
-pub difference-fits : {y z : ℤ} → Near y → Near z → SFits w32 (y -ℤ z)
+pub difference-fits : {y z : ℤ} → Subtractable y → Subtractable z → SFits w32 (y -ℤ z)
 difference-fits {y} {z} h k = omega (zarith, minus y z)
 
 -- That sums fit does not hang on the 1 that is added: whether it is 1 is for the result to show.

@@ -31,8 +31,8 @@ use Rattle.definitions.specs.Framebuffer.{over, sideOff, framebufferCaus
 use Rattle.definitions.specs.Limits.{textCause, positionCause, backgroundOff, backgroundCause}
 use Rattle.definitions.specs.Calls.{Request, characters, origin, laid, measureCauses, measuredText, measure, drawCauses, drawnText, draw, drawBuffer}
 use Rattle.definitions.specs.Agreement.{Ground, WithinLimits, drawn, after, pixel, width, height, results, KeptOutside, Agree, ThirdDemand}
-use Rattle.definitions.proofs.RefusalLaws.{went-on, none-applies, succeeded, NoneApplies, each-off, all-off, any-parts, parts-any}
-use Rattle.definitions.proofs.OpenedLaws.{or-false, opened-by-causes}
+use Rattle.definitions.proofs.RefusalLaws.{went-on, none-applies, succeeded, NoneApplies, each-off, all-off, any-parts, parts-any, or-false}
+use Rattle.definitions.proofs.OpenedLaws.{opened-by-causes}
 use Rattle.definitions.proofs.LookupLaws.{header-longer, search-longer}
 use Rattle.definitions.proofs.GlyphLaws.{fields-longer}
 use Rattle.definitions.proofs.RunsLaws.{glyph-pixels-longer}

@@ -6,7 +6,7 @@ use Prim.Native.Nat.{ℕ}
 use Rattle.integers.specs.Integers.{pick}
 use Rattle.integers.proofs.Choices.{impossible}
 use Rattle.definitions.specs.Refusals.{Outcome, success, refused, Cause, unlessRefused, anyApplies}
-use Rattle.definitions.proofs.OpenedLaws.{or-false}
+use Rattle.definitions.proofs.RefusalLaws.{or-false}
 
 pub record Comes {A : Type 0} (cs : List Cause) (rest : Outcome A) (before after : List ℕ) (answer : Outcome A) (bytes : List ℕ) : Type 0 where
   pub answered : answer ≡ unlessRefused cs rest

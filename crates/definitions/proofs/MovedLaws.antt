@@ -19,8 +19,7 @@ use Rattle.definitions.specs.Utf8.{newlines}
 use Rattle.definitions.specs.Limits.{textCause, coordinateOff, positionCause}
 use Rattle.definitions.specs.Font.{Font, measuredAnswer}
 use Rattle.definitions.specs.Calls.{Request, request, characters, origin, laid, measureCauses, measuredText, measure}
-use Rattle.definitions.proofs.OpenedLaws.{or-false}
-use Rattle.definitions.proofs.RefusalLaws.{none-applies, succeeded, NoneApplies, each-off, all-off, any-parts, parts-any}
+use Rattle.definitions.proofs.RefusalLaws.{or-false, none-applies, succeeded, NoneApplies, each-off, all-off, any-parts, parts-any}
 use Rattle.definitions.proofs.TextLaws.{moved, join-all-moved}
 
 sum-moved : (x a b : ℤ) → (x +ℤ a) +ℤ b ≡ x +ℤ (a +ℤ b)

@@ -1,7 +1,7 @@
 -- Laws of a call's causes: a call that succeeds has none that applies, where none applies the call comes to what is left, and
 -- where one does the framebuffer is left as it was. Assumes nothing.
 use mathlib.Core.Path.{_≡_, refl}
-use mathlib.Core.Bool.{Bool, true, false}
+use mathlib.Core.Bool.{Bool, true, false, _||_}
 use mathlib.Core.List.{List, [], _∷_, _++_}
 use Prim.Native.Nat.{ℕ}
 use lib.IntN.{ℤ, pos}
@@ -23,7 +23,11 @@ use Rattle.definitions.specs.Text.{point, joinAll, letters, lines, lineB
 use Rattle.definitions.specs.Calls.{Request, plain, measure, drawCauses, draw, drawBuffer}
 use Rattle.definitions.specs.Font.{Font, u8g2}
 use Rattle.definitions.specs.FontT.{T}
-use Rattle.definitions.proofs.OpenedLaws.{or-false}
+
+-- both parts of a disjunction that is false
+pub or-false : (s t : Bool) → (s || t) ≡ false → (s ≡ false) × (t ≡ false)
+or-false true t e = impossible cc
+or-false false t e = (refl, e)
 
 -- what went before a success
 pub went-on : {A B : Type 0} (o : Outcome A) (rest : A → Outcome B) (b : B) → andThen o rest ≡ success b

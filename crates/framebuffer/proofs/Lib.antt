@@ -1,5 +1,5 @@
 pub mod PaintLaws
-pub mod WriteLaws
+pub mod PaintedLaws
 pub mod RowLaws
 pub mod PartLaws
 pub mod ClipLaws

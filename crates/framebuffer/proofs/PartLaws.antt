@@ -23,7 +23,7 @@ use Rattle.definitions.proofs.PictureLaws.{covers-inside, rectangle-inside, rec
 use Rattle.definitions.proofs.FramebufferLaws.{EveryPixel, is-shown, same-picture, blank, shown-blank}
 use Rattle.framebuffer.specs.Rows.{painted, rowRectangle, rowPicture, LineFits}
 use Rattle.framebuffer.proofs.RowLaws.{outside, row-of-pixel}
-use Rattle.framebuffer.proofs.WriteLaws.{painted-length, painted-at}
+use Rattle.framebuffer.proofs.PaintedLaws.{painted-length, painted-at}
 
 -- ---- a row that lies off the framebuffer
 

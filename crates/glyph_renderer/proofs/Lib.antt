@@ -1,3 +1,3 @@
 pub mod VisibleLaws
-pub mod DrawLaws
+pub mod RowsLaws
 pub mod BoxLaws

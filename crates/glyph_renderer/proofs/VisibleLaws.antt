@@ -8,13 +8,13 @@ use mir.Val.{SFits}
 use Rattle.integers.proofs.Laws.{zarith, plus, minus}
 use Rattle.framebuffer.specs.Areas.{clamped}
 use Rattle.framebuffer.proofs.ClampLaws.{clamped-is}
-use Rattle.glyph_renderer.specs.Visible.{Near}
+use Rattle.glyph_renderer.specs.Visible.{EndFits}
 
-pub near-fits : {z : ℤ} → Near z → SFits w32 z
+pub near-fits : {z : ℤ} → EndFits z → SFits w32 z
 near-fits near = omega (zarith, near .low, near .high)
 
 -- the difference that is taken
-pub difference-fits : (n : ℕ) (top : ℤ) → n ≤ 256 → Near top → SFits w64 (pos n -ℤ top)
+pub difference-fits : (n : ℕ) (top : ℤ) → n ≤ 256 → EndFits top → SFits w64 (pos n -ℤ top)
 difference-fits n top h near = omega (zarith, minus (pos n) top, near .low, near .high)
 
 module _ (top : ℤ) (glyphHeight height : ℕ) where

@@ -19,7 +19,7 @@ use Rattle.framebuffer.specs.Areas.{BufferFits}
 use Rattle.glyph_renderer.specs.declared.geometry.Rows.{Rows}
 use Rattle.runs.specs.declared.Place.{Place}
 use Rattle.runs.specs.Stands.{CheckedGlyph, StandsAt}
-use Rattle.glyph_renderer.specs.Visible.{Near}
+use Rattle.glyph_renderer.specs.Visible.{EndFits}
 
 -- The bounding box is the glyph's at some place in reach.
 pub record GlyphBox (g : GlyphReader) (b : BoundingBox) : Type 0 where
@@ -34,8 +34,8 @@ pub record GlyphArea (g : GlyphReader) (area : Rectangle) : Type 0 where
   pub height : area .size .height ≡ g .«glyph_height»
   pub wide : 1 ≤ g .«glyph_width»
   pub tall : 1 ≤ g .«glyph_height»
-  pub left : Near (left area)
-  pub top : Near (top area)
+  pub left : EndFits (left area)
+  pub top : EndFits (top area)
 
 -- Rows of a glyph, from the place of their first pixel on; those before them show nothing.
 pub record RowsFit (font : List ℕ) (head : FontReader) (g : GlyphReader) (start : Place) (area : Rectangle) (rows : Rows) (buffer : List ℕ)

@@ -6,7 +6,7 @@ use Rattle.framebuffer.specs.Areas.{clamped}
 use Rattle.glyph_renderer.specs.declared.geometry.Rows.{Rows}
 
 -- A place near enough that a glyph's end is a number of 32 bits.
-pub record Near (z : ℤ) : Type 0 where
+pub record EndFits (z : ℤ) : Type 0 where
   pub low : negsuc 1073741823 ≤ℤ z
   pub high : z ≤ℤ pos 1073741823
 

@@ -1,7 +1,7 @@
 // Which rows of a glyph lie on the framebuffer.
 ghost use mathlib.Core.Path.{_≡_};
 ghost use Prim.Native.Nat.{_≤_};
-ghost use Rattle.glyph_renderer.specs.Visible.{Near, visibleRows};
+ghost use Rattle.glyph_renderer.specs.Visible.{EndFits, visibleRows};
 use framebuffer::clamp;
 
 // Rows of a glyph, from `first` to before `past`.
@@ -12,7 +12,7 @@ pub struct Rows {
 
 // The rows of a glyph that lie on a framebuffer of that height, the first row of the glyph being its row `top`.
 pub fn get_visible_rows(top: i32, glyph_height: u8, height: usize) -> Rows
-    requires { ⌜ Near top × (height ≤ 256) ⌝ }
+    requires { ⌜ EndFits top × (height ≤ 256) ⌝ }
     ensures { λ r. ⌜ r ≡ visibleRows top «glyph_height» height ⌝ }
 {
     let limit = glyph_height as usize;

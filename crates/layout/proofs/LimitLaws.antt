@@ -11,7 +11,7 @@ use Rattle.definitions.specs.Header.{Opened}
 use Rattle.definitions.specs.Font.{u8g2}
 use Rattle.definitions.specs.Framebuffer.{sideOff}
 use Rattle.definitions.specs.Limits.{backgroundOff, backgroundCause}
-use Rattle.definitions.proofs.OpenedLaws.{or-false}
+use Rattle.definitions.proofs.RefusalLaws.{or-false}
 
 pub side-limits : (n : ℕ) → sideOff n ≡ false → (1 ≤ n) × (n ≤ 256)
 side-limits n e =

@@ -11,19 +11,21 @@ use lib.Signed.{ltZ, _≤ℤ_}
 use mir.Syntax.{w8}
 use mir.Val.{SFits}
 use borrow.Author.Tests.{ltb-false}
-use Rattle.integers.specs.Integers.{pick}
 use Rattle.integers.proofs.Laws.{zarith, plus}
 use Rattle.integers.proofs.Choices.{impossible}
 use Rattle.types.specs.declared.font_reader.FontReader.{FontReader}
 use Rattle.types.specs.declared.geometry.Point.{Point}
 use Rattle.types.specs.declared.style.VerticalPosition.{VerticalPosition}
-use Rattle.definitions.specs.Refusals.{Outcome, success, refused, unlessRefused}
+use Rattle.definitions.specs.Refusals.{Outcome, success, refused, Cause, unlessRefused}
+use Rattle.definitions.specs.Header.{fontCauses}
 use Rattle.definitions.specs.Utf8.{decode, isUtf8, newlines}
 use Rattle.definitions.specs.VerticalOffset.{verticalOffset}
 use Rattle.definitions.specs.Limits.{textCause, coordinateOff, positionCause}
 use Rattle.definitions.specs.Font.{u8g2}
 use Rattle.definitions.specs.Calls.{openFont, Request, measureCauses, characters, origin}
-use Rattle.definitions.proofs.OpenedLaws.{or-false, opened, open-goes-on}
+use Rattle.definitions.proofs.RefusalLaws.{or-false, none-applies, succeeded, passed as causes-passed, each-off}
+use Rattle.definitions.proofs.ComesLaws.{comes-stopped}
+use Rattle.definitions.proofs.OpenedLaws.{passes-font, opened}
 use Rattle.definitions.proofs.Utf8Laws.{utf8-characters, character-count}
 use Rattle.definitions.proofs.VerticalOffsetLaws.{offset-limits}
 use Rattle.layout.specs.Ranges.{Checked}
@@ -93,9 +95,11 @@ module _ (ascent descent : ℤ) (text : List ℕ) (position : Point) (v : Vertic
           bottom = omega (zarith, plus (position .y) offset);
         }
 
-  -- what the two causes leave, by whether each applies
-  abbrev after : {A : Type 0} → Outcome A → Bool → Bool → Outcome A
-  after rest s t = pick s (refused 4 0) (pick t (refused 5 0) rest)
+  abbrev causes : List Cause
+  causes = textCause text ∷ positionCause position lineHeight ∷ []
+
+  abbrev begins : Point
+  begins = originBy ascent descent text position v lineHeight
 
   pub record Passed (o : Point) : Type 0 where
     pub text-in : TextLimits text
@@ -103,36 +107,15 @@ module _ (ascent descent : ℤ) (text : List ℕ) (position : Point) (v : Vertic
     pub place-in : PositionLimits position lineHeight
     pub is : originBy ascent descent text position v lineHeight ≡ o
 
-  passed-by : (s t : Bool) → textCause text .applies ≡ s → positionCause position lineHeight .applies ≡ t → (o : Point)
-      → after (success (originBy ascent descent text position v lineHeight)) s t ≡ success o → Passed o
-  passed-by true t p q o e = impossible cc
-  passed-by false true p q o e = impossible cc
-  passed-by false false p q o e = record { text-in = text-limits text p; place-off = q; place-in = position-limits position lineHeight q; is = cc }
-
   pub passed : (o : Point) → checkedOrigin ascent descent text position v lineHeight ≡ success o → Passed o
-  passed o e = passed-by (textCause text .applies) (positionCause position lineHeight .applies) refl refl o e
+  passed o e =
+      let p = succeeded (success begins) o causes e in
+      let q = each-off causes (p .0) in
+      let f = p .1 in
+      record { text-in = text-limits text (q .0); place-off = q .1 .0; place-in = position-limits position lineHeight (q .1 .0); is = cc }
 
   pub passed-checked : {o : Point} → SFits w8 ascent → SFits w8 descent → Passed o → Checked text o lineHeight
   passed-checked f g p = subst (λ (o : Point). Checked text o lineHeight) (p .is) (origin-checked f g (p .text-in) (p .place-in))
-
-  module _ {A : Type 0} (rest : Outcome A) where
-    refused-by : (s t : Bool) (n c : ℕ) → after (success (originBy ascent descent text position v lineHeight)) s t ≡ refused n c → after rest s t ≡ refused n c
-    refused-by true t n c e = cc
-    refused-by false true n c e = cc
-    refused-by false false n c e = impossible cc
-
-    pub origin-refused : (n c : ℕ) → checkedOrigin ascent descent text position v lineHeight ≡ refused n c
-        → unlessRefused (textCause text ∷ positionCause position lineHeight ∷ []) rest ≡ refused n c
-    origin-refused n c e = refused-by (textCause text .applies) (positionCause position lineHeight .applies) n c e
-
-    goes-on-by : (s t : Bool) (o : Point) → after (success (originBy ascent descent text position v lineHeight)) s t ≡ success o → after rest s t ≡ rest
-    goes-on-by true t o e = impossible cc
-    goes-on-by false true o e = impossible cc
-    goes-on-by false false o e = refl
-
-    pub origin-goes-on : (o : Point) → checkedOrigin ascent descent text position v lineHeight ≡ success o
-        → unlessRefused (textCause text ∷ positionCause position lineHeight ∷ []) rest ≡ rest
-    origin-goes-on o e = goes-on-by (textCause text .applies) (positionCause position lineHeight .applies) o e
 
 -- ---- a call that measures, on a font that opens
 
@@ -152,12 +135,17 @@ module _ (font : List ℕ) {head : FontReader} (opens : openFont font ≡ succes
       (passed (head .ascent) (head .descent) (r .text) (r .position) (r .anchor) (r .lineHeight) o e)
 
   module _ {A : Type 0} (rest : Outcome A) where
+    abbrev after-font : List Cause
+    after-font = textCause (r .text) ∷ positionCause (r .position) (r .lineHeight) ∷ []
+
+    abbrev start : Point
+    start = originBy (head .ascent) (head .descent) (r .text) (r .position) (r .anchor) (r .lineHeight)
+
+    font-passed : unlessRefused (measureCauses (u8g2 font) r) rest ≡ unlessRefused after-font rest
+    font-passed = causes-passed rest (fontCauses font) after-font (passes-font font opens)
+
     pub call-refused : {n c : ℕ} → tested ≡ refused n c → unlessRefused (measureCauses (u8g2 font) r) rest ≡ refused n c
-    call-refused {n} {c} e =
-        open-goes-on font _ head opens
-        ∙ origin-refused (head .ascent) (head .descent) (r .text) (r .position) (r .anchor) (r .lineHeight) rest n c e
+    call-refused e = font-passed ∙ sym (comes-stopped {rest = rest} {before = []} {after = []} start after-font [] e .answered)
 
     pub call-goes-on : {o : Point} → tested ≡ success o → unlessRefused (measureCauses (u8g2 font) r) rest ≡ rest
-    call-goes-on {o} e =
-        open-goes-on font _ head opens
-        ∙ origin-goes-on (head .ascent) (head .descent) (r .text) (r .position) (r .anchor) (r .lineHeight) rest o e
+    call-goes-on {o} e = font-passed ∙ none-applies rest after-font (succeeded (success start) o after-font e .0)

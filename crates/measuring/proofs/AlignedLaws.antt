@@ -23,7 +23,7 @@ use Rattle.layout.specs.Ranges.{Checked, LineHasRoom}
 use Rattle.layout.proofs.RangeLaws.{Small, advanced-start}
 use Rattle.layout.proofs.OriginLaws.{tested, origin-is, call-refused, call-goes-on}
 use Rattle.measuring.specs.Lines.{alignedDimensions}
-use Rattle.measuring.proofs.LineLaws.{InLines, line-has-room, in-lines-next}
+use Rattle.measuring.proofs.LinesLaws.{InLines, line-has-room, in-lines-next}
 use Rattle.layout.proofs.LoopLaws.{Reached, reached-start, reached-end, reached-next, reached-stops}
 use Rattle.layout.proofs.MeasureLaws.{checked-characters}
 

@@ -1,2 +1,2 @@
-pub mod LineLaws
+pub mod LinesLaws
 pub mod AlignedLaws

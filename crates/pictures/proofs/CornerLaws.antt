@@ -16,10 +16,10 @@ use Rattle.definitions.specs.Font.{u8g2}
 use Rattle.definitions.specs.Framebuffer.{sized}
 use Rattle.definitions.specs.Calls.{draw, drawBuffer}
 use Rattle.pictures.specs.Whole.{whole, measuredAtZero, opposite, drawnWhole, shownWhole, boxed, SeenWhole}
-use Rattle.pictures.proofs.WholeLaws.{Near, near, seen-whole}
+use Rattle.pictures.proofs.WholeLaws.{NearPlace, near, seen-whole}
 use Rattle.pictures.specs.Drawings.{Measured, Framed}
 
-pub corner-near : {font text : List ℕ} {lineHeight : ℕ} {r : Rectangle} → Measured font text lineHeight r → Near r
+pub corner-near : {font text : List ℕ} {lineHeight : ℕ} {r : Rectangle} → Measured font text lineHeight r → NearPlace r
 corner-near {font} {text} {lineHeight} {r} m = near font text lineHeight (m .advance) r (m .low) (m .box)
 
 module _ (font text : List ℕ) (lineHeight : ℕ) (color : FontColor) (r : Rectangle) (x y : ℤ) (width height : ℕ) (pixels : List ℕ)

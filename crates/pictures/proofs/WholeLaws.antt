@@ -34,8 +34,8 @@ use Rattle.definitions.specs.Limits.{coordinateOff, positionCause, backgroundCa
 use Rattle.definitions.specs.Calls.{Request, characters, origin, laid, measureCauses, measuredText, measure, draw}
 use Rattle.definitions.specs.Agreement.{limits, on}
 use Rattle.pictures.specs.Whole.{atZero, whole, measuredAtZero, opposite, roomFor, drawnWhole, inCorner, boxed, SeenWhole}
-use Rattle.definitions.proofs.OpenedLaws.{or-false, opened-limits}
-use Rattle.definitions.proofs.RefusalLaws.{succeeded, passed, NoneApplies, each-off, all-off}
+use Rattle.definitions.proofs.OpenedLaws.{opened-limits}
+use Rattle.definitions.proofs.RefusalLaws.{or-false, succeeded, passed, NoneApplies, each-off, all-off}
 use Rattle.definitions.proofs.JoinLaws.{HasCell, end, join-end}
 use Rattle.definitions.proofs.GlyphLaws.{InRange, glyph-range}
 use Rattle.definitions.proofs.BitsLaws.{SignedByte}
@@ -115,7 +115,7 @@ module _ (font : Font) (lineHeight : ℕ) (origin : Point) where
 
 -- ---- the box lies near its text's place, and has a pixel
 
-pub record Near (r : Rectangle) : Type 0 where
+pub record NearPlace (r : Rectangle) : Type 0 where
   pub left-low : negsuc 1048575 ≤ℤ left r
   pub left-high : left r ≤ℤ pos 1048576
   pub top-low : negsuc 1048575 ≤ℤ top r
@@ -124,7 +124,7 @@ pub record Near (r : Rectangle) : Type 0 where
 
 abbrev pub NearBox : BoundingBox → Type 0
 NearBox None = Unit {0}
-NearBox (Some r) = Near r
+NearBox (Some r) = NearPlace r
 
 join-some : (a b : ℤ) (m n : ℕ) → 1 ≤ m → 1 ≤ spanLength a b m n
 join-some a b m n h =
@@ -289,7 +289,7 @@ module _ (font text : List ℕ) (lineHeight : ℕ) (advance : Point) (r : Rectan
   off = each-off (measureCauses (u8g2 font) asked) (at-zero .0)
 
   -- so its opposite is within the limits for places
-  pub near : Near r
+  pub near : NearPlace r
   near =
       let start : Advanced 0 atZero = record { left = omega zarith; right = omega zarith; top = omega zarith; bottom = omega zarith } in
       let l = measuredText (u8g2 font) asked in

@@ -15,7 +15,7 @@ use Rattle.definitions.specs.Font.{u8g2}
 use Rattle.definitions.specs.Calls.{openFont}
 use Rattle.definitions.specs.Agreement.{Ground, width, height}
 use Rattle.redraw.specs.Drawing.{Drawing, asks}
-use Rattle.definitions.proofs.OpenedLaws.{opened, opened-limits}
+use Rattle.definitions.proofs.OpenedLaws.{passes-font, opened, opened-limits}
 use Rattle.definitions.proofs.RefusalLaws.{succeeded, each-off}
 use Rattle.definitions.proofs.ComesLaws.{Comes, comes-none, comes-off, comes-on, comes-passed, comes-stopped}
 use Rattle.framebuffer.specs.Areas.{BufferFits}
@@ -51,20 +51,16 @@ module _ (font old : List ℕ) (new : Drawing) (p : Ground) where
   font-refused e = as-checked (comes-stopped (header font) (fontCauses font) afterFont e)
 
   module _ {head : FontReader} (opens : openFont font ≡ success head) where
-    passes-font : anyApplies (fontCauses font) ≡ false
-    unfolding openFont
-    passes-font = succeeded (success (header font)) head (fontCauses font) opens .0
-
     abbrev place : List ℕ → Outcome Point
     place text = checkedOrigin (head .ascent) (head .descent) text (new .position) (new .style .«vertical_pos») (new .lineHeight)
 
     pub size-refused : framebufferCause (p .framebuffer) (p .before) .applies ≡ true → refused 3 0 ≡ checkedStep font old new p
-    size-refused e = as-checked (comes-passed (fontCauses font) passes-font (comes-on (framebufferCause (p .framebuffer) (p .before)) _ e))
+    size-refused e = as-checked (comes-passed (fontCauses font) (passes-font font opens) (comes-on (framebufferCause (p .framebuffer) (p .before)) _ e))
 
     module _ (size : framebufferCause (p .framebuffer) (p .before) .applies ≡ false) where
       after-size : {answer : Outcome Step} → Leave (textCause old ∷ textCause (new .text) ∷ positionCause (new .position) (new .lineHeight) ∷ backgroundCause (new .style .color) (u8g2 font .background) ∷ []) answer
           → answer ≡ checkedStep font old new p
-      after-size k = as-checked (comes-passed (fontCauses font) passes-font (comes-off (framebufferCause (p .framebuffer) (p .before)) size k))
+      after-size k = as-checked (comes-passed (fontCauses font) (passes-font font opens) (comes-off (framebufferCause (p .framebuffer) (p .before)) size k))
 
       pub old-refused : textCause old .applies ≡ true → refused 4 0 ≡ checkedStep font old new p
       old-refused e = after-size (comes-on (textCause old) _ e)

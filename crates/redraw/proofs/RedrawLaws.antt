@@ -29,8 +29,7 @@ use Rattle.definitions.specs.Agreement.{Ground, limits, WithinLimits, pixel, Ke
 use Rattle.redraw.specs.Drawing.{Drawing, asks, groundOf, drawn, after, measured}
 use Rattle.definitions.proofs.FramebufferLaws.{length-shown, shown-at, same-pixels}
 use Rattle.definitions.proofs.PictureLaws.{covers-inside, inside-covers}
-use Rattle.definitions.proofs.OpenedLaws.{or-false}
-use Rattle.definitions.proofs.RefusalLaws.{none-applies, succeeded, NoneApplies, each-off, all-off}
+use Rattle.definitions.proofs.RefusalLaws.{or-false, none-applies, succeeded, NoneApplies, each-off, all-off}
 use Rattle.definitions.proofs.ComesLaws.{comes-stopped}
 use Rattle.definitions.proofs.TextLaws.{measure-from, draw-from}
 use Rattle.definitions.proofs.LetterRefusals.{Late, late, late-drawn}

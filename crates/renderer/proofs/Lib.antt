@@ -1,2 +1,2 @@
 pub mod SizeLaws
-pub mod DrawLaws
+pub mod RenderLaws

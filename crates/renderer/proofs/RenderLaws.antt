@@ -1,11 +1,10 @@
 -- Drawing a text: the letters, the loop over them, and what the causes leave of a call. Assumes nothing.
-use mathlib.Core.Path.{_≡_, refl, sym, ap, subst, _∙_}
+use mathlib.Core.Path.{_≡_, refl, sym, ap, _∙_}
 use mathlib.Core.Bool.{Bool, true, false}
 use mathlib.Core.List.{List, [], _∷_, _++_}
 use Prim.Native.Nat.{ℕ, _+_, _≤_}
 use native.Mathlib.Omega.{arith}
 use lib.ListN.{length, drop}
-use Rattle.integers.specs.Integers.{pick}
 use Rattle.integers.proofs.Choices.{impossible}
 use Rattle.types.specs.declared.font_reader.FontReader.{FontReader}
 use Rattle.types.specs.declared.framebuffer.Framebuffer.{Framebuffer}
@@ -13,7 +12,7 @@ use Rattle.types.specs.declared.geometry.Point.{Point}
 use Rattle.types.specs.declared.geometry.RenderedDimensions.{RenderedDimensions}
 use Rattle.types.specs.declared.glyph_reader.GlyphReader.{GlyphReader}
 use Rattle.types.specs.declared.style.FontColor.{FontColor}
-use Rattle.definitions.specs.Refusals.{Outcome, success, refused, Cause, unlessRefused, anyApplies}
+use Rattle.definitions.specs.Refusals.{Outcome, success, refused, Cause}
 use Rattle.definitions.specs.Header.{header, fontCauses, Opened}
 use Rattle.definitions.specs.Glyph.{glyph}
 use Rattle.definitions.specs.Utf8.{character, firstCharacter, decode, codePoints}
@@ -25,6 +24,7 @@ use Rattle.definitions.specs.Picture.{textPicture}
 use Rattle.definitions.specs.Framebuffer.{shown, framebufferCause}
 use Rattle.definitions.specs.Limits.{textCause, positionCause, backgroundCause}
 use Rattle.definitions.specs.Calls.{openFont, Request, characters, origin, drawnText, drawCauses, draw, drawBuffer}
+use Rattle.definitions.proofs.OpenedLaws.{passes-font}
 use Rattle.definitions.proofs.ComesLaws.{Comes, comes-none, comes-off, comes-on, comes-passed, comes-stopped}
 use Rattle.definitions.proofs.RefusalLaws.{succeeded}
 use Rattle.definitions.proofs.GlyphLaws.{glyph-range}
@@ -169,16 +169,12 @@ module _ (font : List ℕ) (r : Request) (color : FontColor) (p : Framebuffer) (
   font-refused e = as-defined (comes-stopped (header font) (fontCauses font) (framebufferCause p buffer ∷ placeCauses ++ colorCause ∷ []) e)
 
   module _ {head : FontReader} (opens : openFont font ≡ success head) where
-    passes-font : anyApplies (fontCauses font) ≡ false
-    unfolding openFont
-    passes-font = succeeded (success (header font)) head (fontCauses font) opens .0
-
     pub size-refused : framebufferCause p buffer .applies ≡ true → Defined (refused 3 0) buffer
-    size-refused e = as-defined (comes-passed (fontCauses font) passes-font (comes-on (framebufferCause p buffer) _ e))
+    size-refused e = as-defined (comes-passed (fontCauses font) (passes-font font opens) (comes-on (framebufferCause p buffer) _ e))
 
     module _ (size : framebufferCause p buffer .applies ≡ false) where
       after-size : {answer : Outcome RenderedDimensions} {bytes : List ℕ} → Leave (placeCauses ++ colorCause ∷ []) answer bytes → Defined answer bytes
-      after-size k = as-defined (comes-passed (fontCauses font) passes-font (comes-off (framebufferCause p buffer) size k))
+      after-size k = as-defined (comes-passed (fontCauses font) (passes-font font opens) (comes-off (framebufferCause p buffer) size k))
 
       -- where the text would begin, by the header that was read
       abbrev begins : Point

@@ -3,7 +3,7 @@ use mathlib.Core.Path.{_≡_}
 use mathlib.Core.Bool.{false}
 use Prim.Native.Nat.{ℕ}
 use borrow.Author.Tests.{eqb-true}
-use Rattle.definitions.proofs.OpenedLaws.{or-false}
+use Rattle.definitions.proofs.RefusalLaws.{or-false}
 use Rattle.framebuffer.specs.Areas.{BufferFits}
 use Rattle.layout.specs.Sizes.{sizeOff}
 use Rattle.layout.proofs.OriginLaws.{not-false}

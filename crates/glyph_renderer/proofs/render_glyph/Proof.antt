@@ -14,7 +14,7 @@ use Rattle.definitions.specs.Picture.{rectanglePicture, boxPicture}
 use Rattle.definitions.specs.Framebuffer.{shown}
 use Rattle.definitions.proofs.FramebufferLaws.{shown-blank}
 use Rattle.framebuffer.specs.Rows.{firstRows}
-use Rattle.glyph_renderer.specs.Visible.{Near, visibleRows}
+use Rattle.glyph_renderer.specs.Visible.{EndFits, visibleRows}
 use Rattle.glyph_renderer.specs.Drawing.{GlyphBox, GlyphArea}
 use Rattle.glyph_renderer.proofs.VisibleLaws.{near-fits}
 use Rattle.glyph_renderer.proofs.BoxLaws.{box-area, hidden-rows, visible-rows, visible-in, first-pixel}
@@ -39,7 +39,7 @@ glyph-area c =
     box-area (s .args .glyph) (area c) (subst (λ (b : BoundingBox). GlyphBox (s .args .glyph) b) (c .before .before .before .bounding-box .given .1) (s .pre .1 .0))
 
 get-visible-rows-requires : tie.Need-get-visible-rows-requires
-get-visible-rows-requires c κs = let g = glyph-area c in (subst Near (sym (toZ-ofZ (near-fits (g .top)))) (g .top), c .before .before .before .before .before .before .before .pre .1 .1 .high)
+get-visible-rows-requires c κs = let g = glyph-area c in (subst EndFits (sym (toZ-ofZ (near-fits (g .top)))) (g .top), c .before .before .before .before .before .before .before .pre .1 .1 .high)
 
 -- its visible rows
 rows-are : (c : tie.After-get-visible-rows) → c .get-visible-rows .result ≡ visibleRows (top (area (c .before))) (area (c .before) .size .height) (c .before .before .before .before .before .before .before .before .args .height)

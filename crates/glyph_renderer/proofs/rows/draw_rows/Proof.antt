@@ -7,7 +7,7 @@ use native.Mathlib.Omega.{arith}
 use lib.ListN.{length, take, set, length-set}
 use borrow.Author.Needs.{needs}
 use Rattle.runs.proofs.RunReadsLaws.{next-place}
-use Rattle.glyph_renderer.proofs.DrawLaws.{Drawn, none-drawn, left-is, top-fits, row-place, row-length, row-reach, next-column, next-row, pair-known, next-runs}
+use Rattle.glyph_renderer.proofs.RowsLaws.{Drawn, none-drawn, left-is, top-fits, row-place, row-length, row-reach, next-column, next-row, pair-known, next-runs}
 use Rattle.glyph_renderer.proofs.rows.draw_rows.Statement.{statement}
 use Rattle.glyph_renderer.proofs.rows.draw_rows.Tie as tie
 

@@ -9,7 +9,7 @@ use Rattle.definitions.specs.TextSteps.{answerStep}
 use Rattle.definitions.specs.Font.{u8g2, measuredAnswer}
 use Rattle.definitions.specs.Calls.{dimensionsOutcome}
 use Rattle.layout.proofs.RangeLaws.{near-fits}
-use Rattle.measuring.proofs.LineLaws.{answer-room}
+use Rattle.measuring.proofs.LinesLaws.{answer-room}
 use Rattle.measuring.proofs.lines.add_char.Statement.{statement}
 use Rattle.measuring.proofs.lines.add_char.Tie as tie
 

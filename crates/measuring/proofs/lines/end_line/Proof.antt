@@ -10,7 +10,7 @@ use Rattle.definitions.specs.Text.{horizontalOffset}
 use Rattle.definitions.specs.TextSteps.{movedBox}
 use lib.IntN.{ℤ, _+ℤ_}
 use Rattle.layout.proofs.RangeLaws.{near-fits}
-use Rattle.measuring.proofs.LineLaws.{x-near, column-near, moved-in-reach}
+use Rattle.measuring.proofs.LinesLaws.{x-near, column-near, moved-in-reach}
 use Rattle.measuring.proofs.lines.end_line.Statement.{statement}
 use Rattle.measuring.proofs.lines.end_line.Tie as tie
 

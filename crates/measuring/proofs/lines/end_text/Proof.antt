@@ -2,7 +2,7 @@
 use mir.Facts.{toZ-ofZ}
 use borrow.Author.Needs.{needs}
 use Rattle.layout.proofs.RangeLaws.{near-fits}
-use Rattle.measuring.proofs.LineLaws.{x-near}
+use Rattle.measuring.proofs.LinesLaws.{x-near}
 use Rattle.measuring.proofs.lines.end_text.Statement.{statement}
 use Rattle.measuring.proofs.lines.end_text.Tie as tie
 

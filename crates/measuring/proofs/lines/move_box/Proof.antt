@@ -3,7 +3,7 @@ use mir.Facts.{toZ-ofZ}
 use borrow.Author.Needs.{needs}
 use Rattle.types.specs.declared.geometry.Rectangle.{Rectangle}
 use Rattle.layout.specs.Ranges.{LineRectangle}
-use Rattle.measuring.proofs.LineLaws.{start-fits, moved-fits}
+use Rattle.measuring.proofs.LinesLaws.{start-fits, moved-fits}
 use Rattle.measuring.proofs.lines.move_box.Statement.{statement}
 use Rattle.measuring.proofs.lines.move_box.Tie as tie
 

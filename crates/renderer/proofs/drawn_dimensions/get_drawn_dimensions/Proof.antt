@@ -10,7 +10,7 @@ use Rattle.definitions.specs.Font.{u8g2, drawnAnswer}
 use Rattle.definitions.specs.Calls.{dimensionsOutcome}
 use Rattle.definitions.proofs.Utf8Laws.{Position, position, none-malformed}
 use Rattle.layout.proofs.MeasureLaws.{Measured, measured-start, measured-room, measured-end, measured-next, measured-stops}
-use Rattle.renderer.proofs.DrawLaws.{drawn-small}
+use Rattle.renderer.proofs.RenderLaws.{drawn-small}
 use Rattle.renderer.proofs.drawn_dimensions.get_drawn_dimensions.Statement.{statement}
 use Rattle.renderer.proofs.drawn_dimensions.get_drawn_dimensions.Tie as tie
 

@@ -11,7 +11,7 @@ use Rattle.definitions.specs.Calls.{dimensionsOutcome}
 use Rattle.definitions.proofs.Utf8Laws.{Position, position, none-malformed}
 use Rattle.framebuffer.specs.Areas.{BufferFits}
 use Rattle.layout.proofs.MeasureLaws.{measured-room, measured-end, measured-stops}
-use Rattle.renderer.proofs.DrawLaws.{drawn-small, DrawnTo, drawn-start, drawn-end, drawn-next, drawn-stops}
+use Rattle.renderer.proofs.RenderLaws.{drawn-small, DrawnTo, drawn-start, drawn-end, drawn-next, drawn-stops}
 use Rattle.renderer.proofs.render.draw_text.Statement.{statement}
 use Rattle.renderer.proofs.render.draw_text.Tie as tie
 

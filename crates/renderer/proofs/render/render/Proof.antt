@@ -16,7 +16,7 @@ use Rattle.layout.specs.Origins.{originOutcome}
 use Rattle.layout.proofs.OriginLaws.{tested, request-checked}
 use Rattle.layout.proofs.LimitLaws.{color-is}
 use Rattle.renderer.proofs.SizeLaws.{size-fits}
-use Rattle.renderer.proofs.DrawLaws.{font-refused, size-refused, position-refused, color-refused, drawn-whole}
+use Rattle.renderer.proofs.RenderLaws.{font-refused, size-refused, position-refused, color-refused, drawn-whole}
 use Rattle.renderer.proofs.render.render.Statement.{statement}
 use Rattle.renderer.proofs.render.render.Tie as tie
 

@@ -4,7 +4,7 @@ use native.Mathlib.Omega.{arith}
 use Rattle.definitions.specs.Refusals.{success}
 use Rattle.definitions.specs.Glyph.{glyph, glyphOutcome}
 use Rattle.definitions.proofs.GlyphLaws.{glyph-range}
-use Rattle.renderer.proofs.DrawLaws.{whole-glyph, cut-glyph}
+use Rattle.renderer.proofs.RenderLaws.{whole-glyph, cut-glyph}
 use borrow.Author.Needs.{needs}
 use Rattle.renderer.proofs.render.retrieve_whole_glyph.Statement.{statement}
 use Rattle.renderer.proofs.render.retrieve_whole_glyph.Tie as tie
