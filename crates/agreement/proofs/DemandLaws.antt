@@ -2,8 +2,7 @@
 use mathlib.Core.Path.{_≡_, sym, subst}
 use mathlib.Core.List.{List}
 use Prim.Native.Nat.{ℕ}
-use Rattle.types.specs.declared.geometry.RenderedDimensions.{RenderedDimensions}
-use Rattle.types.specs.declared.style.FontColor.{FontColor}
+use Rattle.definitions.specs.Vocabulary.{RenderedDimensions, FontColor}
 use Rattle.definitions.specs.Refusals.{Outcome}
 use Rattle.definitions.specs.Font.{u8g2}
 use Rattle.definitions.specs.Calls.{Request}

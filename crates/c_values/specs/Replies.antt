@@ -5,16 +5,7 @@ use mathlib.Core.Bool.{Bool, true, false}
 use Prim.Native.Nat.{ℕ, suc}
 use lib.IntN.{ℤ, pos}
 use lib.ListN.{set}
-use Rattle.types.specs.declared.error.Error.{Error}
-use Rattle.types.specs.declared.geometry.BoundingBox.{BoundingBox}
-use Rattle.types.specs.declared.geometry.BoundingBox.the-variants.{None, Some}
-use Rattle.types.specs.declared.geometry.Point.{Point}
-use Rattle.types.specs.declared.geometry.Rectangle.{Rectangle}
-use Rattle.types.specs.declared.geometry.RenderedDimensions.{RenderedDimensions}
-use Rattle.types.specs.declared.style.FontColor.{FontColor}
-use Rattle.types.specs.declared.style.FontColor.the-variants.{Transparent, WithBackground}
-use Rattle.types.specs.declared.style.FontStyle.{FontStyle}
-use Rattle.types.specs.declared.style.VerticalPosition.{VerticalPosition}
+use Rattle.definitions.specs.Vocabulary.{Error, BoundingBox, None, Some, Point, Rectangle, RenderedDimensions, FontColor, Transparent, WithBackground, FontStyle, VerticalPosition}
 use Rattle.definitions.specs.Refusals.{Outcome, success, refused, number, codePoint}
 use Rattle.definitions.specs.Text.{point}
 use Rattle.c_values.specs.declared.reply.Reply.{Reply}

@@ -7,9 +7,7 @@ use Prim.Native.Nat.{ℕ}
 use native.Mathlib.Omega.{arith}
 use lib.IntN.{pos}
 use lib.ListN.{replicate}
-use Rattle.types.specs.declared.geometry.BoundingBox.the-variants.{Some}
-use Rattle.types.specs.declared.geometry.RenderedDimensions.{RenderedDimensions}
-use Rattle.types.specs.declared.style.FontColor.the-variants.{Transparent}
+use Rattle.definitions.specs.Vocabulary.{Some, RenderedDimensions, Transparent}
 use Rattle.types.specs.declared.style.VerticalPosition.the-variants.{Baseline}
 use Rattle.integers.specs.Integers.{signed8}
 use Rattle.definitions.specs.Header.{header, headerOff}

@@ -5,9 +5,7 @@ use mathlib.Core.Path.{_≡_, refl, ap, subst}
 use Prim.Native.Nat.{ℕ, _≤_}
 use lib.IntN.{ℤ, pos, _+ℤ_, _-ℤ_}
 use lib.Signed.{_≤ℤ_, _<ℤ_}
-use Rattle.types.specs.declared.geometry.Rectangle.{Rectangle}
-use Rattle.types.specs.declared.geometry.BoundingBox.{BoundingBox}
-use Rattle.types.specs.declared.geometry.BoundingBox.the-variants.{None, Some}
+use Rattle.definitions.specs.Vocabulary.{Rectangle, BoundingBox, None, Some}
 use Rattle.integers.specs.Integers.{minZ, maxZ}
 use Rattle.integers.proofs.Laws.{zarith, up, down, plus, minus, min-is, max-is, whole}
 use Rattle.definitions.specs.Geometry.{left, top, Inside, InsideBox, spanLength, joinRectangles, join, SpanInReach, InReach}

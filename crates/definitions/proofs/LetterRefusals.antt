@@ -6,10 +6,7 @@ use Prim.Native.Nat.{ℕ, _+_, _*_, _<_}
 use native.Mathlib.Omega.{arith}
 use lib.Dec.{eqb}
 use Rattle.integers.specs.Integers.{pick}
-use Rattle.types.specs.declared.font_reader.FontReader.{FontReader}
-use Rattle.types.specs.declared.geometry.BoundingBox.{BoundingBox}
-use Rattle.types.specs.declared.geometry.Point.{Point}
-use Rattle.types.specs.declared.glyph_reader.GlyphReader.{GlyphReader}
+use Rattle.definitions.specs.Vocabulary.{FontReader, BoundingBox, Point, GlyphReader}
 use Rattle.definitions.specs.Refusals.{Outcome, success, refused, andThen}
 use Rattle.definitions.specs.Header.{header}
 use Rattle.definitions.specs.Bits.{Read, got, ends, readAt}

@@ -13,7 +13,7 @@ use lib.Dec.{T, ltb, leb, eqb, lit<}
 use lib.ListN.{length, drop, length-drop, length-append, List·getD-append, drop-of-length-le}
 use lib.Seq.{drop-cons, drop-append-le}
 use Rattle.integers.proofs.Choices.{impossible, of-pick}
-use Rattle.types.specs.declared.font_reader.FontReader.{FontReader}
+use Rattle.definitions.specs.Vocabulary.{FontReader}
 use Rattle.integers.specs.Integers.{pick}
 use Rattle.definitions.specs.Header.{byte, bigEndian16, header}
 use Rattle.definitions.specs.Lookup.{found, missing, short, Record, here, next, last, cut, record8, record16, follow, chain}

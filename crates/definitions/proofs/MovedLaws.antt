@@ -7,9 +7,7 @@ use lib.Dec.{ltb}
 use lib.IntN.{ℤ, pos, _+ℤ_}
 use Rattle.integers.proofs.Laws.{zarith, plus}
 use Rattle.integers.proofs.Choices.{impossible}
-use Rattle.types.specs.declared.geometry.BoundingBox.{BoundingBox}
-use Rattle.types.specs.declared.geometry.Point.{Point}
-use Rattle.types.specs.declared.geometry.RenderedDimensions.{RenderedDimensions}
+use Rattle.definitions.specs.Vocabulary.{BoundingBox, Point, RenderedDimensions}
 use Rattle.definitions.specs.Refusals.{Outcome, success, refused, anyApplies}
 use Rattle.definitions.specs.Text.{Answer, shows, nothing, stops, joinAll, Layout, point, dimensionsOf, dimensions, place, letters}
 use Rattle.definitions.specs.Text.{Lines, last, first, lines, newline, thenLines, lineByLine, layout}

@@ -7,7 +7,7 @@ use native.Mathlib.Omega.{arith}
 use lib.Dec.{ltb, eqb}
 use lib.ListN.{length}
 use borrow.Author.Tests.{ltb-false, eqb-false}
-use Rattle.types.specs.declared.font_reader.FontReader.{FontReader}
+use Rattle.definitions.specs.Vocabulary.{FontReader}
 use Rattle.integers.proofs.Laws.{zarith}
 use Rattle.definitions.specs.Refusals.{Outcome, success, refused, unlessRefused, anyApplies}
 use Rattle.definitions.specs.Header.{byte, header, lengthOff, headerOff, widthOff, signedWidthOff, fontCauses, Opened}

@@ -9,11 +9,7 @@ use lib.Signed.{leZ, ltZ}
 use Rattle.integers.specs.Integers.{pick}
 use Rattle.integers.proofs.Laws.{zarith}
 use Rattle.integers.proofs.Choices.{impossible}
-use Rattle.types.specs.declared.geometry.Rectangle.{Rectangle}
-use Rattle.types.specs.declared.geometry.BoundingBox.{BoundingBox}
-use Rattle.types.specs.declared.geometry.BoundingBox.the-variants.{None, Some}
-use Rattle.types.specs.declared.glyph_reader.GlyphReader.{GlyphReader}
-use Rattle.types.specs.declared.style.FontColor.{FontColor}
+use Rattle.definitions.specs.Vocabulary.{Rectangle, BoundingBox, None, Some, GlyphReader, FontColor}
 use Rattle.definitions.specs.Geometry.{left, top, right, bottom, Inside, InsideBox}
 use Rattle.definitions.specs.Text.{Placed, boxOf, joinAll}
 use Rattle.definitions.specs.Picture.{Paint, keep, put, above, paintOf, covers, rectanglePicture, boxPicture, textPicture}

@@ -8,10 +8,7 @@ use lib.IntN.{ℤ, pos}
 use lib.ListN.{take, set}
 use Rattle.integers.specs.Integers.{signed8}
 use Rattle.integers.proofs.Choices.{impossible}
-use Rattle.types.specs.declared.framebuffer.Framebuffer.{Framebuffer}
-use Rattle.types.specs.declared.geometry.RenderedDimensions.{RenderedDimensions}
-use Rattle.types.specs.declared.style.FontColor.{FontColor}
-use Rattle.types.specs.declared.style.FontColor.the-variants.{Transparent, WithBackground}
+use Rattle.definitions.specs.Vocabulary.{Framebuffer, RenderedDimensions, FontColor, Transparent, WithBackground}
 use Rattle.types.specs.declared.style.VerticalPosition.the-variants.{Baseline}
 use Rattle.definitions.specs.Refusals.{Outcome, success, refused, andThen, Cause, unlessRefused, anyApplies}
 use Rattle.definitions.specs.Header.{header, headerOff}

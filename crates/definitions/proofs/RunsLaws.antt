@@ -12,8 +12,7 @@ use lib.Seq.{take-append-le, drop-append-le, length-take-le, drop-drop, drop-at,
 use borrow.Author.Tests.{ltb-true, leb-true, leb-false, eqb-true, lt-ltb, le-ltb, lt-leb}
 use Rattle.integers.specs.Integers.{pick}
 use Rattle.integers.proofs.Choices.{impossible}
-use Rattle.types.specs.declared.font_reader.FontReader.{FontReader}
-use Rattle.types.specs.declared.glyph_reader.GlyphReader.{GlyphReader}
+use Rattle.definitions.specs.Vocabulary.{FontReader, GlyphReader}
 use Rattle.definitions.specs.Bits.{Read, got, ends, bits, number, read, readAt}
 use Rattle.definitions.specs.Runs.{Pixels, pixels, cut, prepend, unlessCut, readPair, pair, afterPair, runs, glyphPixels, pixelsAfter, pixelsFrom}
 use Rattle.definitions.proofs.BitsLaws.{bits-append}

@@ -5,7 +5,7 @@ use lib.IntN.{ℤ, pos, negsuc, _+ℤ_, _-ℤ_}
 use lib.Signed.{_≤ℤ_}
 use mir.Syntax.{w8, w32}
 use mir.Val.{SFits}
-use Rattle.types.specs.declared.style.VerticalPosition.{VerticalPosition}
+use Rattle.definitions.specs.Vocabulary.{VerticalPosition}
 use Rattle.types.specs.declared.style.VerticalPosition.the-variants.{Baseline, Top, Center, Bottom}
 use Rattle.integers.specs.Integers.{half}
 use Rattle.integers.proofs.Laws.{zarith, plus, minus, half-is, range}

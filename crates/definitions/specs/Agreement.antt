@@ -7,9 +7,7 @@ use mathlib.Core.List.{List, [], _∷_, _++_}
 use Prim.Native.Nat.{ℕ, _+_, _*_, _≤_, _<_}
 use lib.IntN.{pos}
 use lib.ListN.{getD}
-use Rattle.types.specs.declared.framebuffer.Framebuffer.{Framebuffer}
-use Rattle.types.specs.declared.geometry.RenderedDimensions.{RenderedDimensions}
-use Rattle.types.specs.declared.style.FontColor.{FontColor}
+use Rattle.definitions.specs.Vocabulary.{Framebuffer, RenderedDimensions, FontColor}
 use Rattle.definitions.specs.Refusals.{Outcome, success, Cause, anyApplies}
 use Rattle.definitions.specs.Geometry.{InsideBox}
 use Rattle.definitions.specs.Font.{Font, u8g2}

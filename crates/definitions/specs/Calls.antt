@@ -4,12 +4,7 @@ use mathlib.Core.List.{List, [], _∷_, _++_}
 use Prim.Native.Nat.{ℕ, _*_}
 use lib.IntN.{pos, natAbs, _+ℤ_, _-ℤ_}
 use Rattle.integers.specs.Integers.{pick}
-use Rattle.types.specs.declared.font_reader.FontReader.{FontReader}
-use Rattle.types.specs.declared.framebuffer.Framebuffer.{Framebuffer}
-use Rattle.types.specs.declared.geometry.BoundingBox.{BoundingBox}
-use Rattle.types.specs.declared.geometry.Point.{Point}
-use Rattle.types.specs.declared.geometry.Rectangle.{Rectangle}
-use Rattle.types.specs.declared.geometry.RenderedDimensions.{RenderedDimensions}
+use Rattle.definitions.specs.Vocabulary.{FontReader, Framebuffer, BoundingBox, Point, Rectangle, RenderedDimensions, FontColor, HorizontalAlignment, VerticalPosition}
 use Rattle.types.specs.declared.results.BoundingBoxResult.{BoundingBoxResult}
 use Rattle.types.specs.declared.results.BoundingBoxResult.the-variants.{Ok as BoundingBox·Ok, Err as BoundingBox·Err}
 use Rattle.types.specs.declared.results.DimensionsResult.{DimensionsResult}
@@ -18,10 +13,7 @@ use Rattle.types.specs.declared.results.FontReaderResult.{FontReaderResult}
 use Rattle.types.specs.declared.results.FontReaderResult.the-variants.{Ok as FontReader·Ok, Err as FontReader·Err}
 use Rattle.types.specs.declared.results.RectangleResult.{RectangleResult}
 use Rattle.types.specs.declared.results.RectangleResult.the-variants.{Ok as Rectangle·Ok, Err as Rectangle·Err}
-use Rattle.types.specs.declared.style.FontColor.{FontColor}
-use Rattle.types.specs.declared.style.HorizontalAlignment.{HorizontalAlignment}
 use Rattle.types.specs.declared.style.HorizontalAlignment.the-variants.{Left}
-use Rattle.types.specs.declared.style.VerticalPosition.{VerticalPosition}
 use Rattle.definitions.specs.Refusals.{Outcome, success, andThen, refusal, Cause, unlessRefused, anyApplies}
 use Rattle.definitions.specs.Header.{header, fontCauses}
 use Rattle.definitions.specs.VerticalOffset.{verticalOffset}

@@ -3,7 +3,7 @@ use mathlib.Core.Bool.{Bool}
 use mathlib.Core.List.{List, []}
 use Prim.Native.Nat.{ℕ}
 use lib.IntN.{ℤ}
-use Rattle.types.specs.declared.glyph_reader.GlyphReader.{GlyphReader}
+use Rattle.definitions.specs.Vocabulary.{GlyphReader}
 use Rattle.definitions.specs.Refusals.{Outcome, success, refused, andThen, Cause}
 use Rattle.definitions.specs.Header.{header, fontCauses}
 use Rattle.definitions.specs.Glyph.{glyph}

@@ -5,7 +5,7 @@ use Prim.Native.Nat.{ℕ, suc, _*_, _/_, _%_}
 use lib.Dec.{ltb, eqb}
 use lib.IntN.{pos}
 use lib.ListN.{length}
-use Rattle.types.specs.declared.framebuffer.Framebuffer.{Framebuffer}
+use Rattle.definitions.specs.Vocabulary.{Framebuffer}
 use Rattle.definitions.specs.Refusals.{Cause}
 use Rattle.definitions.specs.Picture.{Paint, keep, put, Picture}
 

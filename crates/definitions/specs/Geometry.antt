@@ -3,9 +3,7 @@ use Prim.Native.Nat.{ℕ}
 use lib.IntN.{ℤ, pos, negsuc, natAbs, _+ℤ_, _-ℤ_}
 use lib.Signed.{_≤ℤ_, _<ℤ_}
 use Rattle.integers.specs.Integers.{minZ, maxZ}
-use Rattle.types.specs.declared.geometry.Rectangle.{Rectangle}
-use Rattle.types.specs.declared.geometry.BoundingBox.{BoundingBox}
-use Rattle.types.specs.declared.geometry.BoundingBox.the-variants.{None, Some}
+use Rattle.definitions.specs.Vocabulary.{Rectangle, BoundingBox, None, Some}
 
 -- the columns of a rectangle are left to right − 1, its rows top to bottom − 1
 abbrev pub left : Rectangle → ℤ

@@ -1,8 +1,7 @@
 -- Document 01: a glyph's fields, in the order w, h, x, y, advance, and the answer to a code point.
 use mathlib.Core.List.{List}
 use Prim.Native.Nat.{ℕ, _+_, _*_}
-use Rattle.types.specs.declared.font_reader.FontReader.{FontReader}
-use Rattle.types.specs.declared.glyph_reader.GlyphReader.{GlyphReader}
+use Rattle.definitions.specs.Vocabulary.{FontReader, GlyphReader}
 use Rattle.types.specs.declared.results.GlyphResult.{GlyphResult}
 use Rattle.types.specs.declared.results.GlyphResult.the-variants.{Ok, Err}
 use Rattle.definitions.specs.Refusals.{Outcome, success, refused, andThen, refusal}

@@ -8,7 +8,7 @@ use lib.IntN.{ℤ, pos, natAbs, _+ℤ_}
 use lib.ListN.{length, getD}
 use lib.Signed.{ltZ, _≤ℤ_}
 use Rattle.integers.specs.Integers.{signed8}
-use Rattle.types.specs.declared.font_reader.FontReader.{FontReader}
+use Rattle.definitions.specs.Vocabulary.{FontReader}
 use Rattle.definitions.specs.Refusals.{Cause}
 
 -- a font is the list of its bytes; past its end stands 0, which no call reads

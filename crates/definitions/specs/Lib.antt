@@ -1,4 +1,5 @@
 -- In reading order.
+pub mod Vocabulary
 pub mod Refusals
 pub mod Header
 pub mod VerticalOffset

@@ -7,9 +7,7 @@ use lib.Dec.{ltb}
 use lib.IntN.{ℤ, pos, negsuc}
 use lib.ListN.{length}
 use lib.Signed.{ltZ}
-use Rattle.types.specs.declared.geometry.Point.{Point}
-use Rattle.types.specs.declared.style.FontColor.{FontColor}
-use Rattle.types.specs.declared.style.FontColor.the-variants.{Transparent, WithBackground}
+use Rattle.definitions.specs.Vocabulary.{Point, FontColor, Transparent, WithBackground}
 use Rattle.definitions.specs.Refusals.{Cause}
 use Rattle.definitions.specs.Utf8.{decode, isUtf8}
 

@@ -7,12 +7,7 @@ use lib.IntN.{ℤ, natAbs, _-ℤ_}
 use lib.ListN.{getD}
 use lib.Signed.{leZ, ltZ}
 use Rattle.integers.specs.Integers.{pick}
-use Rattle.types.specs.declared.geometry.Rectangle.{Rectangle}
-use Rattle.types.specs.declared.geometry.BoundingBox.{BoundingBox}
-use Rattle.types.specs.declared.geometry.BoundingBox.the-variants.{None, Some}
-use Rattle.types.specs.declared.glyph_reader.GlyphReader.{GlyphReader}
-use Rattle.types.specs.declared.style.FontColor.{FontColor}
-use Rattle.types.specs.declared.style.FontColor.the-variants.{Transparent, WithBackground}
+use Rattle.definitions.specs.Vocabulary.{Rectangle, BoundingBox, None, Some, GlyphReader, FontColor, Transparent, WithBackground}
 use Rattle.definitions.specs.Geometry.{left, top, right, bottom}
 use Rattle.definitions.specs.Text.{Placed, boxOf}
 

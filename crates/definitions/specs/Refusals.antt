@@ -4,7 +4,7 @@ use mathlib.Core.Bool.{Bool, false, _||_}
 use mathlib.Core.List.{List, [], _∷_}
 use Prim.Native.Nat.{ℕ}
 use Rattle.integers.specs.Integers.{pick}
-use Rattle.types.specs.declared.error.Error.{Error}
+use Rattle.definitions.specs.Vocabulary.{Error}
 use Rattle.types.specs.declared.error.Error.the-variants.{FontLength, FontHeader, FramebufferSize, TextEncoding, PositionOrLineHeight, BackgroundColorNotSupported, GlyphNotFound, FontEnds}
 
 -- A call succeeds with a value, or is refused with 01's number and a code point.

@@ -7,8 +7,7 @@ use Prim.Native.Nat.{ℕ, zero, suc, _+_, _-_, _*_}
 use lib.Dec.{leb, eqb}
 use lib.ListN.{take, drop, replicate}
 use Rattle.integers.specs.Integers.{pick}
-use Rattle.types.specs.declared.font_reader.FontReader.{FontReader}
-use Rattle.types.specs.declared.glyph_reader.GlyphReader.{GlyphReader}
+use Rattle.definitions.specs.Vocabulary.{FontReader, GlyphReader}
 use Rattle.definitions.specs.Bits.{Read, got, ends, bits, read}
 
 -- 1 for each pixel that is set and 0 for each that is not; or the font ends before the last.

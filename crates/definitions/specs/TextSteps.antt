@@ -5,14 +5,7 @@ use Prim.Native.Nat.{ℕ}
 use lib.Dec.{eqb}
 use lib.IntN.{ℤ, pos, _+ℤ_}
 use Rattle.integers.specs.Integers.{pick}
-use Rattle.types.specs.declared.geometry.BoundingBox.{BoundingBox}
-use Rattle.types.specs.declared.geometry.BoundingBox.the-variants.{None, Some}
-use Rattle.types.specs.declared.geometry.Point.{Point}
-use Rattle.types.specs.declared.geometry.Rectangle.{Rectangle}
-use Rattle.types.specs.declared.geometry.RenderedDimensions.{RenderedDimensions}
-use Rattle.types.specs.declared.glyph_reader.GlyphReader.{GlyphReader}
-use Rattle.types.specs.declared.style.FontColor.{FontColor}
-use Rattle.types.specs.declared.style.HorizontalAlignment.{HorizontalAlignment}
+use Rattle.definitions.specs.Vocabulary.{BoundingBox, None, Some, Point, Rectangle, RenderedDimensions, GlyphReader, FontColor, HorizontalAlignment}
 use Rattle.definitions.specs.Refusals.{Outcome, success, refused, andThen}
 use Rattle.definitions.specs.Geometry.{left, top, join}
 use Rattle.definitions.specs.Text.{Answer, shows, nothing, stops, boxAt, point, newline, horizontalOffset}

@@ -2,7 +2,7 @@
 -- the font's ascent and descent.
 use lib.IntN.{ℤ, pos, _+ℤ_, _-ℤ_}
 use Rattle.integers.specs.Integers.{half}
-use Rattle.types.specs.declared.style.VerticalPosition.{VerticalPosition}
+use Rattle.definitions.specs.Vocabulary.{VerticalPosition}
 use Rattle.types.specs.declared.style.VerticalPosition.the-variants.{Baseline, Top, Center, Bottom}
 
 abbrev pub verticalOffset : VerticalPosition → ℤ → ℤ → ℤ → ℤ

@@ -6,8 +6,7 @@ use native.Mathlib.Nat.{mul-le-mul-right, mul-comm}
 use native.Mathlib.Omega.{arith}
 use lib.ListN.{length, take}
 use lib.Seq.{length-take-le}
-use Rattle.types.specs.declared.geometry.Size.{Size}
-use Rattle.types.specs.declared.style.FontColor.{FontColor}
+use Rattle.definitions.specs.Vocabulary.{Size, FontColor}
 use Rattle.pictures.specs.declared.whole.Drawing.{Drawing}
 use Rattle.pictures.specs.declared.whole.Drawing.the-variants.{Drawn, Blank, TooLarge, Refused}
 use Rattle.pictures.specs.Drawings.{IsDrawing}

@@ -3,8 +3,7 @@ use mathlib.Core.Bool.{Bool}
 use Prim.Native.Nat.{ℕ}
 use lib.Dec.{eqb}
 use Rattle.integers.specs.Integers.{pick}
-use Rattle.types.specs.declared.style.FontColor.{FontColor}
-use Rattle.types.specs.declared.style.FontColor.the-variants.{Transparent, WithBackground}
+use Rattle.definitions.specs.Vocabulary.{FontColor, Transparent, WithBackground}
 
 -- The ink is 0; a background, where it is wanted, is 192.
 abbrev pub inkOf : Bool → FontColor

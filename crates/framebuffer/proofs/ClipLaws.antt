@@ -12,7 +12,7 @@ use mir.Syntax.{w32}
 use mir.Val.{SFits}
 use Rattle.integers.specs.Integers.{minZ, maxZ}
 use Rattle.integers.proofs.Laws.{zarith, up, down, plus, minus, min-is, max-is, whole}
-use Rattle.types.specs.declared.style.FontColor.{FontColor}
+use Rattle.definitions.specs.Vocabulary.{FontColor}
 use Rattle.definitions.specs.Framebuffer.{shown}
 use Rattle.definitions.proofs.FramebufferLaws.{same-picture}
 use Rattle.framebuffer.specs.Rows.{rowPicture, LineFits, Apart, RowInReach}

@@ -10,9 +10,7 @@ use lib.IntN.{ℤ, pos, natAbs, _-ℤ_}
 use lib.ListN.{length, getD}
 use Rattle.integers.specs.Integers.{pick}
 use Rattle.integers.proofs.Laws.{zarith, plus, minus, size}
-use Rattle.types.specs.declared.geometry.BoundingBox.the-variants.{Some}
-use Rattle.types.specs.declared.geometry.Rectangle.{Rectangle}
-use Rattle.types.specs.declared.style.FontColor.the-variants.{Transparent}
+use Rattle.definitions.specs.Vocabulary.{Some, Rectangle, Transparent}
 use Rattle.definitions.specs.Geometry.{left, top, right, bottom, Inside}
 use Rattle.definitions.specs.Picture.{Paint, keep, put, above, covers}
 use Rattle.definitions.specs.Framebuffer.{shown}

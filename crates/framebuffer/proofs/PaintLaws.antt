@@ -2,8 +2,7 @@
 use mathlib.Core.Path.{_≡_}
 use Prim.Native.Nat.{ℕ}
 use borrow.Author.Tests.{ne-eqb}
-use Rattle.types.specs.declared.style.FontColor.{FontColor}
-use Rattle.types.specs.declared.style.FontColor.the-variants.{Transparent, WithBackground}
+use Rattle.definitions.specs.Vocabulary.{FontColor, Transparent, WithBackground}
 use Rattle.definitions.specs.Picture.{paintOf}
 use Rattle.definitions.specs.Framebuffer.{over}
 

@@ -7,7 +7,7 @@ use native.Mathlib.Numerals.{add-one}
 use native.Mathlib.Omega.{arith}
 use lib.ListN.{length, getD, take, drop, set, drop-of-length-le}
 use lib.Seq.{take-all, take-suc, drop-cons, length-take-le, set-at, getD-at}
-use Rattle.types.specs.declared.style.FontColor.{FontColor}
+use Rattle.definitions.specs.Vocabulary.{FontColor}
 use Rattle.definitions.specs.Picture.{paintOf}
 use Rattle.definitions.specs.Framebuffer.{over}
 use Rattle.definitions.proofs.FramebufferLaws.{length-mapAt, getD-mapAt}

@@ -14,8 +14,7 @@ use lib.Seq.{length-take-le, getD-append-add, getD-take, getD-drop}
 use lib.Signed.{_≤ℤ_, _<ℤ_}
 use Rattle.integers.specs.Integers.{minZ, maxZ}
 use Rattle.integers.proofs.Laws.{zarith, plus, minus, size, min-is, max-is}
-use Rattle.types.specs.declared.geometry.Rectangle.{Rectangle}
-use Rattle.types.specs.declared.style.FontColor.{FontColor}
+use Rattle.definitions.specs.Vocabulary.{Rectangle, FontColor}
 use Rattle.definitions.specs.Geometry.{Inside}
 use Rattle.definitions.specs.Picture.{Paint, paintOf, covers}
 use Rattle.definitions.specs.Framebuffer.{over, shown}

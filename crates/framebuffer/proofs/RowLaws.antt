@@ -10,8 +10,7 @@ use lib.IntN.{ℤ, pos, natAbs, _+ℤ_, _-ℤ_}
 use lib.ListN.{length, getD}
 use Rattle.integers.proofs.Choices.{impossible}
 use Rattle.integers.proofs.Laws.{zarith, plus, minus, size}
-use Rattle.types.specs.declared.geometry.Rectangle.{Rectangle}
-use Rattle.types.specs.declared.style.FontColor.{FontColor}
+use Rattle.definitions.specs.Vocabulary.{Rectangle, FontColor}
 use Rattle.definitions.specs.Geometry.{left, top, Inside}
 use Rattle.definitions.specs.Picture.{Paint, keep, above, paintOf, covers, rectanglePicture}
 use Rattle.definitions.specs.Framebuffer.{shown}
@@ -79,7 +78,8 @@ module _ (color : FontColor) (bits cells : List ℕ) (r : Rectangle) (k : ℕ)
         to-bottom = omega (zarith, h .to-bottom, plus (top r) (pos k), plus (top r) (pos (k + 1)), plus (top r +ℤ pos k) (pos 1));
       } in
       let rows : natAbs (row -ℤ top r) ≡ k = omega (zarith, size (row -ℤ top r), minus row (top r), h .from-top, h .to-bottom, plus (top r) (pos k), plus (top r +ℤ pos k) (pos 1)) in
-      let none : natAbs (row -ℤ (top r +ℤ pos k)) ≡ 0 = omega (zarith, size (row -ℤ (top r +ℤ pos k)), minus row (top r +ℤ pos k), h .from-top, h .to-bottom, plus (top r) (pos k), plus (top r +ℤ pos k) (pos 1)) in
+      let none : natAbs (row -ℤ (top r +ℤ pos k)) ≡ 0 = omega
+      (zarith, size (row -ℤ (top r +ℤ pos k)), minus row (top r +ℤ pos k), h .from-top, h .to-bottom, plus (top r) (pos k), plus (top r +ℤ pos k) (pos 1)) in
       let c : natAbs (column -ℤ left r) < r .size .width = omega (zarith, size (column -ℤ left r), minus column (left r), h .from-left, i .to-right, plus (left r) (pos (r .size .width))) in
       let bit : getD bits (natAbs (row -ℤ top r) * r .size .width + natAbs (column -ℤ left r)) 0 ≡ getD cells (natAbs (column -ℤ left r)) 0 =
       rw rows (sym (same (natAbs (column -ℤ left r)) c))

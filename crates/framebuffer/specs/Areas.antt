@@ -5,9 +5,7 @@ use lib.Dec.{ltb}
 use lib.IntN.{ℤ, pos, natAbs}
 use lib.Signed.{ltZ}
 use Rattle.integers.specs.Integers.{pick}
-use Rattle.types.specs.declared.geometry.BoundingBox.{BoundingBox}
-use Rattle.types.specs.declared.geometry.BoundingBox.the-variants.{None, Some}
-use Rattle.types.specs.declared.geometry.Rectangle.{Rectangle}
+use Rattle.definitions.specs.Vocabulary.{BoundingBox, None, Some, Rectangle}
 use Rattle.definitions.specs.Picture.{keep, put, Picture, covers}
 
 -- A framebuffer of so many bytes within 01's limits.

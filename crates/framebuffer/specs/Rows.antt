@@ -5,8 +5,7 @@ use Prim.Native.Nat.{ℕ, _+_, _*_, _≤_, _<_}
 use lib.IntN.{ℤ, pos, negsuc, _-ℤ_}
 use lib.Signed.{_≤ℤ_}
 use lib.ListN.{length, getD}
-use Rattle.types.specs.declared.geometry.Rectangle.{Rectangle}
-use Rattle.types.specs.declared.style.FontColor.{FontColor}
+use Rattle.definitions.specs.Vocabulary.{Rectangle, FontColor}
 use Rattle.definitions.specs.Picture.{Picture, paintOf, rectanglePicture}
 use Rattle.definitions.specs.Framebuffer.{over, mapAt}
 

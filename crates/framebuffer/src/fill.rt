@@ -2,7 +2,7 @@
 ghost use mathlib.Core.Path.{_≡_};
 ghost use lib.IntN.{pos, _+ℤ_};
 ghost use lib.ListN.{length};
-ghost use Rattle.types.specs.declared.geometry.BoundingBox.the-variants.{Some};
+ghost use Rattle.definitions.specs.Vocabulary.{Some};
 ghost use Rattle.definitions.specs.Framebuffer.{shown};
 ghost use Rattle.framebuffer.specs.Areas.{BufferFits, clamped, area, AreaFits, fillPicture};
 use crate::clamp;

@@ -4,8 +4,7 @@ use mathlib.Core.List.{List}
 use Prim.Native.Nat.{ℕ, _+_, _*_, _<_}
 use lib.IntN.{ℤ}
 use lib.ListN.{length}
-use Rattle.types.specs.declared.font_reader.FontReader.{FontReader}
-use Rattle.types.specs.declared.glyph_reader.GlyphReader.{GlyphReader}
+use Rattle.definitions.specs.Vocabulary.{FontReader, GlyphReader}
 use Rattle.definitions.specs.Refusals.{Outcome, success, refused}
 use Rattle.definitions.specs.Bits.{readAt, biased}
 use Rattle.definitions.specs.Glyph.{unlessEnds, field}

@@ -14,10 +14,7 @@ use borrow.Author.Tests.{eqb-false}
 use Rattle.integers.proofs.Choices.{impossible}
 use Rattle.integers.specs.Integers.{pick}
 use Rattle.integers.proofs.Laws.{zarith, plus}
-use Rattle.types.specs.declared.geometry.BoundingBox.the-variants.{None, Some}
-use Rattle.types.specs.declared.geometry.Rectangle.{Rectangle}
-use Rattle.types.specs.declared.glyph_reader.GlyphReader.{GlyphReader}
-use Rattle.types.specs.declared.style.FontColor.{FontColor}
+use Rattle.definitions.specs.Vocabulary.{None, Some, Rectangle, GlyphReader, FontColor}
 use Rattle.definitions.specs.Geometry.{left, top, right, bottom}
 use Rattle.definitions.specs.Picture.{keep, paintOf, rectanglePicture}
 use Rattle.definitions.specs.Framebuffer.{shown}
@@ -48,8 +45,14 @@ module _ {width height : ℕ} (buffer : List ℕ) (f : BufferFits (length buffer
       (λ column row c l.
       rectangle-outside color (pos column) (pos row) ps (firstRows k area)
       (λ i.
-      omega
-      (zarith, i .to-bottom, row-from-first (top area) (area .size .height) height row (i .from-top), plus (top area) (pos k), plus (top area) (pos (clamped (pos 0 -ℤ top area) (area .size .height))))))
+      omega (
+        zarith,
+        i .to-bottom,
+        row-from-first (top area) (area .size .height) height row (i .from-top),
+        plus (top area) (pos k),
+        plus (top area)
+            (pos (clamped (pos 0 -ℤ top area) (area .size .height))),
+      )))
       ∙ shown-blank width buffer
 
   past-is : rows .past ≡ clamped (pos height -ℤ top area) (area .size .height)

@@ -14,10 +14,7 @@ use mir.Facts.{toZ-ofZ, toZ-pos}
 use borrow.Author.Count.{below-more}
 use Rattle.integers.specs.Integers.{pick}
 use Rattle.integers.proofs.Laws.{zarith, plus}
-use Rattle.types.specs.declared.font_reader.FontReader.{FontReader}
-use Rattle.types.specs.declared.geometry.Rectangle.{Rectangle}
-use Rattle.types.specs.declared.glyph_reader.GlyphReader.{GlyphReader}
-use Rattle.types.specs.declared.style.FontColor.{FontColor}
+use Rattle.definitions.specs.Vocabulary.{FontReader, Rectangle, GlyphReader, FontColor}
 use Rattle.definitions.specs.Geometry.{left, top}
 use Rattle.definitions.specs.Picture.{rectanglePicture}
 use Rattle.definitions.specs.Framebuffer.{shown}

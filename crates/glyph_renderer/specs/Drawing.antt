@@ -4,11 +4,7 @@ use mathlib.Core.List.{List}
 use Prim.Native.Nat.{ℕ, _+_, _*_, _≤_}
 use lib.IntN.{ℤ}
 use lib.ListN.{length}
-use Rattle.types.specs.declared.font_reader.FontReader.{FontReader}
-use Rattle.types.specs.declared.geometry.BoundingBox.{BoundingBox}
-use Rattle.types.specs.declared.geometry.Rectangle.{Rectangle}
-use Rattle.types.specs.declared.glyph_reader.GlyphReader.{GlyphReader}
-use Rattle.types.specs.declared.style.FontColor.{FontColor}
+use Rattle.definitions.specs.Vocabulary.{FontReader, BoundingBox, Rectangle, GlyphReader, FontColor}
 use Rattle.definitions.specs.Geometry.{left, top, InReach}
 use Rattle.definitions.specs.Text.{boxAt}
 use Rattle.definitions.specs.Picture.{rectanglePicture}

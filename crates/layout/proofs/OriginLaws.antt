@@ -13,9 +13,7 @@ use mir.Val.{SFits}
 use borrow.Author.Tests.{ltb-false}
 use Rattle.integers.proofs.Laws.{zarith, plus}
 use Rattle.integers.proofs.Choices.{impossible}
-use Rattle.types.specs.declared.font_reader.FontReader.{FontReader}
-use Rattle.types.specs.declared.geometry.Point.{Point}
-use Rattle.types.specs.declared.style.VerticalPosition.{VerticalPosition}
+use Rattle.definitions.specs.Vocabulary.{FontReader, Point, VerticalPosition}
 use Rattle.definitions.specs.Refusals.{Outcome, success, refused, Cause, unlessRefused}
 use Rattle.definitions.specs.Header.{fontCauses}
 use Rattle.definitions.specs.Utf8.{decode, isUtf8, newlines}

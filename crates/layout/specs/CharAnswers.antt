@@ -1,6 +1,6 @@
 -- How the code's answer to a character is read, and the offset of a centred line.
 use lib.IntN.{ℤ, pos}
-use Rattle.types.specs.declared.geometry.BoundingBox.{BoundingBox}
+use Rattle.definitions.specs.Vocabulary.{BoundingBox}
 use Rattle.types.specs.declared.style.HorizontalAlignment.the-variants.{Center}
 use Rattle.definitions.specs.Refusals.{number, codePoint}
 use Rattle.definitions.specs.Text.{shows, nothing, stops, horizontalOffset}

@@ -2,8 +2,7 @@
 use mathlib.Core.List.{List, [], _∷_}
 use Prim.Native.Nat.{ℕ, _*_}
 use lib.IntN.{ℤ, pos, _+ℤ_}
-use Rattle.types.specs.declared.geometry.Point.{Point}
-use Rattle.types.specs.declared.style.VerticalPosition.{VerticalPosition}
+use Rattle.definitions.specs.Vocabulary.{Point, VerticalPosition}
 use Rattle.definitions.specs.Refusals.{Outcome, success, refusal, unlessRefused}
 use Rattle.definitions.specs.Utf8.{newlines}
 use Rattle.definitions.specs.VerticalOffset.{verticalOffset}

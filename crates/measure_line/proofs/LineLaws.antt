@@ -6,7 +6,7 @@ use Prim.Native.Nat.{ℕ, _≤_, _<_}
 use borrow.Author.Tests.{lt-ltb, le-ltb}
 use lib.IntN.{pos}
 use lib.ListN.{length}
-use Rattle.types.specs.declared.font_reader.FontReader.{FontReader}
+use Rattle.definitions.specs.Vocabulary.{FontReader}
 use Rattle.types.specs.declared.style.VerticalPosition.the-variants.{Baseline}
 use Rattle.definitions.specs.Refusals.{success, refused}
 use Rattle.definitions.specs.Text.{point}

@@ -7,10 +7,7 @@ use lib.Dec.{ltb}
 use lib.IntN.{pos}
 use lib.ListN.{length}
 use Rattle.integers.specs.Integers.{pick}
-use Rattle.types.specs.declared.font_reader.FontReader.{FontReader}
-use Rattle.types.specs.declared.geometry.BoundingBox.{BoundingBox}
-use Rattle.types.specs.declared.geometry.BoundingBox.the-variants.{None, Some}
-use Rattle.types.specs.declared.geometry.RenderedDimensions.{RenderedDimensions}
+use Rattle.definitions.specs.Vocabulary.{FontReader, BoundingBox, None, Some, RenderedDimensions}
 use Rattle.types.specs.declared.style.VerticalPosition.the-variants.{Baseline}
 use Rattle.definitions.specs.Refusals.{Outcome, success, refused}
 use Rattle.definitions.specs.Geometry.{left, top}

@@ -6,11 +6,7 @@ use Prim.Native.Nat.{ℕ, _+_, _≤_}
 use native.Mathlib.Omega.{arith}
 use lib.ListN.{length, drop}
 use Rattle.integers.specs.Integers.{pick}
-use Rattle.types.specs.declared.font_reader.FontReader.{FontReader}
-use Rattle.types.specs.declared.geometry.Point.{Point}
-use Rattle.types.specs.declared.geometry.RenderedDimensions.{RenderedDimensions}
-use Rattle.types.specs.declared.glyph_reader.GlyphReader.{GlyphReader}
-use Rattle.types.specs.declared.style.HorizontalAlignment.{HorizontalAlignment}
+use Rattle.definitions.specs.Vocabulary.{FontReader, Point, RenderedDimensions, GlyphReader, HorizontalAlignment}
 use Rattle.definitions.specs.Refusals.{Outcome, success, refused, Cause, unlessRefused}
 use Rattle.definitions.specs.Utf8.{character, firstCharacter, decode, codePoints}
 use Rattle.definitions.specs.Text.{Answer, shows, dimensions}

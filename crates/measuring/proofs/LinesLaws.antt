@@ -13,11 +13,7 @@ use mir.Val.{SFits}
 use Rattle.integers.proofs.Choices.{impossible}
 use Rattle.integers.specs.Integers.{pick, minZ}
 use Rattle.integers.proofs.Laws.{zarith, plus, minus, neg, min-is, max-is}
-use Rattle.types.specs.declared.geometry.BoundingBox.{BoundingBox}
-use Rattle.types.specs.declared.geometry.BoundingBox.the-variants.{None, Some}
-use Rattle.types.specs.declared.geometry.Point.{Point}
-use Rattle.types.specs.declared.glyph_reader.GlyphReader.{GlyphReader}
-use Rattle.types.specs.declared.style.HorizontalAlignment.{HorizontalAlignment}
+use Rattle.definitions.specs.Vocabulary.{BoundingBox, None, Some, Point, GlyphReader, HorizontalAlignment}
 use Rattle.types.specs.declared.style.HorizontalAlignment.the-variants.{Left, Center, Right}
 use Rattle.definitions.specs.Refusals.{success}
 use Rattle.definitions.specs.Geometry.{left, spanLength, join, SpanInReach, InReach}

@@ -1,5 +1,5 @@
 -- How the code's state of measuring line by line is read, and what the public calls read their answers off.
-use Rattle.types.specs.declared.geometry.RenderedDimensions.{RenderedDimensions}
+use Rattle.definitions.specs.Vocabulary.{RenderedDimensions}
 use Rattle.definitions.specs.Refusals.{Outcome, success, refusal, unlessRefused}
 use Rattle.definitions.specs.Text.{dimensions}
 use Rattle.definitions.specs.TextSteps as steps

@@ -5,10 +5,7 @@ use mathlib.Core.List.{List}
 use Prim.Native.Nat.{ℕ, _≤_}
 use lib.IntN.{ℤ, pos, _-ℤ_}
 use lib.ListN.{length}
-use Rattle.types.specs.declared.geometry.Point.{Point}
-use Rattle.types.specs.declared.geometry.Rectangle.{Rectangle}
-use Rattle.types.specs.declared.geometry.RenderedDimensions.{RenderedDimensions}
-use Rattle.types.specs.declared.style.FontColor.{FontColor}
+use Rattle.definitions.specs.Vocabulary.{Point, Rectangle, RenderedDimensions, FontColor}
 use Rattle.definitions.specs.Refusals.{Outcome, success}
 use Rattle.definitions.specs.Geometry.{left, top}
 use Rattle.definitions.specs.Text.{point}

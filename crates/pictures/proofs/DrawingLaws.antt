@@ -11,13 +11,7 @@ use lib.Seq.{length-take-le}
 use lib.Signed.{_≤ℤ_}
 use Rattle.integers.specs.Integers.{signed8}
 use Rattle.integers.proofs.Laws.{zarith, plus, range, size, signed8-fits}
-use Rattle.types.specs.declared.font_reader.FontReader.{FontReader}
-use Rattle.types.specs.declared.geometry.BoundingBox.{BoundingBox}
-use Rattle.types.specs.declared.geometry.BoundingBox.the-variants.{Some}
-use Rattle.types.specs.declared.geometry.Point.{Point}
-use Rattle.types.specs.declared.geometry.Rectangle.{Rectangle}
-use Rattle.types.specs.declared.geometry.RenderedDimensions.{RenderedDimensions}
-use Rattle.types.specs.declared.style.FontColor.{FontColor}
+use Rattle.definitions.specs.Vocabulary.{FontReader, BoundingBox, Some, Point, Rectangle, RenderedDimensions, FontColor}
 use Rattle.definitions.specs.Refusals.{Outcome, success, refused, unlessRefused}
 use Rattle.definitions.specs.Header.{header, signedByte}
 use Rattle.definitions.specs.Text.{dimensions}

@@ -13,13 +13,7 @@ use lib.Signed.{ltZ, _≤ℤ_}
 use borrow.Author.Tests.{ltb-false, eqb-false, le-ltb, ne-eqb, eq-eqb, not-false}
 use Rattle.integers.specs.Integers.{pick, minZ}
 use Rattle.integers.proofs.Laws.{zarith, plus, minus, min-is, max-is}
-use Rattle.types.specs.declared.geometry.BoundingBox.{BoundingBox}
-use Rattle.types.specs.declared.geometry.BoundingBox.the-variants.{None, Some}
-use Rattle.types.specs.declared.geometry.Point.{Point}
-use Rattle.types.specs.declared.geometry.Rectangle.{Rectangle}
-use Rattle.types.specs.declared.geometry.RenderedDimensions.{RenderedDimensions}
-use Rattle.types.specs.declared.glyph_reader.GlyphReader.{GlyphReader}
-use Rattle.types.specs.declared.style.FontColor.{FontColor}
+use Rattle.definitions.specs.Vocabulary.{BoundingBox, None, Some, Point, Rectangle, RenderedDimensions, GlyphReader, FontColor}
 use Rattle.definitions.specs.Refusals.{Outcome, success, refused, anyApplies}
 use Rattle.definitions.specs.Header.{header, Opened}
 use Rattle.definitions.specs.Geometry.{left, top, spanLength, join}

@@ -6,12 +6,7 @@ use mathlib.Core.List.{List}
 use mathlib.Core.Logic.{_⊎_}
 use Prim.Native.Nat.{ℕ}
 use lib.IntN.{pos, _-ℤ_}
-use Rattle.types.specs.declared.framebuffer.Framebuffer.{Framebuffer}
-use Rattle.types.specs.declared.geometry.BoundingBox.the-variants.{Some}
-use Rattle.types.specs.declared.geometry.Point.{Point}
-use Rattle.types.specs.declared.geometry.Rectangle.{Rectangle}
-use Rattle.types.specs.declared.geometry.RenderedDimensions.{RenderedDimensions}
-use Rattle.types.specs.declared.style.FontColor.{FontColor}
+use Rattle.definitions.specs.Vocabulary.{Framebuffer, Some, Point, Rectangle, RenderedDimensions, FontColor}
 use Rattle.types.specs.declared.style.VerticalPosition.the-variants.{Baseline}
 use Rattle.definitions.specs.Refusals.{Outcome, success, refused}
 use Rattle.definitions.specs.Geometry.{left, top}

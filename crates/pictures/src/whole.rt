@@ -4,7 +4,7 @@ ghost use Prim.Native.Nat.{_*_, _≤_};
 ghost use lib.IntN.{pos, negsuc, _-ℤ_};
 ghost use lib.ListN.{length};
 ghost use lib.Signed.{_≤ℤ_};
-ghost use Rattle.types.specs.declared.geometry.Point.{Point};
+ghost use Rattle.definitions.specs.Vocabulary.{Point};
 ghost use Rattle.definitions.specs.Refusals.{success};
 ghost use Rattle.definitions.specs.Header.{header};
 ghost use Rattle.definitions.specs.Calls.{dimensionsOutcome};

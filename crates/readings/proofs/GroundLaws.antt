@@ -10,9 +10,7 @@ use lib.IntN.{pos}
 use lib.ListN.{length, getD, replicate, length-replicate}
 use lib.Seq.{ext-getD}
 use Rattle.integers.proofs.Choices.{impossible}
-use Rattle.types.specs.declared.geometry.BoundingBox.{BoundingBox}
-use Rattle.types.specs.declared.geometry.BoundingBox.the-variants.{None, Some}
-use Rattle.types.specs.declared.geometry.RenderedDimensions.{RenderedDimensions}
+use Rattle.definitions.specs.Vocabulary.{BoundingBox, None, Some, RenderedDimensions}
 use Rattle.definitions.specs.Refusals.{Outcome, success, refused}
 use Rattle.definitions.specs.Geometry.{InsideBox}
 use Rattle.definitions.specs.Picture.{Paint, covers}

@@ -4,9 +4,7 @@ use mathlib.Core.Bool.{false}
 use mathlib.Core.List.{List}
 use Prim.Native.Nat.{ℕ, _-_}
 use native.Mathlib.Omega.{arith}
-use Rattle.types.specs.declared.geometry.BoundingBox.{BoundingBox}
-use Rattle.types.specs.declared.geometry.BoundingBox.the-variants.{Some}
-use Rattle.types.specs.declared.geometry.Rectangle.{Rectangle}
+use Rattle.definitions.specs.Vocabulary.{BoundingBox, Some, Rectangle}
 use Rattle.definitions.specs.Agreement.{Ground}
 use Rattle.redraw.specs.Drawing.{Drawing}
 use Rattle.redraw.specs.Redraw.{redrawnBuffer}

@@ -4,7 +4,7 @@ use mathlib.Core.List.{List}
 use Prim.Native.Nat.{ℕ, zero, suc, _+_, _*_, _%_, _<_}
 use lib.IntN.{pos}
 use lib.ListN.{replicate}
-use Rattle.types.specs.declared.geometry.RenderedDimensions.{RenderedDimensions}
+use Rattle.definitions.specs.Vocabulary.{RenderedDimensions}
 use Rattle.definitions.specs.Refusals.{success}
 use Rattle.definitions.specs.Geometry.{InsideBox}
 use Rattle.definitions.specs.Framebuffer.{mapAt}

@@ -5,9 +5,7 @@ use mathlib.Core.List.{List}
 use Prim.Native.Nat.{ℕ, zero, suc, _+_, _-_, _<_}
 use lib.Dec.{eqb}
 use Rattle.integers.specs.Integers.{pick}
-use Rattle.types.specs.declared.geometry.BoundingBox.{BoundingBox}
-use Rattle.types.specs.declared.geometry.BoundingBox.the-variants.{None, Some}
-use Rattle.types.specs.declared.geometry.RenderedDimensions.{RenderedDimensions}
+use Rattle.definitions.specs.Vocabulary.{BoundingBox, None, Some, RenderedDimensions}
 use Rattle.definitions.specs.Refusals.{Outcome, success, refused, anyApplies}
 use Rattle.definitions.specs.Calls.{dimensionsOutcome}
 use Rattle.definitions.specs.Agreement.{on, Ground, width, height}

@@ -5,8 +5,7 @@ use mathlib.Core.List.{List, [], _∷_}
 use Prim.Native.Nat.{ℕ, _<_}
 use lib.ListN.{length, getD}
 use Rattle.integers.proofs.Laws.{signed8-fits}
-use Rattle.types.specs.declared.font_reader.FontReader.{FontReader}
-use Rattle.types.specs.declared.geometry.Point.{Point}
+use Rattle.definitions.specs.Vocabulary.{FontReader, Point}
 use Rattle.definitions.specs.Refusals.{Outcome, success, refused, Cause, anyApplies}
 use Rattle.definitions.specs.Header.{header, fontCauses, Opened}
 use Rattle.definitions.specs.Framebuffer.{framebufferCause}
@@ -58,7 +57,8 @@ module _ (font old : List ℕ) (new : Drawing) (p : Ground) where
     size-refused e = as-checked (comes-passed (fontCauses font) (passes-font font opens) (comes-on (framebufferCause (p .framebuffer) (p .before)) _ e))
 
     module _ (size : framebufferCause (p .framebuffer) (p .before) .applies ≡ false) where
-      after-size : {answer : Outcome Step} → Leave (textCause old ∷ textCause (new .text) ∷ positionCause (new .position) (new .lineHeight) ∷ backgroundCause (new .style .color) (u8g2 font .background) ∷ []) answer
+      after-size : {answer : Outcome Step} → Leave
+          (textCause old ∷ textCause (new .text) ∷ positionCause (new .position) (new .lineHeight) ∷ backgroundCause (new .style .color) (u8g2 font .background) ∷ []) answer
           → answer ≡ checkedStep font old new p
       after-size k = as-checked (comes-passed (fontCauses font) (passes-font font opens) (comes-off (framebufferCause (p .framebuffer) (p .before)) size k))
 
@@ -70,7 +70,8 @@ module _ (font old : List ℕ) (new : Drawing) (p : Ground) where
         new-refused e =
             after-size
             (comes-off (textCause old) fine
-            (comes-stopped (originBy (head .ascent) (head .descent) (new .text) (new .position) (new .style .«vertical_pos») (new .lineHeight)) (textCause (new .text) ∷ positionCause (new .position) (new .lineHeight) ∷ []) (backgroundCause (new .style .color) (u8g2 font .background) ∷ []) e))
+            (comes-stopped (originBy (head .ascent) (head .descent) (new .text) (new .position) (new .style .«vertical_pos») (new .lineHeight))
+            (textCause (new .text) ∷ positionCause (new .position) (new .lineHeight) ∷ []) (backgroundCause (new .style .color) (u8g2 font .background) ∷ []) e))
 
         module _ {o : Point} (passes : place (new .text) ≡ success o) where
           after-place : {answer : Outcome Step} → Leave (backgroundCause (new .style .color) (u8g2 font .background) ∷ []) answer → answer ≡ checkedStep font old new p
@@ -78,7 +79,8 @@ module _ (font old : List ℕ) (new : Drawing) (p : Ground) where
               after-size
               (comes-off (textCause old) fine
               (comes-passed (textCause (new .text) ∷ positionCause (new .position) (new .lineHeight) ∷ [])
-              (succeeded (success (originBy (head .ascent) (head .descent) (new .text) (new .position) (new .style .«vertical_pos») (new .lineHeight))) o (textCause (new .text) ∷ positionCause (new .position) (new .lineHeight) ∷ []) passes .0)
+              (succeeded (success (originBy (head .ascent) (head .descent) (new .text) (new .position) (new .style .«vertical_pos»)
+              (new .lineHeight))) o (textCause (new .text) ∷ positionCause (new .position) (new .lineHeight) ∷ []) passes .0)
               k))
 
           pub color-refused : backgroundCause (new .style .color) (u8g2 font .background) .applies ≡ true → refused 6 0 ≡ checkedStep font old new p
@@ -124,7 +126,9 @@ ready font old new p s e small =
       read = read;
       old-at = sym (ap (λ (s : Step). s .«old_origin») same);
       new-at = sym (ap (λ (s : Step). s .«new_origin») same);
-      old-checked = subst (λ (s : Step). Checked old (s .«old_origin») (new .lineHeight)) same (origin-checked _ _ old (new .position) (new .style .«vertical_pos») (new .lineHeight) up down (text-limits old (o .1 .1 .1 .0)) place);
-      new-checked = subst (λ (s : Step). Checked (new .text) (s .«new_origin») (new .lineHeight)) same (origin-checked _ _ (new .text) (new .position) (new .style .«vertical_pos») (new .lineHeight) up down (text-limits (new .text) (o .1 .1 .1 .1 .0)) place);
+      old-checked = subst (λ (s : Step). Checked old (s .«old_origin») (new .lineHeight)) same
+          (origin-checked _ _ old (new .position) (new .style .«vertical_pos») (new .lineHeight) up down (text-limits old (o .1 .1 .1 .0)) place);
+      new-checked = subst (λ (s : Step). Checked (new .text) (s .«new_origin») (new .lineHeight)) same
+          (origin-checked _ _ (new .text) (new .position) (new .style .«vertical_pos») (new .lineHeight) up down (text-limits (new .text) (o .1 .1 .1 .1 .0)) place);
       fits = size-fits (width p) (height p) _ (o .1 .1 .0);
     }

@@ -11,10 +11,7 @@ use lib.IntN.{pos}
 use lib.ListN.{length}
 use Rattle.integers.proofs.Choices.{impossible}
 use Rattle.integers.specs.Integers.{pick}
-use Rattle.types.specs.declared.geometry.BoundingBox.{BoundingBox}
-use Rattle.types.specs.declared.geometry.BoundingBox.the-variants.{None, Some}
-use Rattle.types.specs.declared.geometry.Point.{Point}
-use Rattle.types.specs.declared.geometry.RenderedDimensions.{RenderedDimensions}
+use Rattle.definitions.specs.Vocabulary.{BoundingBox, None, Some, Point, RenderedDimensions}
 use Rattle.definitions.specs.Refusals.{Outcome, success, refused, Cause, unlessRefused, anyApplies}
 use Rattle.definitions.specs.Header.{fontCauses}
 use Rattle.definitions.specs.Geometry.{InsideBox}
@@ -242,14 +239,16 @@ module _ (font old : List ℕ) (new : Drawing) (background : ℕ) (p : Ground) w
 
     bare-off : anyApplies (causesOf font new bare) ≡ false
     bare-off =
-        let size = ap (λ (n : ℕ). sideOff (width p) || sideOff (height p) || not (eqb n (width p * height p))) (length-cleared (width p) background (toFill (drawn font (withText old new) p)) (p .before)) ∙ off .1 .1 .0 in
+        let size = ap (λ (n : ℕ). sideOff (width p) || sideOff (height p) || not (eqb n (width p * height p)))
+        (length-cleared (width p) background (toFill (drawn font (withText old new) p)) (p .before)) ∙ off .1 .1 .0 in
         all-off (causesOf font new bare) (off .0, (off .1 .0, (size, off .1 .1 .1 .1)))
 
     abbrev letters : List ℕ → Outcome RenderedDimensions
     letters text = measureFrom (drawnAnswer (u8g2 font) false) (new .lineHeight) (originOf font text new) start (characters text)
 
     abbrev lettersOn : List ℕ → List ℕ
-    lettersOn bytes = drawFrom (width p) (new .style .color) (pixelsOf (u8g2 font)) (drawnAnswer (u8g2 font) false) (new .lineHeight) (originOf font (new .text) new) start bytes (characters (new .text))
+    lettersOn bytes = drawFrom (width p) (new .style .color) (pixelsOf (u8g2 font)) (drawnAnswer (u8g2 font) false) (new .lineHeight)
+        (originOf font (new .text) new) start bytes (characters (new .text))
 
     pub answers : {answer : Outcome RenderedDimensions} → answer ≡ letters (new .text) → answer ≡ redrawn font old new p
     unfolding redrawn

@@ -8,10 +8,7 @@ use lib.Dec.{eqb}
 use lib.IntN.{pos}
 use lib.ListN.{length}
 use Rattle.integers.specs.Integers.{pick}
-use Rattle.types.specs.declared.geometry.BoundingBox.the-variants.{None}
-use Rattle.types.specs.declared.geometry.RenderedDimensions.{RenderedDimensions}
-use Rattle.types.specs.declared.style.FontColor.{FontColor}
-use Rattle.types.specs.declared.style.FontColor.the-variants.{Transparent}
+use Rattle.definitions.specs.Vocabulary.{None, RenderedDimensions, FontColor, Transparent}
 use Rattle.definitions.specs.Refusals.{Outcome, success, refused, unlessRefused, anyApplies}
 use Rattle.definitions.specs.Header.{fontCauses}
 use Rattle.definitions.specs.Utf8.{decodeFrom}
@@ -26,7 +23,8 @@ use Rattle.definitions.proofs.FramebufferLaws.{shown-blank}
 use Rattle.definitions.proofs.RefusalLaws.{succeeded, each-off}
 use Rattle.redraw.specs.Redraw.{wholeOr, readingOn, AllOf, clearedBy, redrawCauses, redrawn, redrawnBuffer, taken}
 use Rattle.redraw.specs.Steps.{Field, Reading, asked, on, Screen, readingOf, bare, stepAnswer, step, steps, answers, alone, lastTaken, showing, ClearFor, ClearForAll, LeavesReading}
-use Rattle.redraw.proofs.RedrawLaws.{length-after, within-limits, same-answer, some-width, fill-restores, length-cleared, refused-early, causesOf, drawn-early, drawn-late, same-causes, redrawn-is}
+use Rattle.redraw.proofs.RedrawLaws.{length-after, within-limits, same-answer, some-width, fill-restores, length-cleared}
+use Rattle.redraw.proofs.RedrawLaws.{refused-early, causesOf, drawn-early, drawn-late, same-causes, redrawn-is}
 
 -- What drawing answers does not depend on the colours, if the font allows them.
 same-color : (f : Field) (bytes text : List ℕ) (c d : FontColor) → backgroundOff c (u8g2 (f .font) .background) ≡ false → backgroundOff d (u8g2 (f .font) .background) ≡ false
@@ -247,7 +245,8 @@ module _ (f : Field) (old : List ℕ) (r : Reading) {entry exit : List ℕ} {ans
   unfolding redrawn redrawnBuffer
   leaves-reading ground color allowed clear was = by (anyApplies (redrawCauses (f .font) old (asked f r) (on f entry))) refl
     where
-      late : (z : Sized f ground record { old = readingOf old color; bytes = entry }) (b : Bool) → taken (alone f ground r) ≡ b → exit ≡ pick (taken answer) (readingOn (f .font) (asked f r) (on f ground)) entry
+      late : (z : Sized f ground record { old = readingOf old color; bytes = entry }) (b : Bool) → taken (alone f ground r) ≡ b → exit
+          ≡ pick (taken answer) (readingOn (f .font) (asked f r) (on f ground)) entry
       late z b e =
           let h : Shown f ground record { old = readingOf old color; bytes = entry } = record { is = was; clear = clear } in
           let same : taken answer ≡ b = ap taken (answered ∙ answers-alone f ground z r) ∙ e in
@@ -262,7 +261,8 @@ module _ (f : Field) (old : List ℕ) (r : Reading) {entry exit : List ℕ} {ans
       by : (b : Bool) → anyApplies (redrawCauses (f .font) old (asked f r) (on f entry)) ≡ b
           → exit ≡ pick (taken answer) (readingOn (f .font) (asked f r) (on f ground)) entry
       by true k =
-          let early : taken answer ≡ false = ap taken answered ∙ refused-early _ (redrawCauses (f .font) old (asked f r) (on f entry)) (omega arith, (omega arith, (omega arith, (omega arith, (omega arith, (omega arith, (omega arith, tt))))))) k in
+          let early : taken answer ≡ false = ap taken answered
+          ∙ refused-early _ (redrawCauses (f .font) old (asked f r) (on f entry)) (omega arith, (omega arith, (omega arith, (omega arith, (omega arith, (omega arith, (omega arith, tt))))))) k in
           shown ∙ rw (k, early)
       by false k =
           let o = each-off (redrawCauses (f .font) old (asked f r) (on f entry)) k in

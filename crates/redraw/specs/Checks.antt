@@ -11,7 +11,7 @@ use Rattle.redraw.specs.declared.step.StepResult.{StepResult}
 use Rattle.redraw.specs.declared.step.StepResult.the-variants.{Ok, Err}
 use Rattle.redraw.specs.Redraw.{redrawCauses}
 use Prim.Native.Nat.{ℕ}
-use Rattle.types.specs.declared.geometry.Point.{Point}
+use Rattle.definitions.specs.Vocabulary.{Point}
 
 -- where a text of the step begins
 abbrev pub originOf : List ℕ → List ℕ → Drawing → Point

@@ -2,9 +2,7 @@
 use mathlib.Core.Bool.{false}
 use mathlib.Core.List.{List}
 use Prim.Native.Nat.{ℕ}
-use Rattle.types.specs.declared.geometry.Point.{Point}
-use Rattle.types.specs.declared.geometry.RenderedDimensions.{RenderedDimensions}
-use Rattle.types.specs.declared.style.FontStyle.{FontStyle}
+use Rattle.definitions.specs.Vocabulary.{Point, RenderedDimensions, FontStyle}
 use Rattle.definitions.specs.Refusals.{Outcome}
 use Rattle.definitions.specs.Font.{u8g2}
 use Rattle.definitions.specs.Framebuffer.{sized}

@@ -6,12 +6,7 @@ use Prim.Native.Nat.{ℕ, _+_, _≤_}
 use native.Mathlib.Omega.{arith}
 use lib.ListN.{length, drop}
 use Rattle.integers.proofs.Choices.{impossible}
-use Rattle.types.specs.declared.font_reader.FontReader.{FontReader}
-use Rattle.types.specs.declared.framebuffer.Framebuffer.{Framebuffer}
-use Rattle.types.specs.declared.geometry.Point.{Point}
-use Rattle.types.specs.declared.geometry.RenderedDimensions.{RenderedDimensions}
-use Rattle.types.specs.declared.glyph_reader.GlyphReader.{GlyphReader}
-use Rattle.types.specs.declared.style.FontColor.{FontColor}
+use Rattle.definitions.specs.Vocabulary.{FontReader, Framebuffer, Point, RenderedDimensions, GlyphReader, FontColor}
 use Rattle.definitions.specs.Refusals.{Outcome, success, refused, Cause}
 use Rattle.definitions.specs.Header.{header, fontCauses, Opened}
 use Rattle.definitions.specs.Glyph.{glyph}

@@ -2,8 +2,7 @@
 use mathlib.Core.Path.{_≡_}
 use mathlib.Core.List.{List}
 use Prim.Native.Nat.{ℕ}
-use Rattle.types.specs.declared.font_reader.FontReader.{FontReader}
-use Rattle.types.specs.declared.glyph_reader.GlyphReader.{GlyphReader}
+use Rattle.definitions.specs.Vocabulary.{FontReader, GlyphReader}
 use Rattle.definitions.specs.Text.{Answer, shows}
 use Rattle.runs.specs.Stands.{CheckedGlyph}
 

@@ -9,8 +9,7 @@ use lib.ListN.{length, drop}
 use borrow.Author.Tests.{le-leb, lt-leb, eq-eqb, ne-eqb}
 use Rattle.integers.proofs.Choices.{impossible}
 use Rattle.integers.specs.Integers.{pick}
-use Rattle.types.specs.declared.font_reader.FontReader.{FontReader}
-use Rattle.types.specs.declared.glyph_reader.GlyphReader.{GlyphReader}
+use Rattle.definitions.specs.Vocabulary.{FontReader, GlyphReader}
 use Rattle.definitions.specs.Bits.{Read, got, ends, bits, readAt}
 use Rattle.definitions.specs.Runs.{Pixels, pixels, cut, prepend, unlessCut, runs, glyphPixels, pixelsAfter, pixelsFrom}
 use Rattle.definitions.specs.Refusals.{success, refused}

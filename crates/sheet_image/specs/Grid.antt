@@ -7,7 +7,7 @@ use lib.Dec.{eqb, ltb}
 use lib.IntN.{pos, natAbs, _-ℤ_}
 use lib.ListN.{length, getD, replicate}
 use Rattle.integers.specs.Integers.{pick}
-use Rattle.types.specs.declared.geometry.Rectangle.{Rectangle}
+use Rattle.definitions.specs.Vocabulary.{Rectangle}
 use Rattle.definitions.specs.Picture.{Paint, keep, put, Picture, covers}
 use Rattle.definitions.specs.Framebuffer.{shown}
 

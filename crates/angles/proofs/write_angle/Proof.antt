@@ -48,14 +48,5 @@ returns-3 c =
 pub write-angle-spec : {M : Type 1} → statement M
 write-angle-spec =
     tie.close
-    (tie.spec
-    (λ c κs. search needs)
-    put-tenths-requires
-    (λ c κs. search needs)
-    (λ c. search needs)
-    returns
-    (λ c κs. search needs)
-    (λ c. search needs)
-    returns-2
-    (λ c. search needs)
-    returns-3)
+    (tie.spec (λ c κs. search needs) put-tenths-requires (λ c κs. search needs) (λ c. search needs) returns (λ c κs. search needs)
+    (λ c. search needs) returns-2 (λ c. search needs) returns-3)

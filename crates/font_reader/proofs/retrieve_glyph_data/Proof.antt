@@ -3,7 +3,7 @@ use mathlib.Core.Path.{_≡_, sym, ap, _∙_}
 use mathlib.Core.List.{List}
 use Prim.Native.Nat.{ℕ, _*_}
 use borrow.Author.Needs.{needs}
-use Rattle.types.specs.declared.font_reader.FontReader.{FontReader}
+use Rattle.definitions.specs.Vocabulary.{FontReader}
 use Rattle.definitions.specs.Lookup.{Search, found, search as lookup}
 use Rattle.definitions.specs.Glyph.{fields, fromSearch, glyph}
 use Rattle.definitions.proofs.LookupLaws.{search-within}
@@ -49,12 +49,4 @@ returns-3 c =
 pub retrieve-glyph-data-spec : {M : Type 1} → statement M
 retrieve-glyph-data-spec =
     tie.close
-    (tie.spec
-    (λ c κs. search needs)
-    (λ c. search needs)
-    new-requires
-    enum-told
-    (λ c. search needs)
-    returns
-    returns-2
-    returns-3)
+    (tie.spec (λ c κs. search needs) (λ c. search needs) new-requires enum-told (λ c. search needs) returns returns-2 returns-3)

@@ -130,10 +130,12 @@ sub-write-line : tie.Need-sub-write-line
 sub-write-line c = ordered (c .before .before .before .before .before .before .before .before .before .before .before .before .pre) (clip (c .before .before .before .before .before)) (distances c)
 
 part-write-line-start : tie.Need-part-write-line-start
-part-write-line-start c = ordered (c .before .before .before .before .before .before .before .before .before .before .before .before .pre) (clip (c .before .before .before .before .before)) (distances c)
+part-write-line-start c = ordered (c .before .before .before .before .before .before .before .before .before .before .before .before .pre)
+    (clip (c .before .before .before .before .before)) (distances c)
 
 part-write-line-end : tie.Need-part-write-line-end
-part-write-line-end c = stop-in (c .before .before .before .before .before .before .before .before .before .before .before .before .pre) (clip (c .before .before .before .before .before)) (distances c)
+part-write-line-end c = stop-in (c .before .before .before .before .before .before .before .before .before .before .before .before .pre)
+    (clip (c .before .before .before .before .before)) (distances c)
 
 write-line-requires : tie.Need-write-line-requires
 write-line-requires c κs =
@@ -153,22 +155,6 @@ returns-3 c =
 pub draw-row-spec : {M : Type 1} → statement M
 draw-row-spec =
     tie.close
-    (tie.spec
-    (λ c κs. search needs)
-    (λ c. search needs)
-    add-min
-    (λ c. search needs)
-    (λ c κs. search needs)
-    (λ c. search needs)
-    returns
-    returns-2
-    distance-requires
-    distance-requires-2
-    distance-requires-3
-    distance-requires-4
-    sub-write-line
-    part-write-line-start
-    part-write-line-end
-    write-line-requires
-    (λ c. search needs)
-    returns-3)
+    (tie.spec (λ c κs. search needs) (λ c. search needs) add-min (λ c. search needs) (λ c κs. search needs) (λ c. search needs)
+    returns returns-2 distance-requires distance-requires-2 distance-requires-3 distance-requires-4 sub-write-line
+    part-write-line-start part-write-line-end write-line-requires (λ c. search needs) returns-3)

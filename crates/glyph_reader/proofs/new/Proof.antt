@@ -8,7 +8,7 @@ use mir.Syntax.{w8}
 use mir.Val.{SFits}
 use mir.Facts.{toZ-ofZ}
 use borrow.Author.Needs.{needs}
-use Rattle.types.specs.declared.glyph_reader.GlyphReader.{GlyphReader}
+use Rattle.definitions.specs.Vocabulary.{GlyphReader}
 use Rattle.definitions.specs.Refusals.{Outcome, success}
 use Rattle.definitions.specs.Glyph.{fields}
 use Rattle.glyph_reader.proofs.FieldLaws.{unsigned-step, unsigned-next, unsigned-stop, signed-step, signed-next, signed-stop, metrics, afterW, afterH, afterX, afterY}
@@ -148,26 +148,7 @@ returns-6 c =
 pub new-spec : {M : Type 1} → statement M
 new-spec =
     tie.close
-    (tie.spec
-    (λ c. search needs)
-    (λ c κs. search needs)
-    (λ c. search needs)
-    enum-told
-    returns
-    read-unsigned-requires-2
-    (λ c. search needs)
-    (λ c. search needs)
-    returns-2
-    read-signed-requires
-    (λ c. search needs)
-    (λ c. search needs)
-    returns-3
-    read-signed-requires-2
-    (λ c. search needs)
-    (λ c. search needs)
-    returns-4
-    read-signed-requires-3
-    (λ c. search needs)
-    (λ c. search needs)
-    returns-5
-    returns-6)
+    (tie.spec (λ c. search needs) (λ c κs. search needs) (λ c. search needs) enum-told returns read-unsigned-requires-2
+    (λ c. search needs) (λ c. search needs) returns-2 read-signed-requires (λ c. search needs) (λ c. search needs) returns-3
+    read-signed-requires-2 (λ c. search needs) (λ c. search needs) returns-4 read-signed-requires-3 (λ c. search needs)
+    (λ c. search needs) returns-5 returns-6)

@@ -6,8 +6,7 @@ use native.Mathlib.Omega.{arith}
 use lib.IntN.{ℤ}
 use mir.Facts.{toZ-ofZ}
 use borrow.Author.Needs.{needs}
-use Rattle.types.specs.declared.geometry.BoundingBox.{BoundingBox}
-use Rattle.types.specs.declared.geometry.Rectangle.{Rectangle}
+use Rattle.definitions.specs.Vocabulary.{BoundingBox, Rectangle}
 use Rattle.definitions.specs.Geometry.{top}
 use Rattle.definitions.specs.Font.{u8g2, pixelsOf}
 use Rattle.definitions.specs.Picture.{rectanglePicture, boxPicture}
@@ -27,7 +26,8 @@ enum-told c = search needs
 returns : tie.Need-returns
 returns c =
     let a = c .before .before .before .before .args in
-    sym (ap (λ (b : BoundingBox). shown (a .width) (boxPicture (a .color) (pixelsOf (u8g2 (a .font .now)) (a .glyph)) b) (a .buffer .now)) (c .enum-told .given .1) ∙ shown-blank (a .width) (a .buffer .now))
+    sym (ap (λ (b : BoundingBox). shown (a .width) (boxPicture (a .color) (pixelsOf (u8g2 (a .font .now)) (a .glyph)) b) (a .buffer .now))
+    (c .enum-told .given .1) ∙ shown-blank (a .width) (a .buffer .now))
 
 -- the box
 abbrev area : tie.After-struct-told → Rectangle
@@ -42,7 +42,8 @@ get-visible-rows-requires : tie.Need-get-visible-rows-requires
 get-visible-rows-requires c κs = let g = glyph-area c in (subst EndFits (sym (toZ-ofZ (near-fits (g .top)))) (g .top), c .before .before .before .before .before .before .before .pre .1 .1 .high)
 
 -- its visible rows
-rows-are : (c : tie.After-get-visible-rows) → c .get-visible-rows .result ≡ visibleRows (top (area (c .before))) (area (c .before) .size .height) (c .before .before .before .before .before .before .before .before .args .height)
+rows-are : (c : tie.After-get-visible-rows) → c .get-visible-rows .result
+    ≡ visibleRows (top (area (c .before))) (area (c .before) .size .height) (c .before .before .before .before .before .before .before .before .args .height)
 rows-are c =
     let g = glyph-area (c .before) in
     let a = c .before .before .before .before .before .before .before .before .args in
@@ -58,7 +59,8 @@ shows c =
     let s = c .before .before .before .before .before .before .before .before in
     let a = s .args in
     visible-rows (a .buffer .now) (s .pre .1 .1) (a .color) (pixelsOf (u8g2 (a .font .now)) (a .glyph)) (area (c .before)) (rows-are c)
-    ∙ ap (λ (b : BoundingBox). shown (a .width) (boxPicture (a .color) (pixelsOf (u8g2 (a .font .now)) (a .glyph)) b) (a .buffer .now)) (sym (c .before .before .before .before .bounding-box .given .1))
+    ∙ ap (λ (b : BoundingBox). shown (a .width) (boxPicture (a .color) (pixelsOf (u8g2 (a .font .now)) (a .glyph)) b) (a .buffer .now))
+    (sym (c .before .before .before .before .bounding-box .given .1))
 
 returns-2 : tie.Need-returns-2
 returns-2 c =
@@ -68,13 +70,20 @@ returns-2 c =
     sym (hidden-rows (a .buffer .now) (s .pre .1 .1) (a .color) (pixelsOf (u8g2 (a .font .now)) (a .glyph)) (area (q .before)) (rows-are q) (q .get-visible-rows .result .past) (omega arith)) ∙ shows q
 
 -- the first visible row lies in the glyph
-inside : (c : tie.Else1) → let g = c .before .before .before .before .before .before .before .before .before .before .args .glyph in c .before .before .get-visible-rows .result .past ≤ g .«glyph_height»
+inside : (c : tie.Else1) → let g = c .before .before .before .before .before .before .before .before .before .before .args .glyph in c .before .before
+    .get-visible-rows .result .past ≤ g .«glyph_height»
 inside c =
     let q = c .before .before in
     let g = glyph-area (q .before) in
-    omega (arith, visible-in (top (area (q .before))) (area (q .before) .size .height) (c .before .before .before .before .before .before .before .before .before .before .args .height) (rows-are q), g .height)
+    omega (
+      arith,
+      visible-in (top (area (q .before))) (area (q .before) .size .height)
+          (c .before .before .before .before .before .before .before .before .before .before .args .height) (rows-are q),
+      g .height,
+    )
 
-pixel : (c : tie.Else1) → let g = c .before .before .before .before .before .before .before .before .before .before .args .glyph in c .before .before .get-visible-rows .result .first * g .«glyph_width» < g .«glyph_width» * g .«glyph_height»
+pixel : (c : tie.Else1) → let g = c .before .before .before .before .before .before .before .before .before .before .args .glyph in c .before .before
+    .get-visible-rows .result .first * g .«glyph_width» < g .«glyph_width» * g .«glyph_height»
 pixel c =
     let g = c .before .before .before .before .before .before .before .before .before .before .args .glyph in
     first-pixel (c .before .before .get-visible-rows .result .first) (g .«glyph_width») (g .«glyph_height») (glyph-area (c .before .before .before) .wide) (omega (arith, inside c, c .if1 .left))
@@ -112,15 +121,5 @@ returns-3 c = c .before .before .draw-rows .ensures ∙ shows (c .before .before
 pub render-glyph-spec : {M : Type 1} → statement M
 render-glyph-spec =
     tie.close
-    (tie.spec
-    (λ c. search needs)
-    enum-told
-    returns
-    get-visible-rows-requires
-    returns-2
-    (λ c. search needs)
-    mul-seek
-    seek-requires
-    draw-rows-requires
-    (λ c. search needs)
-    returns-3)
+    (tie.spec (λ c. search needs) enum-told returns get-visible-rows-requires returns-2 (λ c. search needs) mul-seek seek-requires
+    draw-rows-requires (λ c. search needs) returns-3)

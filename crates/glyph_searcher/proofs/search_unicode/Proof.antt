@@ -39,14 +39,5 @@ returns-4 c =
 pub search-unicode-spec : {M : Type 1} → statement M
 search-unicode-spec =
     tie.close
-    (tie.spec
-    returns
-    (λ c κs. search needs)
-    (λ c. search needs)
-    enum-told
-    returns-2
-    (λ c. search needs)
-    returns-3
-    (λ c. search needs)
-    (λ c κs. search needs)
-    returns-4)
+    (tie.spec returns (λ c κs. search needs) (λ c. search needs) enum-told returns-2 (λ c. search needs) returns-3
+    (λ c. search needs) (λ c κs. search needs) returns-4)

@@ -21,13 +21,5 @@ returns-2 c =
 pub append-bounding-box-spec : {M : Type 1} → statement M
 append-bounding-box-spec =
     tie.close
-    (tie.spec
-    enum-told
-    (λ c. search needs)
-    (λ c κs. search needs)
-    (λ c. search needs)
-    (λ c κs. search needs)
-    (λ c. search needs)
-    returns
-    (λ c. search needs)
-    returns-2)
+    (tie.spec enum-told (λ c. search needs) (λ c κs. search needs) (λ c. search needs) (λ c κs. search needs) (λ c. search needs)
+    returns (λ c. search needs) returns-2)

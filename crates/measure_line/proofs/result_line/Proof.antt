@@ -13,10 +13,4 @@ returns-2 c = spelled-as (simp (c .before .before .before .result2 .given .1)) (
 pub result-line-spec : {M : Type 1} → statement M
 result-line-spec =
     tie.close
-    (tie.spec
-    (λ c. search needs)
-    (λ c κs. search needs)
-    (λ c. search needs)
-    (λ c κs. search needs)
-    returns
-    returns-2)
+    (tie.spec (λ c. search needs) (λ c κs. search needs) (λ c. search needs) (λ c κs. search needs) returns returns-2)

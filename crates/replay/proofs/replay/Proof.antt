@@ -24,34 +24,9 @@ same-length-7 c =
 pub replay-spec : {M : Type 1} → statement M
 replay-spec =
     tie.close
-    (tie.spec
-    (λ c κs. search needs)
-    (λ c. search needs)
-    (λ c. search needs)
-    (λ c κs. search needs)
-    (λ c. search needs)
-    (λ c. search needs)
-    (λ c. search needs)
-    (λ c κs. search needs)
-    (λ c. search needs)
-    (λ c. search needs)
-    (λ c. search needs)
-    (λ c. search needs)
-    (λ c. search needs)
-    slice-aggregate-text
-    (λ c κs. search needs)
-    (λ c. search needs)
-    (λ c κs. search needs)
-    (λ c. search needs)
-    slice-aggregate-answer
-    (λ c. search needs)
-    slice-aggregate-answer-2
-    (λ c κs. search needs)
-    (λ c. search needs)
-    (λ c κs. search needs)
-    (λ c. search needs)
-    same-length-7
-    (λ c. search needs)
-    (λ c. search needs)
-    (λ c. search needs)
-    (λ c. search needs))
+    (tie.spec (λ c κs. search needs) (λ c. search needs) (λ c. search needs) (λ c κs. search needs) (λ c. search needs)
+    (λ c. search needs) (λ c. search needs) (λ c κs. search needs) (λ c. search needs) (λ c. search needs) (λ c. search needs)
+    (λ c. search needs) (λ c. search needs) slice-aggregate-text (λ c κs. search needs) (λ c. search needs) (λ c κs. search needs)
+    (λ c. search needs) slice-aggregate-answer (λ c. search needs) slice-aggregate-answer-2 (λ c κs. search needs)
+    (λ c. search needs) (λ c κs. search needs) (λ c. search needs) same-length-7 (λ c. search needs) (λ c. search needs)
+    (λ c. search needs) (λ c. search needs))

@@ -88,25 +88,6 @@ returns-4 c =
 pub check-runs-spec : {M : Type 1} → statement M
 check-runs-spec =
     tie.close
-    (tie.spec
-    Inv-loop
-    μ-loop
-    (λ c. search needs)
-    (λ c. search needs)
-    mul-missing
-    returns
-    (λ c κs. search needs)
-    (λ c. search needs)
-    enum-told
-    returns-2
-    loop-holds
-    (λ c κs. search needs)
-    (λ c κs. search needs)
-    (λ c. search needs)
-    (λ c κs. search needs)
-    (λ c. search needs)
-    (λ c. search needs)
-    returns-3
-    loop-less
-    loop-again
-    returns-4)
+    (tie.spec Inv-loop μ-loop (λ c. search needs) (λ c. search needs) mul-missing returns (λ c κs. search needs)
+    (λ c. search needs) enum-told returns-2 loop-holds (λ c κs. search needs) (λ c κs. search needs) (λ c. search needs)
+    (λ c κs. search needs) (λ c. search needs) (λ c. search needs) returns-3 loop-less loop-again returns-4)

@@ -45,11 +45,4 @@ returns-3 c =
 pub next-pair-spec : {M : Type 1} → statement M
 next-pair-spec =
     tie.close
-    (tie.spec
-    (λ c κs. search needs)
-    (λ c. search needs)
-    enum-told
-    returns
-    returns-2
-    read-pair-requires
-    returns-3)
+    (tie.spec (λ c κs. search needs) (λ c. search needs) enum-told returns returns-2 read-pair-requires returns-3)

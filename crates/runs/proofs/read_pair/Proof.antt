@@ -43,13 +43,5 @@ returns-3 c =
 pub read-pair-spec : {M : Type 1} → statement M
 read-pair-spec =
     tie.close
-    (tie.spec
-    (λ c κs. search needs)
-    (λ c. search needs)
-    enum-told
-    returns
-    read-unsigned-requires-2
-    (λ c. search needs)
-    (λ c. search needs)
-    returns-2
-    returns-3)
+    (tie.spec (λ c κs. search needs) (λ c. search needs) enum-told returns read-unsigned-requires-2 (λ c. search needs)
+    (λ c. search needs) returns-2 returns-3)

@@ -39,7 +39,8 @@ next-pair-requires : tie.Need-next-pair-requires Inv-loop μ-loop
 next-pair-requires c κs = let s = standing (c .before .before .before) in search needs
 
 checked-requires-2 : tie.Need-checked-requires-2 Inv-loop μ-loop
-checked-requires-2 c κs = λ e. next-known (standing (c .before .before .before .before)) (omega arith) (c .before .before .before .before .before .before .before .before .pre .1) (sym (c .next-pair .ensures) ∙ e)
+checked-requires-2 c κs = λ e. next-known (standing (c .before .before .before .before)) (omega arith)
+    (c .before .before .before .before .before .before .before .before .pre .1) (sym (c .next-pair .ensures) ∙ e)
 
 loop-less : tie.Need-loop-less Inv-loop μ-loop
 loop-less c =
@@ -58,17 +59,5 @@ returns c = (standing (c .before .before), omega arith)
 pub seek-spec : {M : Type 1} → statement M
 seek-spec =
     tie.close
-    (tie.spec
-    Inv-loop
-    μ-loop
-    (λ c κs. search needs)
-    checked-requires
-    loop-holds
-    (λ c κs. search needs)
-    (λ c κs. search needs)
-    (λ c. search needs)
-    next-pair-requires
-    checked-requires-2
-    loop-less
-    loop-again
-    returns)
+    (tie.spec Inv-loop μ-loop (λ c κs. search needs) checked-requires loop-holds (λ c κs. search needs) (λ c κs. search needs)
+    (λ c. search needs) next-pair-requires checked-requires-2 loop-less loop-again returns)

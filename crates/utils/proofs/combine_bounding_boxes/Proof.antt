@@ -18,12 +18,5 @@ returns-3 c = simp (c .combine-rectangles .ensures, c .before .before .before .b
 pub combine-bounding-boxes-spec : {M : Type 1} → statement M
 combine-bounding-boxes-spec =
     tie.close
-    (tie.spec
-    (λ c. search needs)
-    (λ c. search needs)
-    (λ c. search needs)
-    (λ c. search needs)
-    (λ c. search needs)
-    returns-2
-    combine-rectangles-requires
-    returns-3)
+    (tie.spec (λ c. search needs) (λ c. search needs) (λ c. search needs) (λ c. search needs) (λ c. search needs) returns-2
+    combine-rectangles-requires returns-3)

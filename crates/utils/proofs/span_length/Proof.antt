@@ -54,13 +54,4 @@ returns c = simp (subtracted c, toZ-ofZ, fits (c .before .before))
 pub span-length-spec : {M : Type 1} → statement M
 span-length-spec =
     tie.close
-    (tie.spec
-    cast-max
-    add-max
-    cast-max-2
-    add-max-2
-    (λ c κs. search needs)
-    (λ c κs. search needs)
-    sub-result
-    cast-result
-    returns)
+    (tie.spec cast-max add-max cast-max-2 add-max-2 (λ c κs. search needs) (λ c κs. search needs) sub-result cast-result returns)

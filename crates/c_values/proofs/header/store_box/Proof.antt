@@ -24,21 +24,18 @@ returns c =
     let f1 : SFits w8 (c .before .before .before .before .before .before .before .before .args .head .«font_bounding_box_height») = search needs in
     let f2 : SFits w8 (c .before .before .before .before .before .before .before .before .args .head .«font_bounding_box_x_offset») = search needs in
     let f3 : SFits w8 (c .before .before .before .before .before .before .before .before .args .head .«font_bounding_box_y_offset») = search needs in
-    simp
-    (stored w64 (c .before .before .before .before .before .before .small .ok) (c .before .before .before .before .before .before .small .ensures), stored w64 (c .before .before .before .before .small2 .ok) (c .before .before .before .before .small2 .ensures), stored w64 (c .before .before .small3 .ok) (c .before .before .small3 .ensures), stored w64 (c .small4 .ok) (c .small4 .ensures))
+    simp (
+      stored w64 (c .before .before .before .before .before .before .small .ok) (c .before .before .before .before .before .before .small .ensures),
+      stored w64 (c .before .before .before .before .small2 .ok) (c .before .before .before .before .small2 .ensures),
+      stored w64
+          (c .before .before .small3 .ok) (c .before .before .small3 .ensures),
+      stored w64 (c .small4 .ok) (c .small4 .ensures),
+    )
     (simp (toZ-ofZ, f0, f1, f2, f3))
 
 pub store-box-spec : {M : Type 1} → statement M
 store-box-spec =
     tie.close
-    (tie.spec
-    (λ c κs. search needs)
-    (λ c κs. search needs)
-    (λ c κs. search needs)
-    (λ c κs. search needs)
-    (λ c. search needs)
-    slice-set-from-font-bounding-box-height
-    slice-set-from-font-bounding-box-x-offset
-    slice-set-from-font-bounding-box-y-offset
-    (λ c. search needs)
-    returns)
+    (tie.spec (λ c κs. search needs) (λ c κs. search needs) (λ c κs. search needs) (λ c κs. search needs) (λ c. search needs)
+    slice-set-from-font-bounding-box-height slice-set-from-font-bounding-box-x-offset slice-set-from-font-bounding-box-y-offset
+    (λ c. search needs) returns)

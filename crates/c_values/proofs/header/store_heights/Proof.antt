@@ -36,21 +36,17 @@ returns c =
     let f1 = descent-fits (c .before .before .before .before .before .before .before .before) in
     let f2 = ascent-of-parentheses-fits (c .before .before .before .before .before .before .before .before) in
     let f3 = descent-of-parentheses-fits (c .before .before .before .before .before .before .before .before) in
-    simp
-    (stored w64 (c .before .before .before .before .before .before .small .ok) (c .before .before .before .before .before .before .small .ensures), stored w64 (c .before .before .before .before .small2 .ok) (c .before .before .before .before .small2 .ensures), stored w64 (c .before .before .small3 .ok) (c .before .before .small3 .ensures), stored w64 (c .small4 .ok) (c .small4 .ensures))
+    simp (
+      stored w64 (c .before .before .before .before .before .before .small .ok) (c .before .before .before .before .before .before .small .ensures),
+      stored w64 (c .before .before .before .before .small2 .ok) (c .before .before .before .before .small2 .ensures),
+      stored w64
+          (c .before .before .small3 .ok) (c .before .before .small3 .ensures),
+      stored w64 (c .small4 .ok) (c .small4 .ensures),
+    )
     (simp (toZ-ofZ, f0, f1, f2, f3))
 
 pub store-heights-spec : {M : Type 1} → statement M
 store-heights-spec =
     tie.close
-    (tie.spec
-    (λ c κs. search needs)
-    (λ c κs. search needs)
-    (λ c κs. search needs)
-    (λ c κs. search needs)
-    (λ c. search needs)
-    slice-set-from-descent
-    slice-set-from-ascent-of-parentheses
-    slice-set-from-descent-of-parentheses
-    (λ c. search needs)
-    returns)
+    (tie.spec (λ c κs. search needs) (λ c κs. search needs) (λ c κs. search needs) (λ c κs. search needs) (λ c. search needs)
+    slice-set-from-descent slice-set-from-ascent-of-parentheses slice-set-from-descent-of-parentheses (λ c. search needs) returns)

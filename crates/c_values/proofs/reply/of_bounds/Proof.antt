@@ -18,7 +18,12 @@ returns-2 : tie.Need-returns-2
 returns-2 c =
     let a : SFits w32 (c .before .before .before .before .before .before .args .advance .x) = search needs in
     let b : SFits w32 (c .before .before .before .before .before .before .args .advance .y) = search needs in
-    simp (stored w64 (c .before .before .signed .ok) (c .before .before .signed .ensures), stored w64 (c .signed2 .ok) (c .signed2 .ensures), c .before .before .before .before .enum-told .given .1) (simp (toZ-ofZ, a, b))
+    simp (
+      stored w64 (c .before .before .signed .ok) (c .before .before .signed .ensures),
+      stored w64 (c .signed2 .ok) (c .signed2 .ensures),
+      c
+          .before .before .before .before .enum-told .given .1,
+    ) (simp (toZ-ofZ, a, b))
 
 pub of-bounds-spec : {M : Type 1} → statement M
 of-bounds-spec =

@@ -32,14 +32,5 @@ same-length c = simp length-set
 pub store-spec : {M : Type 1} → statement M
 store-spec =
     tie.close
-    (tie.spec
-    (λ c. search needs)
-    slice-set-from-x
-    slice-set-from-y
-    slice-set-from-boxed
-    slice-set-from-left
-    slice-set-from-top
-    slice-set-from-width
-    slice-set-from-height
-    same-length
-    (λ c. search needs))
+    (tie.spec (λ c. search needs) slice-set-from-x slice-set-from-y slice-set-from-boxed slice-set-from-left slice-set-from-top
+    slice-set-from-width slice-set-from-height same-length (λ c. search needs))

@@ -19,7 +19,8 @@ abbrev μ-loop : tie.MeasureT-loop
 
 -- the character that was read
 here : (c : tie.After-known-told Inv-loop μ-loop)
-    → Position (c .before .before .before .before .before .before .before .args .text .now) (c .before .before .before .before .before .loop .at) (c .before .next .given .0 .0) (c .before .next .given .0 .1 .0)
+    → Position (c .before .before .before .before .before .before .before .args .text .now) (c .before .before .before .before .before .loop .at)
+    (c .before .next .given .0 .0) (c .before .next .given .0 .1 .0)
 here c = position _ _ (sym (c .before .before .before .next-char .ensures) ∙ ap asCharacter (c .before .next .given .1))
 
 loop-holds : tie.Need-loop-holds Inv-loop μ-loop
@@ -50,15 +51,5 @@ returns-2 c =
 pub is-utf8-spec : {M : Type 1} → statement M
 is-utf8-spec =
     tie.close
-    (tie.spec
-    Inv-loop
-    μ-loop
-    loop-holds
-    (λ c κs. search needs)
-    (λ c. search needs)
-    enum-told
-    returns
-    add-at
-    loop-less
-    loop-again
+    (tie.spec Inv-loop μ-loop loop-holds (λ c κs. search needs) (λ c. search needs) enum-told returns add-at loop-less loop-again
     returns-2)

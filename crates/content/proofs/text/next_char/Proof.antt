@@ -13,9 +13,12 @@ use Rattle.content.proofs.text.next_char.Tie as tie
 
 -- what is known once the row is found
 known : (c : tie.After-row-of) {r : Row} {x : Character} → c .row-of .result ≡ r
-    → x ≡ sequence (asRow r) (getD (c .before .before .before .before .before .before .args .text .now) (c .before .before .before .before .before .before .args .at) 0) (c .before .before .before .byte-at .result) (c .before .before .byte-at2 .result) (c .before .byte-at3 .result)
+    → x ≡ sequence (asRow r)
+    (getD (c .before .before .before .before .before .before .args .text .now) (c .before .before .before .before .before .before .args .at) 0)
+    (c .before .before .before .byte-at .result) (c .before .before .byte-at2 .result) (c .before .byte-at3 .result)
     → x ≡ firstCharacter (drop (c .before .before .before .before .before .before .args .at) (c .before .before .before .before .before .before .args .text .now))
-known c e = first-by _ _ (c .before .before .before .before .before .before .pre .0) (sym (c .row-of .ensures) ∙ ap asRow e) (c .before .before .before .byte-at .ensures) (c .before .before .byte-at2 .ensures) (c .before .byte-at3 .ensures)
+known c e = first-by _ _ (c .before .before .before .before .before .before .pre .0) (sym (c .row-of .ensures) ∙ ap asRow e)
+    (c .before .before .before .byte-at .ensures) (c .before .before .byte-at2 .ensures) (c .before .byte-at3 .ensures)
 
 enum-told : tie.Need-enum-told
 enum-told c = search needs
@@ -41,26 +44,7 @@ returns-5 c = known (c .before .before) (c .enum-told2 .given .1) refl
 pub next-char-spec : {M : Type 1} → statement M
 next-char-spec =
     tie.close
-    (tie.spec
-    (λ c. search needs)
-    (λ c. search needs)
-    (λ c κs. search needs)
-    (λ c. search needs)
-    (λ c κs. search needs)
-    (λ c. search needs)
-    (λ c κs. search needs)
-    (λ c κs. search needs)
-    enum-told
-    cast-t18
-    (λ c. search needs)
-    (λ c κs. search needs)
-    (λ c. search needs)
-    (λ c κs. search needs)
-    (λ c. search needs)
-    (λ c κs. search needs)
-    (λ c. search needs)
-    returns
-    returns-2
-    returns-3
-    returns-4
-    returns-5)
+    (tie.spec (λ c. search needs) (λ c. search needs) (λ c κs. search needs) (λ c. search needs) (λ c κs. search needs)
+    (λ c. search needs) (λ c κs. search needs) (λ c κs. search needs) enum-told cast-t18 (λ c. search needs)
+    (λ c κs. search needs) (λ c. search needs) (λ c κs. search needs) (λ c. search needs) (λ c κs. search needs)
+    (λ c. search needs) returns returns-2 returns-3 returns-4 returns-5)

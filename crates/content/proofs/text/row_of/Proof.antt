@@ -42,15 +42,4 @@ returns-11 c = sym (row-none-F5 _ (omega arith))
 pub row-of-spec : {M : Type 1} → statement M
 row-of-spec =
     tie.close
-    (tie.spec
-    returns
-    returns-2
-    returns-3
-    returns-4
-    returns-5
-    returns-6
-    returns-7
-    returns-8
-    returns-9
-    returns-10
-    returns-11)
+    (tie.spec returns returns-2 returns-3 returns-4 returns-5 returns-6 returns-7 returns-8 returns-9 returns-10 returns-11)

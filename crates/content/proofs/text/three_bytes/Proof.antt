@@ -17,13 +17,5 @@ returns-3 c = simp (sym (c .before .before .before .is-between .ensures) ∙ not
 pub three-bytes-spec : {M : Type 1} → statement M
 three-bytes-spec =
     tie.close
-    (tie.spec
-    (λ c κs. search needs)
-    returns
-    (λ c κs. search needs)
-    returns-2
-    (λ c. search needs)
-    (λ c. search needs)
-    (λ c. search needs)
-    (λ c. search needs)
-    returns-3)
+    (tie.spec (λ c κs. search needs) returns (λ c κs. search needs) returns-2 (λ c. search needs) (λ c. search needs)
+    (λ c. search needs) (λ c. search needs) returns-3)

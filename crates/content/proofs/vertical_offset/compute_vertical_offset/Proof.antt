@@ -10,7 +10,7 @@ use mir.Syntax.{w8, w32}
 use mir.Val.{SFits, toZ, ofZ}
 use mir.Facts.{toZ-ofZ, toZ-pos}
 use borrow.Author.Needs.{needs}
-use Rattle.types.specs.declared.style.VerticalPosition.{VerticalPosition}
+use Rattle.definitions.specs.Vocabulary.{VerticalPosition}
 use Rattle.types.specs.declared.style.VerticalPosition.the-variants.{Top, Bottom}
 use Rattle.integers.proofs.Laws.{zarith, widens, widened}
 use Rattle.definitions.specs.VerticalOffset.{verticalOffset}
@@ -109,24 +109,6 @@ returns-4 c = let s = c .before .before in simp (c .enum-told4 .given .1, d-read
 pub compute-vertical-offset-spec : {M : Type 1} → statement M
 compute-vertical-offset-spec =
     tie.close
-    (tie.spec
-    cast-ascent
-    cast-descent
-    mul-total-newline-advance
-    cast-total-newline-advance
-    enum-told
-    (λ c. search needs)
-    add-result
-    (λ c. search needs)
-    add-result-2
-    sub-result
-    add-result-3
-    div-result
-    add-result-4
-    sub-result-2
-    (λ c. search needs)
-    sub-result-3
-    returns
-    returns-2
-    returns-3
-    returns-4)
+    (tie.spec cast-ascent cast-descent mul-total-newline-advance cast-total-newline-advance enum-told (λ c. search needs)
+    add-result (λ c. search needs) add-result-2 sub-result add-result-3 div-result add-result-4 sub-result-2 (λ c. search needs)
+    sub-result-3 returns returns-2 returns-3 returns-4)

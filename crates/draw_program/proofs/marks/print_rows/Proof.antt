@@ -25,17 +25,5 @@ part-print-row-end c = let s = c .before .before .before in omega (arith, row-wi
 pub print-rows-spec : {M : Type 1} → statement M
 print-rows-spec =
     tie.close
-    (tie.spec
-    Inv-loop
-    μ-loop
-    (λ c. search needs)
-    mul-start
-    add-end
-    (λ c. search needs)
-    (λ c. search needs)
-    part-print-row-end
-    (λ c κs. search needs)
-    (λ c. search needs)
-    (λ c. search needs)
-    (λ c. search needs)
-    (λ c. search needs))
+    (tie.spec Inv-loop μ-loop (λ c. search needs) mul-start add-end (λ c. search needs) (λ c. search needs) part-print-row-end
+    (λ c κs. search needs) (λ c. search needs) (λ c. search needs) (λ c. search needs) (λ c. search needs))

@@ -32,11 +32,4 @@ returns-3 c =
 pub with-word-spec : {M : Type 1} → statement M
 with-word-spec =
     tie.close
-    (tie.spec
-    (λ c. search needs)
-    (λ c κs. search needs)
-    returns
-    (λ c. search needs)
-    (λ c κs. search needs)
-    returns-2
-    returns-3)
+    (tie.spec (λ c. search needs) (λ c κs. search needs) returns (λ c. search needs) (λ c κs. search needs) returns-2 returns-3)

@@ -23,11 +23,5 @@ show-pixels-requires c κs =
 pub show-drawn-spec : {M : Type 1} → statement M
 show-drawn-spec =
     tie.close
-    (tie.spec
-    (λ c κs. search needs)
-    (λ c. search needs)
-    (λ c. search needs)
-    mul-n
-    slice-aggregate-show-pixels
-    show-pixels-requires
-    (λ c. search needs))
+    (tie.spec (λ c κs. search needs) (λ c. search needs) (λ c. search needs) mul-n slice-aggregate-show-pixels
+    show-pixels-requires (λ c. search needs))

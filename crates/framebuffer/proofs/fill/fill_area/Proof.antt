@@ -9,8 +9,7 @@ use borrow.Author.Needs.{needs}
 use lib.IntN.{pos}
 use lib.ListN.{length, take, getD, replicate, length-replicate, getD-replicate}
 use lib.Seq.{length-take-le, getD-take}
-use Rattle.types.specs.declared.geometry.BoundingBox.the-variants.{Some}
-use Rattle.types.specs.declared.style.FontColor.the-variants.{Transparent}
+use Rattle.definitions.specs.Vocabulary.{Some, Transparent}
 use Rattle.definitions.specs.Framebuffer.{shown}
 use Rattle.framebuffer.specs.Rows.{rowPicture, LineFits}
 use Rattle.framebuffer.specs.Areas.{area, AreaFits, fillPicture}
@@ -95,16 +94,5 @@ returns c =
 pub fill-area-spec : {M : Type 1} → statement M
 fill-area-spec =
     tie.close
-    (tie.spec
-    Inv-loop
-    μ-loop
-    (λ c. search needs)
-    loop-holds
-    (λ c. search needs)
-    slice-aggregate-write-line
-    write-line-requires
-    (λ c. search needs)
-    (λ c. search needs)
-    loop-again
-    (λ c. search needs)
-    returns)
+    (tie.spec Inv-loop μ-loop (λ c. search needs) loop-holds (λ c. search needs) slice-aggregate-write-line write-line-requires
+    (λ c. search needs) (λ c. search needs) loop-again (λ c. search needs) returns)

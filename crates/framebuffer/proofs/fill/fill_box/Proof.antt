@@ -1,7 +1,7 @@
 -- `fill_box` meets its contract: no box is the blank picture. Assumes nothing.
 use mathlib.Core.Path.{sym, ap, _∙_}
 use borrow.Author.Needs.{needs}
-use Rattle.types.specs.declared.geometry.BoundingBox.{BoundingBox}
+use Rattle.definitions.specs.Vocabulary.{BoundingBox}
 use Rattle.definitions.specs.Framebuffer.{shown}
 use Rattle.framebuffer.specs.Areas.{fillPicture}
 use Rattle.definitions.proofs.FramebufferLaws.{shown-blank}
@@ -25,10 +25,4 @@ returns-2 c =
 pub fill-box-spec : {M : Type 1} → statement M
 fill-box-spec =
     tie.close
-    (tie.spec
-    (λ c. search needs)
-    (λ c κs. search needs)
-    enum-told
-    (λ c. search needs)
-    returns
-    returns-2)
+    (tie.spec (λ c. search needs) (λ c κs. search needs) enum-told (λ c. search needs) returns returns-2)

@@ -56,11 +56,5 @@ returns c =
 pub fill-rectangle-spec : {M : Type 1} → statement M
 fill-rectangle-spec =
     tie.close
-    (tie.spec
-    (λ c κs. search needs)
-    (λ c κs. search needs)
-    (λ c κs. search needs)
-    (λ c κs. search needs)
-    fill-area-requires
-    (λ c. search needs)
-    returns)
+    (tie.spec (λ c κs. search needs) (λ c κs. search needs) (λ c κs. search needs) (λ c κs. search needs) fill-area-requires
+    (λ c. search needs) returns)

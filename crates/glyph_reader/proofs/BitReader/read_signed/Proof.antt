@@ -17,7 +17,8 @@ S c = c .before .before .before .before .before
 abbrev value : tie.After-known-told → ℕ
 value c = c .before .value .given .0 .0
 
-read : (c : tie.After-known-told) → (readAt (S c .args .font .now) (S c .args .self .«bit_pos») (S c .args .bits) ≡ got (value c)) × (c .before .value .given .0 .1 .0 .«bit_pos» ≡ S c .args .self .«bit_pos» + S c .args .bits)
+read : (c : tie.After-known-told) → (readAt (S c .args .font .now) (S c .args .self .«bit_pos») (S c .args .bits) ≡ got (value c))
+    × (c .before .value .given .0 .1 .0 .«bit_pos» ≡ S c .args .self .«bit_pos» + S c .args .bits)
 read c = unsigned-value _ _ (c .before .before .before .read-unsigned .ensures) (c .before .value .given .1)
 
 small : (c : tie.After-known-told) → value c < 2 ^ (S c .args .bits)
@@ -54,16 +55,5 @@ returns-2 c = simp (biased-is (S c .args .bits) (value c) (S c .pre .0) (small c
 pub read-signed-spec : {M : Type 1} → statement M
 read-signed-spec =
     tie.close
-    (tie.spec
-    (λ c κs. search needs)
-    (λ c. search needs)
-    enum-told
-    returns
-    (λ c. search needs)
-    (λ c. search needs)
-    (λ c. search needs)
-    (λ c. search needs)
-    cast-t11
-    sub-t12
-    cast-t13
-    returns-2)
+    (tie.spec (λ c κs. search needs) (λ c. search needs) enum-told returns (λ c. search needs) (λ c. search needs)
+    (λ c. search needs) (λ c. search needs) cast-t11 sub-t12 cast-t13 returns-2)

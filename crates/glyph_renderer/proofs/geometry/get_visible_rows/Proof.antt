@@ -45,12 +45,5 @@ returns c =
 pub get-visible-rows-spec : {M : Type 1} → statement M
 get-visible-rows-spec =
     tie.close
-    (tie.spec
-    cast-clamp
-    sub-clamp
-    (λ c κs. search needs)
-    (λ c. search needs)
-    cast-clamp-3
-    sub-clamp-2
-    (λ c κs. search needs)
+    (tie.spec cast-clamp sub-clamp (λ c κs. search needs) (λ c. search needs) cast-clamp-3 sub-clamp-2 (λ c κs. search needs)
     returns)

@@ -102,7 +102,8 @@ draw-row-requires c κs =
     (row-reach (start l .pre) (here l) (l .loop .inv .0) (same-size l) (cells-length x) (narrow (start l)))
 
 -- what the row's drawing left, whatever was drawn on
-row-drawn : (c : tie.After-draw-row Inv-loop μ-loop Inv-pairs μ-pairs) → let x = pixel c in let l = loop x in let a = start l .args in let o = l .before .before .before .pairs in let bits = set (l .loop .bits) (l .loop .column) (x .pixel .result) in
+row-drawn : (c : tie.After-draw-row Inv-loop μ-loop Inv-pairs μ-pairs)
+    → let x = pixel c in let l = loop x in let a = start l .args in let o = l .before .before .before .pairs in let bits = set (l .loop .bits) (l .loop .column) (x .pixel .result) in
     l .loop .column + 1 ≡ a .glyph .«glyph_width»
     → (old : List ℕ)
     → Drawn (a .font .now) (a .head) (a .glyph) (a .area) (a .color) (a .width) old (o .buffer) (o .bits) (o .runs) (o .offset) (o .column) (o .row)
@@ -155,34 +156,8 @@ returns-2 c =
 pub draw-rows-spec : {M : Type 1} → statement M
 draw-rows-spec =
     tie.close
-    (tie.spec
-    Inv-loop
-    μ-loop
-    Inv-pairs
-    μ-pairs
-    pairs-holds
-    loop-holds
-    (λ c κs. search needs)
-    (λ c κs. search needs)
-    array-write-bits
-    (λ c. search needs)
-    add-column
-    (λ c. search needs)
-    array-share-prefix-bits
-    slice-aggregate-draw-row
-    cast-draw-row
-    add-draw-row
-    draw-row-requires
-    (λ c. search needs)
-    (λ c. search needs)
-    loop-again
-    (λ c. search needs)
-    loop-again-2
-    (λ c κs. search needs)
-    checked-requires
-    pairs-less
-    pairs-again
-    (λ c. search needs)
-    returns
-    (λ c. search needs)
+    (tie.spec Inv-loop μ-loop Inv-pairs μ-pairs pairs-holds loop-holds (λ c κs. search needs) (λ c κs. search needs)
+    array-write-bits (λ c. search needs) add-column (λ c. search needs) array-share-prefix-bits slice-aggregate-draw-row
+    cast-draw-row add-draw-row draw-row-requires (λ c. search needs) (λ c. search needs) loop-again (λ c. search needs)
+    loop-again-2 (λ c κs. search needs) checked-requires pairs-less pairs-again (λ c. search needs) returns (λ c. search needs)
     returns-2)

@@ -40,15 +40,5 @@ returns-5 c =
 pub read-record16-spec : {M : Type 1} → statement M
 read-record16-spec =
     tie.close
-    (tie.spec
-    (λ c. search needs)
-    returns
-    (λ c κs. search needs)
-    returns-2
-    (λ c. search needs)
-    returns-3
-    returns-4
-    (λ c. search needs)
-    (λ c. search needs)
-    (λ c κs. search needs)
-    returns-5)
+    (tie.spec (λ c. search needs) returns (λ c κs. search needs) returns-2 (λ c. search needs) returns-3 returns-4
+    (λ c. search needs) (λ c. search needs) (λ c κs. search needs) returns-5)

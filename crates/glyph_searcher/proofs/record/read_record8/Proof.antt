@@ -26,13 +26,5 @@ returns-3 c =
 pub read-record8-spec : {M : Type 1} → statement M
 read-record8-spec =
     tie.close
-    (tie.spec
-    (λ c. search needs)
-    returns
-    (λ c. search needs)
-    cast-if2
-    returns-2
-    (λ c. search needs)
-    (λ c. search needs)
-    (λ c κs. search needs)
-    returns-3)
+    (tie.spec (λ c. search needs) returns (λ c. search needs) cast-if2 returns-2 (λ c. search needs) (λ c. search needs)
+    (λ c κs. search needs) returns-3)

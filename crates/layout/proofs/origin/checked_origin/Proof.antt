@@ -18,16 +18,19 @@ text-origin-requires c κs =
 returns-3 : tie.Need-returns-3
 returns-3 c =
     let f = c .before .before .before .before .before .before .fits in
-    simp
-    (sym (c .before .before .before .before .has-bad-text .ensures), c .before .before .if1 .left, sym (c .before .before .before .has-bad-position .ensures), c .before .if2 .left, c .text-origin .ensures, toZ-ofZ, f .ascent, f .descent)
+    simp (
+      sym (c .before .before .before .before .has-bad-text .ensures),
+      c .before .before .if1 .left,
+      sym
+          (c .before .before .before .has-bad-position .ensures),
+      c .before .if2 .left,
+      c .text-origin .ensures,
+      toZ-ofZ,
+      f .ascent,
+      f .descent,
+    )
 
 pub checked-origin-spec : {M : Type 1} → statement M
 checked-origin-spec =
     tie.close
-    (tie.spec
-    (λ c κs. search needs)
-    (λ c κs. search needs)
-    returns
-    returns-2
-    text-origin-requires
-    returns-3)
+    (tie.spec (λ c κs. search needs) (λ c κs. search needs) returns returns-2 text-origin-requires returns-3)

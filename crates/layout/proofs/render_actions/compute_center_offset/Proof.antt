@@ -7,7 +7,7 @@ use mir.Val.{SFits, toZ}
 use mir.Facts.{toZ-ofZ, toZ-pos}
 use borrow.Author.Needs.{needs}
 use Rattle.integers.proofs.Laws.{zarith, plus, neg}
-use Rattle.types.specs.declared.geometry.Rectangle.{Rectangle}
+use Rattle.definitions.specs.Vocabulary.{Rectangle}
 use Rattle.definitions.specs.Geometry.{left}
 use Rattle.layout.specs.Ranges.{LineSpan, LineRectangle}
 use Rattle.layout.proofs.RangeLaws.{negated}

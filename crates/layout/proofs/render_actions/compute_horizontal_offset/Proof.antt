@@ -6,8 +6,7 @@ use mir.Val.{SFits}
 use mir.Facts.{toZ-ofZ}
 use borrow.Author.Needs.{needs}
 use Rattle.integers.proofs.Laws.{zarith, minus, neg, stored}
-use Rattle.types.specs.declared.geometry.BoundingBox.{BoundingBox}
-use Rattle.types.specs.declared.geometry.BoundingBox.the-variants.{None, Some}
+use Rattle.definitions.specs.Vocabulary.{BoundingBox, None, Some}
 use Rattle.types.specs.declared.style.HorizontalAlignment.the-variants.{Center}
 use Rattle.definitions.specs.Text.{horizontalOffset}
 use Rattle.layout.specs.CharAnswers.{centerOffset}
@@ -56,13 +55,5 @@ returns-3 c =
 pub compute-horizontal-offset-spec : {M : Type 1} → statement M
 compute-horizontal-offset-spec =
     tie.close
-    (tie.spec
-    enum-told
-    (λ c. search needs)
-    (λ c κs. search needs)
-    (λ c. search needs)
-    sub-result
-    sub-result-2
-    returns
-    returns-2
+    (tie.spec enum-told (λ c. search needs) (λ c κs. search needs) (λ c. search needs) sub-result sub-result-2 returns returns-2
     returns-3)

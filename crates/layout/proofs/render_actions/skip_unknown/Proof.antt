@@ -9,7 +9,7 @@ use types.Run.{OneOf}
 use denote.Enum.Declared.{tagOf}
 use borrow.Author.Needs.{needs}
 use Rattle.integers.specs.Integers.{pick}
-use Rattle.types.specs.declared.error.Error.{Error}
+use Rattle.definitions.specs.Vocabulary.{Error}
 use Rattle.types.specs.declared.error.Error.the-variants.{FontLength, FontHeader, FramebufferSize, TextEncoding, PositionOrLineHeight, BackgroundColorNotSupported, GlyphNotFound, FontEnds}
 use Rattle.types.proofs.error.Error.{the-type}
 use Rattle.definitions.specs.Refusals.{number, codePoint, refusal}

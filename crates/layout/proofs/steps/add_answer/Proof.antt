@@ -18,11 +18,4 @@ returns-3 c = simp (c .before .answer2 .given .1)
 pub add-answer-spec : {M : Type 1} → statement M
 add-answer-spec =
     tie.close
-    (tie.spec
-    (λ c. search needs)
-    (λ c κs. search needs)
-    enum-told
-    (λ c. search needs)
-    returns
-    returns-2
-    returns-3)
+    (tie.spec (λ c. search needs) (λ c κs. search needs) enum-told (λ c. search needs) returns returns-2 returns-3)

@@ -24,8 +24,4 @@ returns c =
 pub add-glyph-spec : {M : Type 1} → statement M
 add-glyph-spec =
     tie.close
-    (tie.spec
-    (λ c κs. search needs)
-    (λ c κs. search needs)
-    combine-bounding-boxes-requires
-    returns)
+    (tie.spec (λ c κs. search needs) (λ c κs. search needs) combine-bounding-boxes-requires returns)

@@ -82,8 +82,4 @@ returns c = (box-is c, in-reach c)
 pub get-next-bounding-box-spec : {M : Type 1} → statement M
 get-next-bounding-box-spec =
     tie.close
-    (tie.spec
-    add-get-glyph-bounding-box
-    add-get-glyph-bounding-box-2
-    get-glyph-bounding-box-requires
-    returns)
+    (tie.spec add-get-glyph-bounding-box add-get-glyph-bounding-box-2 get-glyph-bounding-box-requires returns)

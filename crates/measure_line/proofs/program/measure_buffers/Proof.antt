@@ -15,8 +15,4 @@ returns c =
 pub measure-buffers-spec : {M : Type 1} → statement M
 measure-buffers-spec =
     tie.close
-    (tie.spec
-    (λ c. search needs)
-    (λ c. search needs)
-    (λ c κs. search needs)
-    returns)
+    (tie.spec (λ c. search needs) (λ c. search needs) (λ c κs. search needs) returns)

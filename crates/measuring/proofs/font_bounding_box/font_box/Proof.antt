@@ -7,8 +7,7 @@ use mir.Val.{SFits, toZ, ofZ}
 use mir.Facts.{toZ-ofZ}
 use borrow.Author.Needs.{needs}
 use Rattle.integers.proofs.Laws.{zarith, plus, stored, widens, widened}
-use Rattle.types.specs.declared.font_reader.FontReader.{FontReader}
-use Rattle.types.specs.declared.style.VerticalPosition.{VerticalPosition}
+use Rattle.definitions.specs.Vocabulary.{FontReader, VerticalPosition}
 use Rattle.definitions.specs.VerticalOffset.{verticalOffset}
 use Rattle.definitions.proofs.VerticalOffsetLaws.{offset-bounds}
 use Rattle.measuring.proofs.font_bounding_box.font_box.Statement.{statement}
@@ -73,10 +72,4 @@ returns c =
 pub font-box-spec : {M : Type 1} → statement M
 font-box-spec =
     tie.close
-    (tie.spec
-    (λ c κs. search needs)
-    cast-t4
-    box-top-requires
-    (λ c κs. search needs)
-    side-requires-2
-    returns)
+    (tie.spec (λ c κs. search needs) cast-t4 box-top-requires (λ c κs. search needs) side-requires-2 returns)

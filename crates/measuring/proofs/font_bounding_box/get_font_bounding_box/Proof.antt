@@ -1,7 +1,7 @@
 -- A font that opens has a box that is not negative; one that does not open is refused as opening is.
 use mathlib.Core.Path.{_≡_, sym, _∙_, ap}
 use borrow.Author.Needs.{needs}
-use Rattle.types.specs.declared.font_reader.FontReader.{FontReader}
+use Rattle.definitions.specs.Vocabulary.{FontReader}
 use Rattle.definitions.specs.Refusals.{success, number, codePoint}
 use Rattle.definitions.specs.Header.{Opened}
 use Rattle.definitions.specs.Calls.{openFont, fontBoundingBox, fontBox, fontReaderOutcome}

@@ -24,7 +24,8 @@ module _ (c : tie.After-add-answer) where
   abbrev entry : tie.Start
   entry = c .before .before .before .before .before
 
-  added : dimensionsOutcome (c .add-answer .result) ≡ answerStep (point (pos 0) (pos 0)) (entry .args .state .line) (measuredAnswer (u8g2 (entry .args .font .now)) (entry .args .ignore-unknown-chars) (entry .args .ch))
+  added : dimensionsOutcome (c .add-answer .result) ≡ answerStep (point (pos 0) (pos 0)) (entry .args .state .line)
+      (measuredAnswer (u8g2 (entry .args .font .now)) (entry .args .ignore-unknown-chars) (entry .args .ch))
   added = simp (c .before .before .try-retrieve-glyph-data .ensures) at (c .add-answer .ensures)
 
 returns-2 : tie.Need-returns-2
@@ -42,12 +43,5 @@ returns-3 c =
 pub add-char-spec : {M : Type 1} → statement M
 add-char-spec =
     tie.close
-    (tie.spec
-    (λ c κs. search needs)
-    returns
-    (λ c κs. search needs)
-    add-answer-requires
-    (λ c. search needs)
-    (λ c. search needs)
-    returns-2
-    returns-3)
+    (tie.spec (λ c κs. search needs) returns (λ c κs. search needs) add-answer-requires (λ c. search needs) (λ c. search needs)
+    returns-2 returns-3)

@@ -4,7 +4,7 @@ use mir.Syntax.{w8}
 use mir.Val.{SFits}
 use mir.Facts.{toZ-ofZ}
 use borrow.Author.Needs.{needs}
-use Rattle.types.specs.declared.font_reader.FontReader.{FontReader}
+use Rattle.definitions.specs.Vocabulary.{FontReader}
 use Rattle.definitions.specs.Refusals.{success, number, codePoint}
 use Rattle.definitions.specs.Calls.{openFont, Request, request, fontReaderOutcome}
 use Rattle.definitions.proofs.OpenedLaws.{opened, open-refused}
@@ -72,14 +72,5 @@ returns-3 c =
 pub aligned-dimensions-spec : {M : Type 1} → statement M
 aligned-dimensions-spec =
     tie.close
-    (tie.spec
-    (λ c κs. search needs)
-    (λ c. search needs)
-    (λ c. search needs)
-    (λ c κs. search needs)
-    (λ c. search needs)
-    (λ c. search needs)
-    measure-lines-requires
-    returns
-    returns-2
-    returns-3)
+    (tie.spec (λ c κs. search needs) (λ c. search needs) (λ c. search needs) (λ c κs. search needs) (λ c. search needs)
+    (λ c. search needs) measure-lines-requires returns returns-2 returns-3)

@@ -54,7 +54,8 @@ module _ (c : tie.After-move-box) where
   abbrev offset-known : tie.After-compute-horizontal-offset
   offset-known = c .before .before .before .before .before .before .before
 
-  line-is : c .move-box .result ≡ movedBox (entry offset-known .args .origin .x +ℤ offset (entry offset-known)) (entry offset-known .args .origin .y +ℤ entry offset-known .args .state .«advance_y») (entry offset-known .args .state .line .«bounding_box»)
+  line-is : c .move-box .result ≡ movedBox (entry offset-known .args .origin .x +ℤ offset (entry offset-known))
+      (entry offset-known .args .origin .y +ℤ entry offset-known .args .state .«advance_y») (entry offset-known .args .state .line .«bounding_box»)
   line-is =
       let s = entry offset-known in
       simp (toZ-ofZ, column-fits s, row-fits s) at (simp (offset-is offset-known, toZ-ofZ, origin-x s, origin-y s, advance-y s) at (c .move-box .ensures))
@@ -80,7 +81,8 @@ combine-bounding-boxes-requires : tie.Need-combine-bounding-boxes-requires
 combine-bounding-boxes-requires c κs =
     let s = entry (offset-known c) in
     let ended : InReach (s .args .state .«bounding_box») = s .pre .box in
-    let line : InReach (c .move-box .result) = subst InReach (sym (line-is c)) (moved-in-reach (s .args .state .line .«bounding_box») (column-near (s .pre) (s .args .horizontal-align)) (s .pre .row) (s .pre .line)) in
+    let line : InReach (c .move-box .result) = subst InReach (sym (line-is c))
+    (moved-in-reach (s .args .state .line .«bounding_box») (column-near (s .pre) (s .args .horizontal-align)) (s .pre .row) (s .pre .line)) in
     search needs
 
 returns : tie.Need-returns
@@ -89,10 +91,5 @@ returns c = simp (c .combine-bounding-boxes .ensures, line-is (c .before))
 pub end-line-spec : {M : Type 1} → statement M
 end-line-spec =
     tie.close
-    (tie.spec
-    compute-horizontal-offset-requires
-    add-move-box
-    add-move-box-2
-    move-box-requires
-    combine-bounding-boxes-requires
+    (tie.spec compute-horizontal-offset-requires add-move-box add-move-box-2 move-box-requires combine-bounding-boxes-requires
     returns)

@@ -92,21 +92,5 @@ returns-3 c =
 pub measure-lines-spec : {M : Type 1} → statement M
 measure-lines-spec =
     tie.close
-    (tie.spec
-    Inv-loop
-    μ-loop
-    (λ c κs. search needs)
-    loop-holds
-    (λ c κs. search needs)
-    (λ c. search needs)
-    enum-told
-    returns
-    add-char-requires
-    (λ c. search needs)
-    returns-2
-    (λ c. search needs)
-    add-at
-    loop-less
-    loop-again
-    end-text-requires
-    returns-3)
+    (tie.spec Inv-loop μ-loop (λ c κs. search needs) loop-holds (λ c κs. search needs) (λ c. search needs) enum-told returns
+    add-char-requires (λ c. search needs) returns-2 (λ c. search needs) add-at loop-less loop-again end-text-requires returns-3)

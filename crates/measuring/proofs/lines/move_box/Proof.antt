@@ -1,7 +1,7 @@
 -- The sums of a near number and an edge of a line's box fit.
 use mir.Facts.{toZ-ofZ}
 use borrow.Author.Needs.{needs}
-use Rattle.types.specs.declared.geometry.Rectangle.{Rectangle}
+use Rattle.definitions.specs.Vocabulary.{Rectangle}
 use Rattle.layout.specs.Ranges.{LineRectangle}
 use Rattle.measuring.proofs.LinesLaws.{start-fits, moved-fits}
 use Rattle.measuring.proofs.lines.move_box.Statement.{statement}

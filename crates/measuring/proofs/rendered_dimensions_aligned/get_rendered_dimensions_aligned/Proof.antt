@@ -1,7 +1,7 @@
 -- The answer is the box of the aligned text's dimensions.
 use mathlib.Core.Path.{_≡_, sym, ap, _∙_}
 use borrow.Author.Needs.{needs}
-use Rattle.types.specs.declared.geometry.BoundingBox.{BoundingBox}
+use Rattle.definitions.specs.Vocabulary.{BoundingBox}
 use Rattle.types.specs.declared.results.DimensionsResult.{DimensionsResult}
 use Rattle.definitions.specs.Refusals.{Outcome}
 use Rattle.definitions.specs.Font.{u8g2}
@@ -37,9 +37,4 @@ returns-2 c = sym (ap box (c .before .measured2 .given .1)) ∙ box-is (c .befor
 pub get-rendered-dimensions-aligned-spec : {M : Type 1} → statement M
 get-rendered-dimensions-aligned-spec =
     tie.close
-    (tie.spec
-    (λ c κs. search needs)
-    (λ c. search needs)
-    (λ c. search needs)
-    returns
-    returns-2)
+    (tie.spec (λ c κs. search needs) (λ c. search needs) (λ c. search needs) returns returns-2)

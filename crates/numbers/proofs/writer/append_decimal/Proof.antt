@@ -22,10 +22,4 @@ returns c =
 pub append-decimal-spec : {M : Type 1} → statement M
 append-decimal-spec =
     tie.close
-    (tie.spec
-    (λ c κs. search needs)
-    (λ c. search needs)
-    (λ c. search needs)
-    append-requires
-    (λ c. search needs)
-    returns)
+    (tie.spec (λ c κs. search needs) (λ c. search needs) (λ c. search needs) append-requires (λ c. search needs) returns)

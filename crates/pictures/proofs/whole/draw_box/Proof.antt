@@ -57,18 +57,6 @@ returns-4 c =
 pub draw-box-spec : {M : Type 1} → statement M
 draw-box-spec =
     tie.close
-    (tie.spec
-    (λ c. search needs)
-    (λ c. search needs)
-    returns
-    returns-2
-    mul-n
-    slice-relend-prefix-draw-at-corner
-    slice-aggregate-draw-at-corner
-    draw-at-corner-requires
-    (λ c. search needs)
-    (λ c. search needs)
-    (λ c. search needs)
-    returns-3
-    (λ c. search needs)
-    returns-4)
+    (tie.spec (λ c. search needs) (λ c. search needs) returns returns-2 mul-n slice-relend-prefix-draw-at-corner
+    slice-aggregate-draw-at-corner draw-at-corner-requires (λ c. search needs) (λ c. search needs) (λ c. search needs) returns-3
+    (λ c. search needs) returns-4)

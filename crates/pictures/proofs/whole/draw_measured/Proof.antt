@@ -31,14 +31,5 @@ returns-3 c = c .before .before .draw-box .ensures
 pub draw-measured-spec : {M : Type 1} → statement M
 draw-measured-spec =
     tie.close
-    (tie.spec
-    (λ c κs. search needs)
-    (λ c. search needs)
-    (λ c. search needs)
-    enum-told
-    (λ c. search needs)
-    draw-box-requires
-    returns
-    returns-2
-    (λ c. search needs)
-    returns-3)
+    (tie.spec (λ c κs. search needs) (λ c. search needs) (λ c. search needs) enum-told (λ c. search needs) draw-box-requires
+    returns returns-2 (λ c. search needs) returns-3)

@@ -37,11 +37,5 @@ returns-2 c =
 pub draw-text-spec : {M : Type 1} → statement M
 draw-text-spec =
     tie.close
-    (tie.spec
-    (λ c κs. search needs)
-    (λ c. search needs)
-    (λ c. search needs)
-    draw-measured-requires
-    returns
-    (λ c. search needs)
+    (tie.spec (λ c κs. search needs) (λ c. search needs) (λ c. search needs) draw-measured-requires returns (λ c. search needs)
     returns-2)

@@ -39,16 +39,5 @@ returns c = let l = c .before .loop in (l .inv .within, written-all (l .left) (l
 pub write-digits-spec : {M : Type 1} → statement M
 write-digits-spec =
     tie.close
-    (tie.spec
-    Inv-loop
-    μ-loop
-    (λ c κs. search needs)
-    loop-holds
-    (λ c. search needs)
-    sub-start
-    (λ c κs. search needs)
-    slice-write-out
-    (λ c. search needs)
-    loop-again
-    same-length
-    returns)
+    (tie.spec Inv-loop μ-loop (λ c κs. search needs) loop-holds (λ c. search needs) sub-start (λ c κs. search needs)
+    slice-write-out (λ c. search needs) loop-again same-length returns)

@@ -2,7 +2,7 @@
 use mathlib.Core.Path.{sym, ap, _∙_}
 use mathlib.Core.List.{List}
 use Prim.Native.Nat.{ℕ}
-use Rattle.types.specs.declared.geometry.BoundingBox.{BoundingBox}
+use Rattle.definitions.specs.Vocabulary.{BoundingBox}
 use Rattle.definitions.specs.Framebuffer.{shown}
 use Rattle.definitions.specs.Calls.{dimensionsOutcome}
 use Rattle.framebuffer.specs.Areas.{fillPicture}
@@ -19,7 +19,8 @@ returns c = let e = sym (c .before .before .get-drawn-dimensions .ensures) ∙ a
 returns-2 : tie.Need-returns-2
 returns-2 c =
     let a = c .before .before .before .before .before .before .before .before .before .before .before .before .args in
-    let e = sym (c .before .before .before .before .before .before .before .before .get-drawn-dimensions .ensures) ∙ ap dimensionsOutcome (c .before .before .before .before .before .before .drawn .given .1) in
+    let e = sym (c .before .before .before .before .before .before .before .before .get-drawn-dimensions .ensures)
+    ∙ ap dimensionsOutcome (c .before .before .before .before .before .before .drawn .given .1) in
     let filled : BoundingBox → List ℕ = λ b. shown (a .place .width) (fillPicture (a .place .background) b) (a .screen .now) in
     rw e (c .before .before .fill-box .ensures ∙ ap filled (c .before .before .before .before .narrowed .ensures))
 

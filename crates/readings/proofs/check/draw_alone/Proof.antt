@@ -25,7 +25,8 @@ returns-2 c =
     let s = c .before .before .before .before .before .before .before .before .before .before .before .before .before .before .before .before .before .before .before .before in
     let a = s .args in
     let r = c .before .before .before .before .before .before .before .before .render .ensures in
-    let copied = c .before .before .before .before .before .before .before .before .before .before .before .before .before .before .copy .ensures .1 ∙ whole (a .ground .now) (a .alone .now) (s .pre) in
+    let copied = c .before .before .before .before .before .before .before .before .before .before .before .before .before .before .copy .ensures .1
+    ∙ whole (a .ground .now) (a .alone .now) (s .pre) in
     c .before .before .copy2 .ensures .1
     ∙ whole (a .ground .now) _ (search needs)
     ∙ refused-alone (a .font .now) (asked (a .place) (a .text .now)) (framebuffer (a .place) (a .ground .now)) copied (r .0)

@@ -3,7 +3,7 @@ use mathlib.Core.Path.{ap, _∙_}
 use mathlib.Core.List.{List}
 use Prim.Native.Nat.{ℕ}
 use Rattle.integers.specs.Integers.{pick}
-use Rattle.types.specs.declared.geometry.RenderedDimensions.{RenderedDimensions}
+use Rattle.definitions.specs.Vocabulary.{RenderedDimensions}
 use Rattle.definitions.specs.Refusals.{Outcome}
 use Rattle.buffers.specs.Differences.{differences}
 use Rattle.redraw.specs.Redraw.{taken}

@@ -19,11 +19,4 @@ returns-2 c =
 pub clear-reading-spec : {M : Type 1} → statement M
 clear-reading-spec =
     tie.close
-    (tie.spec
-    (λ c κs. search needs)
-    (λ c. search needs)
-    enum-told
-    returns
-    (λ c κs. search needs)
-    (λ c. search needs)
-    returns-2)
+    (tie.spec (λ c κs. search needs) (λ c. search needs) enum-told returns (λ c κs. search needs) (λ c. search needs) returns-2)

@@ -23,11 +23,4 @@ returns-2 c =
 pub draw-reading-spec : {M : Type 1} → statement M
 draw-reading-spec =
     tie.close
-    (tie.spec
-    (λ c κs. search needs)
-    enum-told
-    (λ c. search needs)
-    returns
-    (λ c κs. search needs)
-    (λ c. search needs)
-    returns-2)
+    (tie.spec (λ c κs. search needs) enum-told (λ c. search needs) returns (λ c κs. search needs) (λ c. search needs) returns-2)

@@ -82,13 +82,5 @@ returns-2 c =
 pub redraw-spec : {M : Type 1} → statement M
 redraw-spec =
     tie.close
-    (tie.spec
-    (λ c κs. search needs)
-    (λ c. search needs)
-    (λ c. search needs)
-    clear-reading-requires
-    draw-reading-requires
-    (λ c. search needs)
-    returns
-    (λ c. search needs)
-    returns-2)
+    (tie.spec (λ c κs. search needs) (λ c. search needs) (λ c. search needs) clear-reading-requires draw-reading-requires
+    (λ c. search needs) returns (λ c. search needs) returns-2)

@@ -5,8 +5,7 @@ use mir.Syntax.{w8}
 use mir.Val.{SFits}
 use mir.Facts.{toZ-ofZ}
 use borrow.Author.Needs.{needs}
-use Rattle.types.specs.declared.font_reader.FontReader.{FontReader}
-use Rattle.types.specs.declared.geometry.Point.{Point}
+use Rattle.definitions.specs.Vocabulary.{FontReader, Point}
 use Rattle.definitions.specs.Refusals.{success}
 use Rattle.definitions.specs.Font.{u8g2}
 use Rattle.definitions.specs.Framebuffer.{sized, framebufferCause}
@@ -63,13 +62,15 @@ module _ (c : tie.After-known-told4) where
   abbrev old-known : tie.Else2
   old-known = c .before .before .before .before .before .before
 
-  passes : let k = font-known old-known in let a = entry k .args in checkedOrigin (head k .ascent) (head k .descent) (a .new-text .now) (a .position) (a .style .«vertical_pos») (a .line-height) ≡ success (c .before .new-origin .given .0 .0)
+  passes : let k = font-known old-known in let a = entry k .args in checkedOrigin (head k .ascent) (head k .descent) (a .new-text .now) (a .position)
+      (a .style .«vertical_pos») (a .line-height) ≡ success (c .before .new-origin .given .0 .0)
   passes =
       let k = font-known old-known in
       sym (simp (toZ-ofZ, ascent-fits k, descent-fits k) at (c .before .before .before .checked-origin .ensures)) ∙ ap originOutcome (c .before .new-origin .given .1)
 
   -- the answer to the colour is the cause's
-  color-tested : let k = font-known old-known in let a = entry k .args in backgroundCause (a .style .color) (u8g2 (a .font .now) .background) .applies ≡ backgroundOff (a .style .color) (head k .«supports_background_color»)
+  color-tested : let k = font-known old-known in let a = entry k .args in backgroundCause (a .style .color) (u8g2 (a .font .now) .background) .applies
+      ≡ backgroundOff (a .style .color) (head k .«supports_background_color»)
   color-tested = let k = font-known old-known in sym (color-is (opened _ (head k) (opens k)) (entry k .args .style .color))
 
 returns : tie.Need-returns
@@ -129,20 +130,6 @@ returns-6 c =
 pub check-step-spec : {M : Type 1} → statement M
 check-step-spec =
     tie.close
-    (tie.spec
-    (λ c κs. search needs)
-    (λ c. search needs)
-    (λ c. search needs)
-    (λ c κs. search needs)
-    returns
-    (λ c κs. search needs)
-    returns-2
-    (λ c κs. search needs)
-    (λ c. search needs)
-    (λ c. search needs)
-    (λ c κs. search needs)
-    returns-3
-    text-origin-requires
-    returns-4
-    returns-5
-    returns-6)
+    (tie.spec (λ c κs. search needs) (λ c. search needs) (λ c. search needs) (λ c κs. search needs) returns (λ c κs. search needs)
+    returns-2 (λ c κs. search needs) (λ c. search needs) (λ c. search needs) (λ c κs. search needs) returns-3 text-origin-requires
+    returns-4 returns-5 returns-6)

@@ -76,19 +76,5 @@ returns-3 c = sym (measured-end (c .before .before .before .before .pre .1) (c .
 pub get-drawn-dimensions-spec : {M : Type 1} → statement M
 get-drawn-dimensions-spec =
     tie.close
-    (tie.spec
-    Inv-loop
-    μ-loop
-    loop-holds
-    (λ c κs. search needs)
-    (λ c. search needs)
-    enum-told
-    returns
-    add-char-requires
-    (λ c. search needs)
-    (λ c. search needs)
-    returns-2
-    add-at
-    loop-less
-    loop-again
-    returns-3)
+    (tie.spec Inv-loop μ-loop loop-holds (λ c κs. search needs) (λ c. search needs) enum-told returns add-char-requires
+    (λ c. search needs) (λ c. search needs) returns-2 add-at loop-less loop-again returns-3)

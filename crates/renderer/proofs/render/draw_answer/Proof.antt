@@ -37,13 +37,5 @@ returns-3 c = simp (c .enum-told2 .given .1)
 pub draw-answer-spec : {M : Type 1} → statement M
 draw-answer-spec =
     tie.close
-    (tie.spec
-    (λ c. search needs)
-    (λ c κs. search needs)
-    render-glyph-requires
-    enum-told
-    (λ c. search needs)
-    (λ c. search needs)
-    returns
-    returns-2
-    returns-3)
+    (tie.spec (λ c. search needs) (λ c κs. search needs) render-glyph-requires enum-told (λ c. search needs) (λ c. search needs)
+    returns returns-2 returns-3)

@@ -25,11 +25,5 @@ returns-2 c =
 pub draw-char-spec : {M : Type 1} → statement M
 draw-char-spec =
     tie.close
-    (tie.spec
-    (λ c κs. search needs)
-    returns
-    (λ c κs. search needs)
-    draw-answer-requires
-    (λ c κs. search needs)
-    (λ c. search needs)
-    returns-2)
+    (tie.spec (λ c κs. search needs) returns (λ c κs. search needs) draw-answer-requires (λ c κs. search needs)
+    (λ c. search needs) returns-2)

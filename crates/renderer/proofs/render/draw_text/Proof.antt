@@ -30,7 +30,9 @@ first : (c : tie.After-known-told Inv-loop μ-loop)
 first c = sym (c .before .before .before .next-char .ensures) ∙ ap asCharacter (c .before .next .given .1)
 
 here : (c : tie.After-known-told2 Inv-loop μ-loop)
-    → Position (c .before .before .before .before .before .before .before .before .before .before .before .before .before .before .before .before .args .text .now) (c .before .before .before .before .before .before .before .before .before .before .before .before .loop .at) (c .before .before .before .before .before .before .before .before .next .given .0 .0) (c .before .before .before .before .before .before .before .before .next .given .0 .1 .0)
+    → Position (c .before .before .before .before .before .before .before .before .before .before .before .before .before .before .before .before
+    .args .text .now) (c .before .before .before .before .before .before .before .before .before .before .before .before .loop .at)
+    (c .before .before .before .before .before .before .before .before .next .given .0 .0) (c .before .before .before .before .before .before .before .before .next .given .0 .1 .0)
 here c = position _ _ (first (c .before .before .before .before .before .before .before))
 
 loop-holds : tie.Need-loop-holds Inv-loop μ-loop
@@ -45,13 +47,19 @@ same-length c = c .before .before .before .before .loop .inv .kept
 returns : tie.Need-returns Inv-loop μ-loop
 returns c =
     let l = c .before .before .before .before .loop in
-    absurd (none-malformed _ (l .at) (c .before .before .before .loop-test .taken) (l .inv .reached .reached .decoded) (sym (c .before .before .next-char .ensures) ∙ ap asCharacter (c .enum-told .given .1)))
+    absurd (none-malformed _ (l .at) (c .before .before .before .loop-test .taken) (l .inv .reached .reached .decoded)
+    (sym (c .before .before .next-char .ensures) ∙ ap asCharacter (c .enum-told .given .1)))
 
 draw-char-requires : tie.Need-draw-char-requires Inv-loop μ-loop
 draw-char-requires c κs =
     let l = c .before .before .before .before .before .before in
-    let s = c .before .before .before .before .before .before .before .before .before .before in
-    (s .pre .0, (measured-room (s .pre .1 .0) (l .loop .inv .reached), (s .pre .1 .0 .line, subst (λ (n : ℕ). BufferFits n (s .args .width) (s .args .height)) (sym (l .loop .inv .kept)) (s .pre .1 .1))))
+    let s = c .before .before .before .before .before .before .before .before .before .before in (
+      s .pre .0,
+      (
+        measured-room (s .pre .1 .0) (l .loop .inv .reached),
+        (s .pre .1 .0 .line, subst (λ (n : ℕ). BufferFits n (s .args .width) (s .args .height)) (sym (l .loop .inv .kept)) (s .pre .1 .1)),
+      ),
+    )
 
 same-length-2 : tie.Need-same-length-2 Inv-loop μ-loop
 same-length-2 c = c .before .before .before .buffer .given ∙ c .before .before .before .before .before .before .before .before .before .before .before .loop .inv .kept
@@ -95,22 +103,6 @@ returns-3 c =
 pub draw-text-spec : {M : Type 1} → statement M
 draw-text-spec =
     tie.close
-    (tie.spec
-    Inv-loop
-    μ-loop
-    loop-holds
-    (λ c κs. search needs)
-    (λ c. search needs)
-    enum-told
-    same-length
-    returns
-    draw-char-requires
-    (λ c. search needs)
-    (λ c. search needs)
-    same-length-2
-    returns-2
-    add-at
-    loop-less
-    loop-again
-    same-length-3
+    (tie.spec Inv-loop μ-loop loop-holds (λ c κs. search needs) (λ c. search needs) enum-told same-length returns
+    draw-char-requires (λ c. search needs) (λ c. search needs) same-length-2 returns-2 add-at loop-less loop-again same-length-3
     returns-3)

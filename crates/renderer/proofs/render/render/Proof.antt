@@ -5,7 +5,7 @@ use mir.Syntax.{w8}
 use mir.Val.{SFits}
 use mir.Facts.{toZ-ofZ}
 use borrow.Author.Needs.{needs}
-use Rattle.types.specs.declared.font_reader.FontReader.{FontReader}
+use Rattle.definitions.specs.Vocabulary.{FontReader}
 use Rattle.definitions.specs.Refusals.{success}
 use Rattle.definitions.specs.Font.{u8g2}
 use Rattle.definitions.specs.Framebuffer.{sized, framebufferCause}
@@ -57,7 +57,8 @@ module _ (c : tie.After-known-told4) where
   passes = sym (simp (toZ-ofZ, ascent-fits font-known, descent-fits font-known) at (c .before .before .before .checked-origin .ensures)) ∙ ap originOutcome (c .before .origin .given .1)
 
   -- the answer to the colour is the cause's
-  color-tested : let a = entry font-known .args in backgroundCause (a .style .color) (u8g2 (a .font .now) .background) .applies ≡ backgroundOff (a .style .color) (head font-known .«supports_background_color»)
+  color-tested : let a = entry font-known .args in backgroundCause (a .style .color) (u8g2 (a .font .now) .background) .applies
+      ≡ backgroundOff (a .style .color) (head font-known .«supports_background_color»)
   color-tested = sym (color-is (opened _ (head font-known) (opens font-known)) (entry font-known .args .style .color))
 
 returns : tie.Need-returns
@@ -86,39 +87,29 @@ draw-text-requires c κs =
 returns-3 : tie.Need-returns-3
 returns-3 c =
     let a = c .before .before .before .before .before .before .before .args in
-    font-refused (a .font .now) (plain (a .text .now) (a .position) (a .style .«vertical_pos») (a .line-height) (a .ignore-unknown-chars)) (a .style .color) (sized (a .width) (a .height)) (a .buffer .now) (sym (c .before .before .before .new-from-raw-data .ensures) ∙ ap fontReaderOutcome (c .before .error .given .1))
+    font-refused (a .font .now) (plain (a .text .now) (a .position) (a .style .«vertical_pos») (a .line-height) (a .ignore-unknown-chars))
+    (a .style .color) (sized (a .width) (a .height)) (a .buffer .now) (sym (c .before .before .before .new-from-raw-data .ensures) ∙ ap fontReaderOutcome (c .before .error .given .1))
 
 returns-4 : tie.Need-returns-4
 returns-4 c =
     let e = c .before .before .before .before .before .before in
     let k = e .before .before in
     let a = entry k .args in
-    position-refused (a .font .now) (asked k) (a .style .color) (sized (a .width) (a .height)) (a .buffer .now) (opens k) (size-in e) (sym (simp (toZ-ofZ, ascent-fits k, descent-fits k) at (c .before .before .before .checked-origin .ensures)) ∙ ap originOutcome (c .before .error2 .given .1))
+    position-refused (a .font .now) (asked k) (a .style .color) (sized (a .width) (a .height)) (a .buffer .now) (opens k) (size-in e)
+    (sym (simp (toZ-ofZ, ascent-fits k, descent-fits k) at (c .before .before .before .checked-origin .ensures)) ∙ ap originOutcome (c .before .error2 .given .1))
 
 returns-5 : tie.Need-returns-5
 returns-5 c =
     let p = c .before .before .before .before .before .before in
     let k = font-known p in
     let a = entry k .args in
-    let whole = drawn-whole (a .font .now) (asked k) (a .style .color) (sized (a .width) (a .height)) (a .buffer .now) (opens k) (size-in (sized-at p)) (passes p) (color-tested p ∙ sym (c .before .before .before .before .before .has-bad-color .ensures) ∙ c .before .before .before .before .if2 .left) in
+    let whole = drawn-whole (a .font .now) (asked k) (a .style .color) (sized (a .width) (a .height)) (a .buffer .now) (opens k)
+    (size-in (sized-at p)) (passes p) (color-tested p ∙ sym (c .before .before .before .before .before .has-bad-color .ensures) ∙ c .before .before .before .before .if2 .left) in
     (c .before .before .draw-text .ensures .0 ∙ whole .0, c .before .before .draw-text .ensures .1 ∙ whole .1)
 
 pub render-spec : {M : Type 1} → statement M
 render-spec =
     tie.close
-    (tie.spec
-    (λ c κs. search needs)
-    (λ c. search needs)
-    (λ c. search needs)
-    (λ c κs. search needs)
-    returns
-    (λ c κs. search needs)
-    (λ c. search needs)
-    (λ c. search needs)
-    (λ c κs. search needs)
-    returns-2
-    draw-text-requires
-    returns-3
-    returns-4
-    (λ c. search needs)
-    returns-5)
+    (tie.spec (λ c κs. search needs) (λ c. search needs) (λ c. search needs) (λ c κs. search needs) returns (λ c κs. search needs)
+    (λ c. search needs) (λ c. search needs) (λ c κs. search needs) returns-2 draw-text-requires returns-3 returns-4
+    (λ c. search needs) returns-5)

@@ -33,11 +33,4 @@ returns-3 c = cut-glyph (c .before .before .before .before .before .before .befo
 pub retrieve-whole-glyph-spec : {M : Type 1} → statement M
 retrieve-whole-glyph-spec =
     tie.close
-    (tie.spec
-    (λ c κs. search needs)
-    (λ c. search needs)
-    enum-told
-    returns
-    check-runs-requires
-    returns-2
-    returns-3)
+    (tie.spec (λ c κs. search needs) (λ c. search needs) enum-told returns check-runs-requires returns-2 returns-3)

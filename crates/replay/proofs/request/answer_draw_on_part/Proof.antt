@@ -12,15 +12,6 @@ slice-aggregate-answer-draw c = sym (length-take-le _ _ (omega arith))
 pub answer-draw-on-part-spec : {M : Type 1} → statement M
 answer-draw-on-part-spec =
     tie.close
-    (tie.spec
-    (λ c. search needs)
-    (λ c κs. search needs)
-    (λ c. search needs)
-    (λ c. search needs)
-    (λ c κs. search needs)
-    (λ c. search needs)
-    (λ c. search needs)
-    slice-aggregate-answer-draw
-    (λ c κs. search needs)
-    (λ c. search needs)
+    (tie.spec (λ c. search needs) (λ c κs. search needs) (λ c. search needs) (λ c. search needs) (λ c κs. search needs)
+    (λ c. search needs) (λ c. search needs) slice-aggregate-answer-draw (λ c κs. search needs) (λ c. search needs)
     (λ c. search needs))

@@ -21,7 +21,8 @@ returns : tie.Need-returns
 returns c =
     let s = c .before .before .before .before .before .before .before .before .before .before .before .before .before in
     let a = s .args in
-    let placed = ap (withCell (a .n * a .width) (a .j * a .width) (a .screen .now) (a .width) (a .height)) (c .before .before .before .before .before .before .before .before .before .begin-band .ensures) in
+    let placed = ap (withCell (a .n * a .width) (a .j * a .width) (a .screen .now) (a .width) (a .height))
+    (c .before .before .before .before .before .before .before .before .before .begin-band .ensures) in
     ((last-cell (a .n) (a .j) (a .is-last) (c .before .before .if1 .taken), omega (arith, s .pre .some)), c .before .before .before .before .before .place-cell .ensures ∙ placed)
 
 returns-2 : tie.Need-returns-2
@@ -35,8 +36,12 @@ returns-3 : tie.Need-returns-3
 returns-3 c =
     let s = c .before .before .before .before .before .before .before .before .before .before .before .before .before .before in
     let a = s .args in
-    let placed = ap (withCell (a .n * a .width) (a .j * a .width) (a .screen .now) (a .width) (a .height)) (c .before .before .before .before .before .before .before .before .before .before .begin-band .ensures) in
-    ((band-after (a .n) (a .j) (a .is-last) (c .before .before .before .if1 .left) (c .before .before .if2 .left), omega (arith, s .pre .some)), c .before .before .before .before .before .before .place-cell .ensures ∙ placed)
+    let placed = ap (withCell (a .n * a .width) (a .j * a .width) (a .screen .now) (a .width) (a .height))
+    (c .before .before .before .before .before .before .before .before .before .before .begin-band .ensures) in (
+      (band-after (a .n) (a .j) (a .is-last) (c .before .before .before .if1 .left) (c .before .before .if2 .left), omega (arith, s .pre .some)),
+      c
+          .before .before .before .before .before .before .place-cell .ensures ∙ placed,
+    )
 
 pub put-cell-spec : {M : Type 1} → statement M
 put-cell-spec =

@@ -21,7 +21,8 @@ run-requires c κs = (search needs, c .before .before .before .before .before .b
 
 returns-2 : tie.Need-returns-2
 returns-2 c =
-    let s = c .before .before .before .before .before .before .before .before .before .before .before .before .before .before .before .before .before .before .before .before .before .before .before .before .before in
+    let s = c .before .before .before .before .before .before .before .before .before .before .before .before .before .before .before .before .before
+    .before .before .before .before .before .before .before .before in
     let a = s .before .before .before .before .before .before .before .args in
     let g = s .lay-ground .ensures in
     let r = c .before .before .before .before .before .before .before .run in (

@@ -27,12 +27,5 @@ add-result c = omega (arith, bytes c)
 pub u16-at-spec : {M : Type 1} → statement M
 u16-at-spec =
     tie.close
-    (tie.spec
-    (λ c. search needs)
-    cast-high
-    (λ c. search needs)
-    (λ c. search needs)
-    cast-low
-    mul-result
-    add-result
+    (tie.spec (λ c. search needs) cast-high (λ c. search needs) (λ c. search needs) cast-low mul-result add-result
     (λ c. search needs))
