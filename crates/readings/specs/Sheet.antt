@@ -8,7 +8,7 @@ use Rattle.integers.specs.Integers.{pick}
 use Rattle.definitions.specs.Vocabulary.{BoundingBox, None, Some, RenderedDimensions}
 use Rattle.definitions.specs.Refusals.{Outcome, success, refused, anyApplies}
 use Rattle.definitions.specs.Calls.{dimensionsOutcome}
-use Rattle.definitions.specs.Agreement.{on, Ground, width, height}
+use Rattle.definitions.specs.Agreement.{on, Ground, width}
 use Rattle.redraw.specs.Drawing.{Drawing, drawn}
 use Rattle.buffers.specs.Differences.{differences}
 use Rattle.redraw.specs.Redraw.{readingOn, clearedBy, redrawCauses, withText, redrawn, taken}
