@@ -1,7 +1,6 @@
 // Replays the cases of data/cases.bin through the public calls and prints what each answers. The file
 // stdout holds what tools/model.py, written from 01 alone, says of them (tools/cases.py writes both).
-mod request;
-
+use case_calls::request;
 use cases::case_file::number;
 use cases::case_file::unpack;
 ghost use Prim.Native.Nat.{_+_, _≤_};

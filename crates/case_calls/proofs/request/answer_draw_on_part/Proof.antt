@@ -3,8 +3,8 @@ use mathlib.Core.Path.{sym}
 use native.Mathlib.Omega.{arith}
 use lib.Seq.{length-take-le}
 use borrow.Author.Needs.{needs}
-use Rattle.replay.proofs.request.answer_draw_on_part.Statement.{statement}
-use Rattle.replay.proofs.request.answer_draw_on_part.Tie as tie
+use Rattle.case_calls.proofs.request.answer_draw_on_part.Statement.{statement}
+use Rattle.case_calls.proofs.request.answer_draw_on_part.Tie as tie
 
 slice-aggregate-answer-draw : tie.Need-slice-aggregate-answer-draw
 slice-aggregate-answer-draw c = sym (length-take-le _ _ (omega arith))

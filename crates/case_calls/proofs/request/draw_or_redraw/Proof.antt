@@ -2,8 +2,8 @@
 use mathlib.Core.Path.{sym}
 use lib.Seq.{length-take-le}
 use borrow.Author.Needs.{needs}
-use Rattle.replay.proofs.request.draw_or_redraw.Statement.{statement}
-use Rattle.replay.proofs.request.draw_or_redraw.Tie as tie
+use Rattle.case_calls.proofs.request.draw_or_redraw.Statement.{statement}
+use Rattle.case_calls.proofs.request.draw_or_redraw.Tie as tie
 
 slice-aggregate-redraw : tie.Need-slice-aggregate-redraw
 slice-aggregate-redraw c = sym (length-take-le _ _ (c .before .before .least .ensures .1))
