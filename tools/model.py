@@ -1,4 +1,4 @@
-"""Document 01's rules, written a second time in Python, to work out what the case programs must print.
+"""Document 01's rules, written a second time in Python, to work out what the program replay must print.
 
 It is written from 01 alone, but for `redraw`, our own step made of 01's drawings, and shares nothing with the crates. cases.py
 beside it writes the stored outputs. A refusal is ('no', number, code point).

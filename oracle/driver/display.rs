@@ -1,5 +1,5 @@
-//! The test display of document 01: when filling, it takes one colour a cell, rows from the top, left to right, none after
-//! the last; when offered pixels, it takes all of them; it drops cells off the panel.
+//! The test display of document 01: colours to fill with are used up cell by cell and row by row, pixels that are offered are all
+//! taken, and what lies off the panel is dropped.
 
 use embedded_graphics_core::{
     prelude::{DrawTarget, PixelColor, Point},

@@ -78,7 +78,7 @@ fn words(answer: &Answer) -> String {
     }
 }
 
-/// The pattern of crates/replay: a fill value, rising by 0, 1, 2.
+/// The pattern of crates/cases: a fill value, rising by 0, 1, 2.
 fn filled(fill: u8, length: usize) -> Vec<u8> {
     (0..length).map(|i| if fill > 0 { (usize::from(fill) + i % 3) as u8 } else { 0 }).collect()
 }

@@ -2,8 +2,8 @@
 use mathlib.Core.Path.{_≡_, refl}
 use mathlib.Core.Bool.{Bool, true, false, _&&_}
 use mathlib.Core.List.{List, [], _∷_, map}
-use Prim.Native.Nat.{ℕ, _+_, _*_, _<_}
-use native.Mathlib.Omega.{arith}
+use mathlib.Core.Logic.{_⊎_, inl, inr}
+use Prim.Native.Nat.{ℕ, _+_, _*_}
 use lib.Dec.{eqb}
 use Rattle.integers.specs.Integers.{pick}
 use Rattle.definitions.specs.Vocabulary.{FontReader, BoundingBox, Point, GlyphReader}
@@ -16,10 +16,10 @@ use Rattle.definitions.specs.Text.{Answer, shows, nothing, stops, answer
 use Rattle.definitions.specs.Runs.{Pixels, pixels, cut}
 use Rattle.definitions.specs.Font.{Font, u8g2, withRuns, drawable, drawnAnswer}
 
--- no number up to 6
+-- success, or a letter's refusal
 pub data Late {A : Type 0} : Outcome A → Type 0 where
   none : {a : A} → Late (success a)
-  late : {n c : ℕ} → 6 < n → Late (refused n c)
+  late : {n c : ℕ} → (n ≡ 7) ⊎ (n ≡ 8) → Late (refused n c)
 
 late-on : {A B : Type 0} (o : Outcome A) → Late o → (rest : A → Outcome B) → ((a : A) → Late (rest a)) → Late (andThen o rest)
 late-on (success a) h rest k = k a
@@ -32,7 +32,7 @@ late-field font c b at rest h = by (readAt font at b)
   where
     by : (r : Read) → Late (unlessEnds c r rest)
     by (got n) = h n
-    by ends = late {n = 8} (omega arith)
+    by ends = late (inr refl)
 
 late-fields : (font : List ℕ) (head : FontReader) (c at : ℕ) → Late (fields font head c at)
 unfolding fields
@@ -45,8 +45,8 @@ late-fields font head c at =
 
 late-search : (font : List ℕ) (c : ℕ) (s : Search) → Late (fromSearch font c s)
 late-search font c (found start) = late-fields font (header font) c (start * 8)
-late-search font c missing = late {n = 7} (omega arith)
-late-search font c short = late {n = 8} (omega arith)
+late-search font c missing = late (inl refl)
+late-search font c short = late (inr refl)
 
 late-glyph : (font : List ℕ) (c : ℕ) → Late (glyph font c)
 unfolding glyph
@@ -54,7 +54,7 @@ late-glyph font c = late-search font c (lookup font c)
 
 late-runs : (c : ℕ) (g : GlyphReader) (p : Pixels) → Late (withRuns c g p)
 late-runs c g (pixels ps) = none
-late-runs c g cut = late {n = 8} (omega arith)
+late-runs c g cut = late (inr refl)
 
 late-drawable : (font : Font) (c : ℕ) (o : Outcome GlyphReader) → Late o → Late (drawable font c o)
 late-drawable font c o h = late-on o h (λ g. withRuns c g (font .pixels g)) (λ g. late-runs c g (font .pixels g))
@@ -68,7 +68,7 @@ skips-seven = refl
 data LateAnswer : Answer → Type 0 where
   goes-on : {g : GlyphReader} → LateAnswer (shows g)
   skipped : LateAnswer nothing
-  ends-late : {n c : ℕ} → 6 < n → LateAnswer (stops n c)
+  ends-late : {n c : ℕ} → (n ≡ 7) ⊎ (n ≡ 8) → LateAnswer (stops n c)
 
 late-answer : (skip : Bool) (o : Outcome GlyphReader) → Late o → LateAnswer (answer skip o)
 late-answer skip (success g) h = goes-on
@@ -102,7 +102,7 @@ module _ (answers : ℕ → Answer) (each : (c : ℕ) → LateAnswer (answers c)
       late-then (letters answers origin advance l) (late-letters l advance) (letters answers origin advance l .advance)
       (λ end. lineByLine (letters answers origin) lineHeight (newline lineHeight end) ls) (λ end. late-lines ls (newline lineHeight end))
 
--- A drawn text's letters come to no number up to 6.
+-- A drawn text's letters come to no other number.
 pub late-drawn : (font : List ℕ) (skip : Bool) (lineHeight : ℕ) (origin advance : Point) (b : BoundingBox) (cs : List ℕ)
     → Late (dimensionsOf b (layout (drawnAnswer (u8g2 font) skip) lineHeight origin advance cs .advance))
 late-drawn font skip lineHeight origin advance b cs =

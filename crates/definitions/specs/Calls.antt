@@ -1,4 +1,5 @@
--- For each public call what it answers, as a function of its inputs; and how the enum that the code answers with is read.
+-- For each of 01's calls what it answers, as a function of its inputs; and how the enum that the code answers with is read.
+-- (The redraw step is made of these: crates/redraw/specs/Redraw.antt.)
 use mathlib.Core.Bool.{Bool}
 use mathlib.Core.List.{List, [], _∷_, _++_}
 use Prim.Native.Nat.{ℕ, _*_}
@@ -56,7 +57,7 @@ rectangleOutcome (Rectangle·Err e) = refusal e
 
 -- ---- a text
 
--- What every call on a text is asked. Measuring looks at no colour.
+-- What a call on a text is asked. Only aligned measuring looks at `align`; a colour is not part of it, since measuring looks at none.
 pub record Request : Type 0 where
   pub text : List ℕ
   pub position : Point

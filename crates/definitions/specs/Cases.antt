@@ -1,5 +1,5 @@
 -- The starred cases of document 01, and cases of what no law speaks of: the header's bytes, both inks, skipping. One table of
--- what the definitions give and what 01 says, and one theorem, which computes them all.
+-- what the definitions give and what follows from 01, and one theorem, which computes them all.
 use mathlib.Core.Path.{_≡_, refl}
 use mathlib.Core.Bool.{Bool, true, false}
 use mathlib.Core.List.{List, [], _∷_, map}
@@ -165,7 +165,7 @@ headerOfH background = record {
   «line_height» = 14;
 }
 
--- T's header with all offsets 0, a glyph "!" of no pixels and advance 1, and T's "-"
+-- T's header with all offsets 0 and a glyph count of 1, a glyph "!" of no pixels and advance 1, and T's "-"
 abbrev F : List ℕ
 F =
     1 ∷ 0 ∷ 2 ∷ 2 ∷ 3 ∷ 3 ∷ 2 ∷ 3 ∷ 3 ∷ 2 ∷ 3 ∷ 0 ∷ 0 ∷ 3 ∷ 0 ∷ 3 ∷ 0 ∷ 0 ∷ 0 ∷ 0 ∷ 0 ∷ 0 ∷ 0

@@ -11,7 +11,7 @@ use Rattle.definitions.specs.Runs.{Pixels, pixels, cut, glyphPixels}
 use Rattle.definitions.specs.Text.{Answer, answer}
 
 pub record Font : Type 0 where
-  pub causes : List Cause  -- the causes that concern the font, in order: every call that takes one tests these first
+  pub causes : List Cause  -- `fontCauses`, for a font of bytes
   pub ascent : ℤ
   pub descent : ℤ
   pub background : Bool  -- whether a background colour is allowed

@@ -1,4 +1,4 @@
-// Writing to the framebuffer: one byte a pixel, rows from the top. Nothing above knows this layout.
+// Writing to the framebuffer: one byte a pixel, rows from the top. No call above knows this layout.
 pub mod fill;
 
 use types::style::FontColor;

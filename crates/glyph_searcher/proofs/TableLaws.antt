@@ -1,4 +1,4 @@
--- One step of each walk, in the terms of the code: what a test or the next record shows of the definition. Assumes nothing.
+-- One step of the walk over the jump table, in the terms of the code: what a test shows of the definition. Assumes nothing.
 use mathlib.Core.Path.{_≡_, refl, _∙_}
 use mathlib.Core.Bool.{Bool, true, false}
 use mathlib.Core.List.{List}

@@ -11,7 +11,7 @@ ghost use mathlib.Core.Path.{_≡_};
 ghost use Prim.Native.Nat.{_≤_};
 ghost use lib.ListN.{length};
 ghost use Rattle.definitions.specs.Header.{Opened};
-ghost use Rattle.definitions.specs.Lookup.{chain, chainStart, tableStart, searchTable, search as lookup};
+ghost use Rattle.definitions.specs.Lookup.{chain, chainStart, searchTable, search as lookup};
 ghost use Rattle.glyph_searcher.specs.Answers.{searched, recordOf};
 
 // Where the records begin: the first byte after the header.

@@ -2,7 +2,7 @@
 ghost use mathlib.Core.Path.{_≡_};
 ghost use Prim.Native.Nat.{_≤_};
 ghost use lib.Dec.{eqb};
-ghost use lib.ListN.{length, drop};
+ghost use lib.ListN.{drop};
 ghost use Rattle.integers.specs.Integers.{pick};
 ghost use Rattle.definitions.specs.Lookup.{next, last, record8, record16};
 ghost use Rattle.glyph_searcher.specs.Answers.{asRecord, recordOf};

@@ -251,6 +251,7 @@ module _ (narrow : Bool) (font : List ℕ) (place : Place) (ground : List ℕ) w
   sound clear = record {
     all = each-counted 901;
     refusals = refused-as-alone 901;
+    each-answers = λ k h. as-alone (all-known k) k;
     none-differs = λ honest. none-differs honest clear 901 (omega arith);
     each-shown = λ honest. as-wanted honest clear;
   }

@@ -120,10 +120,12 @@ refusedTo font place ground (suc k) = refusedTo font place ground k + refusedOne
 
 -- ---- what a sheet is to be
 
--- Every reading is counted once, and those are refused that are refused when they are drawn alone. Without the fault the screen
+-- Every reading is counted once, and answers what it answers when it is drawn alone. Without the fault the screen
 -- shows after each reading what it is to show, so that none differs and a refused one leaves the field empty.
 pub record Sound (narrow : Bool) (font : List ℕ) (place : Place) (ground : List ℕ) (t : Totals) : Type 0 where
   pub all : t .drawn + t .refused ≡ 901
   pub refusals : t .refused ≡ refusedTo font place ground 901
+  pub each-answers : (k : ℕ) → k < 901
+      → answerOn font place (screenAt narrow font place ground k) k ≡ drawn font (reading place k) (framebuffer place ground)
   pub none-differs : narrow ≡ false → t .differing ≡ 0
   pub each-shown : narrow ≡ false → (k : ℕ) → k < 901 → screenAt narrow font place ground (suc k) .bytes ≡ wanted font place ground k

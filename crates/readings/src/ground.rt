@@ -1,4 +1,4 @@
-// What the screen shows before the first reading: rubbish, and background wherever a reading can stand.
+// Lays the ground: rubbish, then the background in the box of every reading.
 ghost use mathlib.Core.Path.{_≡_};
 ghost use Prim.Native.Nat.{_*_};
 ghost use lib.ListN.{length};

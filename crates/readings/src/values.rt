@@ -1,4 +1,4 @@
-// The values that the functions hand on. There is no code here.
+// A place, what is found of a step, and the totals. There is no code here.
 use types::geometry::Point;
 use types::results::DimensionsResult;
 use types::style::FontStyle;

@@ -3,9 +3,10 @@
 use mathlib.Core.Path.{_≡_, refl, sym, ap, subst, _∙_}
 use mathlib.Core.Bool.{Bool, true, false, _||_, not}
 use mathlib.Core.List.{List, [], _∷_, _++_}
+use mathlib.Core.Logic.{_⊎_, inl, inr}
 use Prim.Native.Nat.{ℕ, _+_, _*_, _≤_, _<_}
 use native.Mathlib.Omega.{arith}
-use borrow.Author.Tests.{eqb-false, lt-ltb, le-ltb}
+use borrow.Author.Tests.{eqb-false, ne-eqb}
 use lib.Dec.{eqb, ltb}
 use lib.IntN.{pos}
 use lib.ListN.{length}
@@ -153,12 +154,20 @@ refused-early rest (c ∷ cs) h e = by (c .applies) refl (refused-early rest cs 
   where
     by : (t : Bool) → c .applies ≡ t → (anyApplies cs ≡ true → taken (unlessRefused cs rest) ≡ false)
         → taken (pick (c .applies) (refused (c .number) 0) (unlessRefused cs rest)) ≡ false
-    by true k later = rw k (le-ltb 6 (c .number) (h .0))
+    by true k later =
+        let few = h .0 in
+        let seven = ne-eqb (c .number) 7 (λ z. omega arith) in
+        let eight = ne-eqb (c .number) 8 (λ z. omega arith) in
+        rw (k, seven, eight)
     by false k later = rw k (later (rw k at e))
 
 late-taken : (o : Outcome RenderedDimensions) → Late o → taken o ≡ true
 late-taken (success d) h = refl
-late-taken (refused n c) (late h) = lt-ltb 6 n h
+late-taken (refused n c) (late h) = by h
+  where
+    by : (n ≡ 7) ⊎ (n ≡ 8) → (eqb n 7 || eqb n 8) ≡ true
+    by (inl e) = rw e
+    by (inr e) = rw e
 
 module _ (font : List ℕ) (r : Drawing) (p : Ground) where
   -- the causes of drawing

@@ -1,9 +1,9 @@
 -- A reading drawn over the one before, whole or not at all: the one call that the gauge makes.
 use mathlib.Core.Path.{_≡_}
-use mathlib.Core.Bool.{Bool, true}
+use mathlib.Core.Bool.{Bool, true, _||_}
 use mathlib.Core.List.{List, [], _∷_, _++_}
 use Prim.Native.Nat.{ℕ, _<_}
-use lib.Dec.{ltb}
+use lib.Dec.{eqb}
 use lib.IntN.{pos}
 use Rattle.integers.specs.Integers.{pick}
 use Rattle.definitions.specs.Vocabulary.{BoundingBox, RenderedDimensions}
@@ -79,4 +79,4 @@ redrawnBuffer font old new background p =
 -- that one of the causes 1 to 6 refused has changed nothing, and the old reading still stands.
 abbrev pub taken : Outcome RenderedDimensions → Bool
 taken (success d) = true
-taken (refused n c) = ltb 6 n
+taken (refused n c) = eqb n 7 || eqb n 8

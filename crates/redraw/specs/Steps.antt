@@ -99,8 +99,8 @@ abbrev pub ClearForAll : Field → List ℕ → List Reading → Type 0
 ClearForAll f ground [] = Unit {0}
 ClearForAll f ground (r ∷ rs) = ClearFor f ground r × ClearForAll f ground rs
 
--- One step: on a screen that shows the old text, in a colour that the font allows, leaves what the new reading shows on the
--- ground. A step that was not taken leaves the screen as it was.
+-- One step, from `entry` to `exit`: if `entry` shows the old text on a ground, in a colour that the font allows, and the ground is
+-- background in its box, `exit` is what the new reading shows on that ground. A step that was not taken leaves the screen as it was.
 abbrev pub LeavesReading : Field → List ℕ → Reading → List ℕ → Outcome RenderedDimensions → List ℕ → Type 0
 LeavesReading f old new entry answer exit =
     (ground : List ℕ) (color : FontColor) → backgroundOff color (u8g2 (f .font) .background) ≡ false → ClearFor f ground (readingOf old color)

@@ -149,6 +149,9 @@ pub fn is_taken(answer: DimensionsResult) -> bool
 {
     match answer {
         DimensionsResult::Ok(_) => true,
-        DimensionsResult::Err(error) => 6 < error_number(error),
+        DimensionsResult::Err(error) => {
+            let number = error_number(error);
+            (number == 7) | (number == 8)
+        }
     }
 }

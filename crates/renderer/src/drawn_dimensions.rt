@@ -38,7 +38,7 @@ fn add_char(
     add_answer(dimensions, origin, answer)
 }
 
-// The letters of a checked text, one after the other. The first that stops the text is the answer.
+// Counts the letters of a checked text as drawing does; the first that cannot be drawn is the answer.
 pub fn get_drawn_dimensions(
     font: &[u8],
     head: FontReader,

@@ -60,7 +60,7 @@ HoldsReadings n font v e =
     (k : ℕ) → k < n → (d : RenderedDimensions) → atOrigin font v k ≡ success d
     → (r : Rectangle) → d .«bounding_box» ≡ Some r → Within r e
 
--- Edges in reach of 64 bits, whatever is added to them.
+-- Edges far inside 64 bits, so that a coordinate and the margin can be added.
 pub record NearExtent (e : Extent) : Type 0 where
   pub left : (negsuc 8589934591 ≤ℤ e .left) × (e .left ≤ℤ pos 8589934592)
   pub top : (negsuc 8589934591 ≤ℤ e .top) × (e .top ≤ℤ pos 8589934592)

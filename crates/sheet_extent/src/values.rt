@@ -1,4 +1,4 @@
-// The values that the functions hand on. There is no code here.
+// Edges, and what the sheet is asked for. There is no code here.
 use types::geometry::Point;
 use types::style::VerticalPosition;
 

@@ -8,7 +8,7 @@ use lib.IntN.{pos, natAbs, _-ℤ_}
 use lib.ListN.{length, getD, replicate}
 use Rattle.integers.specs.Integers.{pick}
 use Rattle.definitions.specs.Vocabulary.{Rectangle}
-use Rattle.definitions.specs.Picture.{Paint, keep, put, Picture, covers}
+use Rattle.definitions.specs.Picture.{keep, put, Picture, covers}
 use Rattle.definitions.specs.Framebuffer.{shown}
 
 -- ---- a band

@@ -1,4 +1,4 @@
-// The image of all readings: bands of cells, each cell a reading's framebuffer.
+// Copying a framebuffer into a band of the image.
 ghost use mathlib.Core.Path.{_≡_};
 ghost use Prim.Native.Nat.{_+_, _≤_};
 ghost use lib.ListN.{length};

@@ -73,8 +73,9 @@ fn fill_sheet(
     Sheet::Made(totals)
 }
 
-// The same on buffers for the largest framebuffers, of 256 × 256 pixels. Whatever the font, the anchor and the place, every reading
-// is counted once and, without the fault, none differs and a refused one leaves the field empty.
+// The same on buffers for the largest framebuffers, of 256 × 256 pixels. Of a sheet that is made, whatever the
+// font, the anchor and the place, every reading is counted once and, without the fault, none differs and a refused one leaves the
+// field empty.
 pub fn make_sheet(
     font: &[u8],
     options: Options,

@@ -1,4 +1,4 @@
-// The values that the functions hand on. There is no code here.
+// What words and digits are read as, and what a sheet came to. There is no code here.
 use readings::values::Totals;
 use sheet_extent::values::Options;
 

@@ -16,7 +16,7 @@ pub enum RectangleResult {
     Err(Error),
 }
 
-// A lookup answers with the glyph or with the reason there is none.
+// What a lookup comes to: a glyph, or why there is none.
 pub enum GlyphResult {
     Ok(GlyphReader),
     Err(Error),

@@ -1,4 +1,4 @@
--- The invariant is `Drawn` (DrawLaws): the rows drawn, the columns collected, and where the reader of runs stands. Each pair
+-- The invariant is `Drawn` (RowsLaws): the rows drawn, the columns collected, and where the reader of runs stands. Each pair
 -- takes at least one bit of the font.
 use mathlib.Core.Path.{_≡_, refl, sym, _∙_}
 use mathlib.Core.List.{List}

@@ -1,4 +1,4 @@
--- `colorOff` goes by the same cases.
+-- `backgroundOff` goes by the same cases.
 use borrow.Author.Needs.{needs}
 use Rattle.layout.proofs.limits.has_bad_color.Statement.{statement}
 use Rattle.layout.proofs.limits.has_bad_color.Tie as tie

@@ -1,4 +1,4 @@
--- Causes have the numbers 1 to 6.
+-- The numbers of a letter are 7 and 8.
 use borrow.Author.Needs.{needs}
 use Rattle.redraw.proofs.reading.is_taken.Statement.{statement}
 use Rattle.redraw.proofs.reading.is_taken.Tie as tie

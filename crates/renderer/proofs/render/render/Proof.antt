@@ -1,4 +1,4 @@
--- The causes are tested in the definition's order; where none applies, the text is drawn. DrawLaws says what is left of a call.
+-- The causes are tested in the definition's order; where none applies, the text is drawn. RenderLaws says what is left of a call.
 use mathlib.Core.Path.{_≡_, sym, ap, _∙_}
 use mathlib.Core.Bool.{false}
 use mir.Syntax.{w8}

@@ -1,4 +1,4 @@
--- `make_sheet` meets its contract: GridLaws.antt has that the framebuffers are large enough. Assumes nothing.
+-- `make_sheet` meets its contract: FitLaws.antt has that the framebuffers are large enough. Assumes nothing.
 use mathlib.Core.Path.{sym, subst}
 use native.Mathlib.Omega.{arith}
 use Rattle.readings.specs.declared.values.Place.{Place}

@@ -1,4 +1,4 @@
--- `write_head` is safe: GridLaws.antt bounds the image. Assumes nothing.
+-- `write_head` is safe: FitLaws.antt bounds the image. Assumes nothing.
 use native.Mathlib.Omega.{arith}
 use Rattle.sheet_program.proofs.FitLaws.{image-size}
 use borrow.Author.Needs.{needs}
