@@ -1,7 +1,5 @@
 -- Four answers and two framebuffers that are those of the definitions, one by one, and the third demand of them. Assumes nothing.
-use mathlib.Core.Path.{_≡_, sym, subst}
-use mathlib.Core.List.{List}
-use Prim.Native.Nat.{ℕ}
+use Rattle.integers.proofs.Prelude.{_≡_, sym, subst, List, ℕ}
 use Rattle.definitions.specs.Vocabulary.{RenderedDimensions, FontColor}
 use Rattle.definitions.specs.Refusals.{Outcome}
 use Rattle.definitions.specs.Font.{u8g2}

@@ -1,14 +1,6 @@
 -- The text of an angle, byte by byte from its end. Assumes nothing.
-use mathlib.Core.Path.{_≡_, refl, ap, _∙_}
-use mathlib.Core.List.{List, [], _∷_}
-use Prim.Native.Nat.{ℕ, zero, suc, _+_, _/_, _%_, _≤_, _<_}
-use native.Mathlib.Numerals.{add-one}
-use native.Mathlib.Omega.{arith}
-use borrow.Author.Tests.{lt-ltb, le-ltb}
-use lib.IntN.{ℤ, pos, natAbs}
-use lib.ListN.{length, drop, set}
-use lib.Signed.{ltZ}
-use mathlib.Core.Bool.{true, false}
+use Rattle.integers.proofs.Prelude.{_≡_, refl, ap, _∙_, true, false, List, [], _∷_, ℕ, zero, suc, _+_, _/_, _%_, _≤_, _<_, add-one, arith, ℤ, pos}
+use Rattle.integers.proofs.Prelude.{natAbs, ltZ, length, drop, set, lt-ltb, le-ltb}
 use Rattle.angles.specs.AngleText.{digit, degreesThen, tenthsText, angleText}
 
 front : (l : List ℕ) (i v : ℕ) → i < length l → drop i (set l i v) ≡ v ∷ drop (suc i) l

@@ -1,14 +1,6 @@
 -- Pixels that differ, counted one after the other. Assumes nothing.
-use mathlib.Core.Path.{_≡_, refl, _∙_}
-use mathlib.Core.Bool.{Bool, true, false}
-use mathlib.Core.List.{List, [], _∷_}
-use Prim.Native.Nat.{ℕ, _+_, _≤_, _<_}
-use native.Mathlib.Numerals.{add-one}
-use native.Mathlib.Omega.{arith}
-use borrow.Author.Tests.{eq-eqb, ne-eqb, eqb-true}
-use lib.Dec.{eqb}
-use lib.ListN.{length, getD, drop, drop-of-length-le}
-use lib.Seq.{drop-cons}
+use Rattle.integers.proofs.Prelude.{_≡_, refl, _∙_, Bool, true, false, List, [], _∷_, ℕ, _+_, _≤_, _<_, add-one, arith, eqb, length, getD, drop}
+use Rattle.integers.proofs.Prelude.{drop-of-length-le, drop-cons, eq-eqb, ne-eqb, eqb-true}
 use Rattle.integers.specs.Integers.{pick}
 use Rattle.buffers.specs.Differences.{differences}
 

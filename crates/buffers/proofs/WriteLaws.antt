@@ -1,11 +1,5 @@
 -- A buffer written one byte after the other: those before i are as they should be, by a function of their index. Assumes nothing.
-use mathlib.Core.Path.{_≡_, subst, _∙_}
-use mathlib.Core.List.{List}
-use Prim.Native.Nat.{ℕ, _+_, _<_}
-use native.Mathlib.Decide.{decLt}
-use native.Mathlib.Omega.{arith}
-use lib.ListN.{length, getD, set}
-use lib.Seq.{getD-set-same, getD-set-other}
+use Rattle.integers.proofs.Prelude.{_≡_, subst, _∙_, List, ℕ, _+_, _<_, decLt, arith, length, getD, set, getD-set-same, getD-set-other}
 
 abbrev pub WrittenTo : (ℕ → ℕ) → List ℕ → ℕ → Type 0
 WrittenTo f l i = (k : ℕ) → k < i → getD l k 0 ≡ f k

@@ -1,10 +1,5 @@
 -- Codes that have a meaning leave room for the answer.
-use mathlib.Core.Path.{_≡_, refl, sym, _∙_}
-use mathlib.Core.Bool.{Bool, true, false}
-use Prim.Native.Nat.{ℕ, _≤_}
-use native.Mathlib.Omega.{arith}
-use borrow.Author.Tests.{ltb-false}
-use lib.Dec.{ltb}
+use Rattle.integers.proofs.Prelude.{_≡_, refl, sym, _∙_, Bool, true, false, ℕ, _≤_, arith, ltb, ltb-false}
 use Rattle.integers.proofs.Choices.{impossible}
 use Rattle.c_values.specs.declared.codes.Anchor.{Anchor}
 use Rattle.c_values.specs.declared.codes.Anchor.the-variants.{Known as Anchor·Known, Unknown as Anchor·Unknown}

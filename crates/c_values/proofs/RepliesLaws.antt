@@ -1,8 +1,5 @@
 -- A call's answer, from what its codes mean and what it stored; and for a call that draws, what it left on the framebuffer.
-use mathlib.Core.Path.{_≡_, sym, ap, _∙_}
-use mathlib.Core.List.{List}
-use Prim.Native.Nat.{ℕ}
-use lib.IntN.{ℤ}
+use Rattle.integers.proofs.Prelude.{_≡_, sym, ap, _∙_, List, ℕ, ℤ}
 use Rattle.c_values.specs.declared.codes.Codes.{Codes}
 use Rattle.c_values.specs.declared.codes.Codes.the-variants.{Known, Unknown}
 use Rattle.c_values.specs.declared.codes.Meaning.{Meaning}

@@ -1,12 +1,5 @@
 -- Every value that `compute_vertical_offset` computes fits an i32, so that it is read back as it was stored. Assumes nothing.
-use mathlib.Core.Path.{_≡_}
-use Prim.Native.Nat.{ℕ, _≤_}
-use lib.Dec.{T, leb, leb→le}
-use lib.IntN.{ℤ, pos, negsuc, _+ℤ_, _-ℤ_}
-use lib.Signed.{_≤ℤ_}
-use mir.Syntax.{w8, w32}
-use mir.Val.{SFits, toZ, ofZ}
-use mir.Facts.{toZ-ofZ}
+use Rattle.integers.proofs.Prelude.{_≡_, ℕ, _≤_, T, leb, leb→le, ℤ, pos, negsuc, _+ℤ_, _-ℤ_, _≤ℤ_, w8, w32, SFits, toZ, ofZ, toZ-ofZ}
 use Rattle.integers.specs.Integers.{half}
 use Rattle.integers.proofs.Laws.{zarith, plus, minus, half-is, half-fits, range}
 

@@ -1,16 +1,8 @@
 -- Demand 3: two plain drawings of one text agree. A longer font answers each letter that the first drew with the same glyph and
 -- the same pixels; so both texts are laid out alike and make one picture, and the framebuffer's law does the rest.
 -- Assumes nothing.
-use mathlib.Core.Path.{_≡_, refl, sym, ap, subst, _∙_}
-use mathlib.Core.Bool.{Bool, false, _||_, not}
-use mathlib.Core.List.{List, [], _∷_, _++_}
-use Prim.Native.Nat.{ℕ, suc, _+_, _*_, _≤_, _<_}
-use native.Mathlib.Nat.{mul-le-mul-right, mul-comm}
-use native.Mathlib.Omega.{arith}
-use borrow.Author.Tests.{eqb-true, not-false}
-use lib.Dec.{eqb}
-use lib.IntN.{ℤ, pos}
-use lib.ListN.{length}
+use Rattle.integers.proofs.Prelude.{_≡_, refl, sym, ap, subst, _∙_, Bool, false, _||_, not, List, [], _∷_, _++_, ℕ, suc, _+_, _*_, _≤_, _<_}
+use Rattle.integers.proofs.Prelude.{mul-le-mul-right, mul-comm, arith, eqb, ℤ, pos, length, eqb-true, not-false}
 use Rattle.integers.proofs.Choices.{impossible}
 use Rattle.definitions.specs.Vocabulary.{FontReader, BoundingBox, Point, RenderedDimensions, GlyphReader, FontColor}
 use Rattle.definitions.specs.Refusals.{Outcome, success, refused, Cause, anyApplies}

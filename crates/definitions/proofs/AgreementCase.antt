@@ -1,12 +1,6 @@
 -- The third demand is not empty: its hypotheses hold for "-4" drawn with font T on 8 × 8 pixels and with five bytes added to T
 -- on 9 × 12, the contents differing from the seventh row on. The 4 lies off the first framebuffer and half off the second.
-use mathlib.Core.Path.{_≡_, refl}
-use mathlib.Core.Bool.{false}
-use mathlib.Core.List.{List, [], _∷_, _++_}
-use Prim.Native.Nat.{ℕ}
-use native.Mathlib.Omega.{arith}
-use lib.IntN.{pos}
-use lib.ListN.{replicate}
+use Rattle.integers.proofs.Prelude.{_≡_, refl, false, List, [], _∷_, _++_, ℕ, arith, pos, replicate}
 use Rattle.definitions.specs.Vocabulary.{Some, RenderedDimensions, Transparent}
 use Rattle.types.specs.declared.style.VerticalPosition.the-variants.{Baseline}
 use Rattle.integers.specs.Integers.{signed8}

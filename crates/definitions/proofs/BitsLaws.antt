@@ -1,19 +1,10 @@
 -- Bits of a font: how many there are, what the number read from them is in terms of bytes, and how reads of one font, of a
 -- longer one and in a row agree. Assumes nothing.
-use mathlib.Core.Path.{_≡_, refl, sym, ap, subst, _∙_}
-use mathlib.Core.Bool.{Bool, true, false}
-use mathlib.Core.List.{List, [], _∷_, _++_, map, append-assoc}
-use Prim.Native.Nat.{ℕ, zero, suc, _+_, _-_, _*_, _/_, _%_, _^_, _≤_, _<_}
-use native.Mathlib.Nat.{add-zero, mul-assoc, div-one}
-use native.Mathlib.Numerals.{add-one, one-add}
-use native.Mathlib.Omega.{arith}
-use lib.Dec.{ltb}
-use lib.IntN.{ℤ, pos, negsuc}
-use lib.ListN.{length, take, drop, getD, length-append, length-drop}
+use Rattle.integers.proofs.Prelude.{_≡_, refl, sym, ap, subst, _∙_, Bool, true, false, List, [], _∷_, _++_, map, append-assoc, ℕ, zero, suc, _+_, _-_}
+use Rattle.integers.proofs.Prelude.{_*_, _/_, _%_, _^_, _≤_, _<_, add-zero, mul-assoc, div-one, add-one, one-add, arith, ltb, ℤ, pos, negsuc, _≤ℤ_}
+use Rattle.integers.proofs.Prelude.{length, take, drop, getD, length-append, length-drop, take-append-le, drop-append-le, drop-append-add, take-nil}
+use Rattle.integers.proofs.Prelude.{drop-nil, getD-drop, drop-drop, take-add, length-take-le, ltb-true, lt-ltb, le-ltb}
 use lib.Pow.{pow-pos, pow-mono, shr-shr, mod-pow-add}
-use lib.Seq.{take-append-le, drop-append-le, drop-append-add, take-nil, drop-nil, getD-drop, drop-drop, take-add, length-take-le}
-use lib.Signed.{_≤ℤ_}
-use borrow.Author.Tests.{ltb-true, lt-ltb, le-ltb}
 use Rattle.integers.specs.Integers.{pick}
 use Rattle.integers.proofs.Laws.{zarith, minus}
 use Rattle.integers.proofs.Choices.{impossible}

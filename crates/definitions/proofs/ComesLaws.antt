@@ -1,8 +1,5 @@
 -- What causes leave of a call: its answer, and what the framebuffer then holds, as a call goes through its tests. Assumes nothing.
-use mathlib.Core.Path.{_≡_, refl, subst}
-use mathlib.Core.Bool.{Bool, true, false}
-use mathlib.Core.List.{List, [], _∷_, _++_}
-use Prim.Native.Nat.{ℕ}
+use Rattle.integers.proofs.Prelude.{_≡_, refl, subst, Bool, true, false, List, [], _∷_, _++_, ℕ}
 use Rattle.integers.specs.Integers.{pick}
 use Rattle.integers.proofs.Choices.{impossible}
 use Rattle.definitions.specs.Refusals.{Outcome, success, refused, Cause, unlessRefused, anyApplies}

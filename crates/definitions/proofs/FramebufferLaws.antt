@@ -1,13 +1,8 @@
 -- The framebuffer as a window onto a picture: its one law, and how lists of bytes are compared pixel by pixel. What holds of a
 -- byte at column and row comes from here; no other file divides by the width. Assumes nothing.
-use mathlib.Core.Path.{_≡_, refl, sym, ap, subst, _∙_}
-use mathlib.Core.List.{List, [], _∷_}
-use Prim.Native.Nat.{ℕ, zero, suc, _+_, _*_, _/_, _%_, _<_}
-use native.Mathlib.Nat.{div-add-mod', mod-lt, mod-eq-of-lt, div-eq-of-lt, mul-add-div-right, mul-add-mod-self-right, zero-add, add-zero, add-suc, suc-add}
-use native.Mathlib.Omega.{arith}
-use lib.IntN.{pos}
-use lib.ListN.{length, getD}
-use lib.Seq.{ext-getD}
+use Rattle.integers.proofs.Prelude.{_≡_, refl, sym, ap, subst, _∙_, List, [], _∷_, ℕ, zero, suc, _+_, _*_, _/_, _%_, _<_, div-add-mod', mod-lt}
+use Rattle.integers.proofs.Prelude.{mod-eq-of-lt, div-eq-of-lt, mul-add-div-right, mul-add-mod-self-right, zero-add, add-zero, add-suc, suc-add}
+use Rattle.integers.proofs.Prelude.{arith, pos, length, getD, ext-getD}
 use Rattle.definitions.specs.Picture.{Paint, keep, put, Picture, above}
 use Rattle.definitions.specs.Framebuffer.{over, mapAt, shown}
 

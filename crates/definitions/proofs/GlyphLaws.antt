@@ -1,8 +1,5 @@
 -- The fields of a glyph: a longer font gives the same, and the range of each. Assumes nothing.
-use mathlib.Core.Path.{_≡_, refl, subst}
-use mathlib.Core.List.{List, _++_}
-use Prim.Native.Nat.{ℕ, _+_, _*_, _≤_, _<_}
-use lib.ListN.{length, set}
+use Rattle.integers.proofs.Prelude.{_≡_, refl, subst, List, _++_, ℕ, _+_, _*_, _≤_, _<_, length, set}
 use Rattle.definitions.specs.Vocabulary.{FontReader, GlyphReader}
 use Rattle.definitions.specs.Refusals.{Outcome, success}
 use Rattle.integers.specs.Integers.{signed8}

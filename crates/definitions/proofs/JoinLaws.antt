@@ -1,10 +1,7 @@
 -- Joining bounding boxes is associative and commutative, none is neutral, the joined box contains both and is the smallest that
 -- does, boxes within reach join to one within reach, and boxes that are moved join to the joined box moved. The laws of one dimension come first: a span is a start and a length,
 -- and a rectangle is a span of columns and a span of rows. Assumes nothing.
-use mathlib.Core.Path.{_≡_, refl, ap, subst}
-use Prim.Native.Nat.{ℕ, _≤_}
-use lib.IntN.{ℤ, pos, _+ℤ_, _-ℤ_}
-use lib.Signed.{_≤ℤ_, _<ℤ_}
+use Rattle.integers.proofs.Prelude.{_≡_, refl, ap, subst, ℕ, _≤_, ℤ, pos, _+ℤ_, _-ℤ_, _≤ℤ_, _<ℤ_}
 use Rattle.definitions.specs.Vocabulary.{Rectangle, BoundingBox, None, Some}
 use Rattle.integers.specs.Integers.{minZ, maxZ}
 use Rattle.integers.proofs.Laws.{zarith, up, down, plus, minus, min-is, max-is, whole}

@@ -1,17 +1,9 @@
 -- Laws of the lookup. The chain and the jump table are walked over the font's bytes by definition, so each walk ends with
 -- the bytes: there is no number of steps, and no law that one suffices is needed. Assumes nothing.
-use mathlib.Core.Path.{_≡_, refl, sym, ap, _∙_}
-use mathlib.Core.Bool.{Bool, true, false}
-use mathlib.Core.List.{List, [], _∷_, _++_}
-use Prim.Native.Nat.{ℕ, zero, suc, _+_, _-_, _*_, _≤_, _<_}
-use native.Mathlib.Nat.{zero-add, suc-add, add-zero}
-use native.Mathlib.Decide.{decLt}
-use native.Mathlib.Numerals.{add-one}
-use native.Mathlib.Omega.{arith}
-use borrow.Author.Tests.{leb-true, le-leb, lt-leb, eq-eqb, ne-eqb, eqb-false}
-use lib.Dec.{T, ltb, leb, eqb, lit<}
-use lib.ListN.{length, drop, length-drop, length-append, List·getD-append, drop-of-length-le}
-use lib.Seq.{drop-cons, drop-append-le}
+use Rattle.integers.proofs.Prelude.{_≡_, refl, sym, ap, _∙_, Bool, true, false, List, [], _∷_, _++_, ℕ, zero, suc, _+_, _-_, _*_, _≤_, _<_, zero-add}
+use Rattle.integers.proofs.Prelude.{suc-add, add-zero, decLt, add-one, arith, T, ltb, leb, eqb, lit<, length, drop, length-drop, length-append}
+use Rattle.integers.proofs.Prelude.{List·getD-append, drop-of-length-le, drop-cons, drop-append-le, leb-true, le-leb, lt-leb, eq-eqb, ne-eqb}
+use Rattle.integers.proofs.Prelude.{eqb-false}
 use Rattle.integers.proofs.Choices.{impossible, of-pick}
 use Rattle.definitions.specs.Vocabulary.{FontReader}
 use Rattle.integers.specs.Integers.{pick}

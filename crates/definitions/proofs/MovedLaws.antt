@@ -1,10 +1,5 @@
 -- Where a text stands moves its glyphs and its box, and changes nothing else. Assumes nothing.
-use mathlib.Core.Path.{_≡_, refl, sym, ap, _∙_}
-use mathlib.Core.Bool.{false, _||_}
-use mathlib.Core.List.{List, [], _∷_, map, map-append}
-use Prim.Native.Nat.{ℕ, _*_}
-use lib.Dec.{ltb}
-use lib.IntN.{ℤ, pos, _+ℤ_}
+use Rattle.integers.proofs.Prelude.{_≡_, refl, sym, ap, _∙_, false, _||_, List, [], _∷_, map, map-append, ℕ, _*_, ltb, ℤ, pos, _+ℤ_}
 use Rattle.integers.proofs.Laws.{zarith, plus}
 use Rattle.integers.proofs.Choices.{impossible}
 use Rattle.definitions.specs.Vocabulary.{BoundingBox, Point, RenderedDimensions}

@@ -1,12 +1,5 @@
 -- A font that opens: neither cause applies, so every limit holds. Assumes nothing.
-use mathlib.Core.Path.{_≡_, refl, sym, subst}
-use mathlib.Core.Bool.{false, _||_}
-use mathlib.Core.List.{List, []}
-use Prim.Native.Nat.{ℕ, _≤_}
-use native.Mathlib.Omega.{arith}
-use lib.Dec.{ltb, eqb}
-use lib.ListN.{length}
-use borrow.Author.Tests.{ltb-false, eqb-false}
+use Rattle.integers.proofs.Prelude.{_≡_, refl, sym, subst, false, _||_, List, [], ℕ, _≤_, arith, ltb, eqb, length, ltb-false, eqb-false}
 use Rattle.definitions.specs.Vocabulary.{FontReader}
 use Rattle.integers.proofs.Laws.{zarith}
 use Rattle.definitions.specs.Refusals.{Outcome, success, refused, unlessRefused, anyApplies}

@@ -1,11 +1,5 @@
 -- Laws of pictures: glyphs in a row are one picture above the other, and nothing is drawn outside the box. Assumes nothing.
-use mathlib.Core.Path.{_≡_, refl, sym}
-use mathlib.Core.Bool.{Bool, true, false, _&&_}
-use mathlib.Core.List.{List, [], _∷_, _++_}
-use Prim.Native.Nat.{ℕ, _+_, _*_}
-use lib.IntN.{ℤ, pos, natAbs, _-ℤ_}
-use lib.ListN.{getD}
-use lib.Signed.{leZ, ltZ}
+use Rattle.integers.proofs.Prelude.{_≡_, refl, sym, Bool, true, false, _&&_, List, [], _∷_, _++_, ℕ, _+_, _*_, ℤ, pos, natAbs, _-ℤ_, leZ, ltZ, getD}
 use Rattle.integers.specs.Integers.{pick}
 use Rattle.integers.proofs.Laws.{zarith}
 use Rattle.integers.proofs.Choices.{impossible}

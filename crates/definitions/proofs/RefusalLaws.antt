@@ -1,11 +1,6 @@
 -- Laws of a call's causes: a call that succeeds has none that applies, where none applies the call comes to what is left, and
 -- where one does the framebuffer is left as it was. Assumes nothing.
-use mathlib.Core.Path.{_≡_, refl}
-use mathlib.Core.Bool.{Bool, true, false, _||_}
-use mathlib.Core.List.{List, [], _∷_, _++_}
-use Prim.Native.Nat.{ℕ}
-use lib.IntN.{ℤ, pos}
-use lib.ListN.{take, set}
+use Rattle.integers.proofs.Prelude.{_≡_, refl, Bool, true, false, _||_, List, [], _∷_, _++_, ℕ, ℤ, pos, take, set}
 use Rattle.integers.specs.Integers.{signed8}
 use Rattle.integers.proofs.Choices.{impossible}
 use Rattle.definitions.specs.Vocabulary.{Framebuffer, RenderedDimensions, FontColor, Transparent, WithBackground}

@@ -1,15 +1,9 @@
 -- A glyph's pixels: a longer font gives the same, how many there are and which values they have, and how they follow from
 -- the place of a reader that has a pair and the bit after it. Assumes nothing.
-use mathlib.Core.Path.{_≡_, refl, sym, ap, subst, _∙_}
-use mathlib.Core.Bool.{Bool, true, false}
-use mathlib.Core.List.{List, [], _∷_, _++_}
-use Prim.Native.Nat.{ℕ, zero, suc, _+_, _-_, _*_, _≤_, _<_}
-use native.Mathlib.Omega.{arith}
-use native.Mathlib.Decide.{decLt}
-use lib.Dec.{ltb, leb, eqb}
-use lib.ListN.{length, take, drop, getD, replicate, length-append, length-drop, length-replicate, getD-replicate, List·getD-append}
-use lib.Seq.{take-append-le, drop-append-le, length-take-le, drop-drop, drop-at, getD-append-add, getD-take}
-use borrow.Author.Tests.{ltb-true, leb-true, leb-false, eqb-true, lt-ltb, le-ltb, lt-leb}
+use Rattle.integers.proofs.Prelude.{_≡_, refl, sym, ap, subst, _∙_, Bool, true, false, List, [], _∷_, _++_, ℕ, zero, suc, _+_, _-_, _*_, _≤_, _<_}
+use Rattle.integers.proofs.Prelude.{decLt, arith, ltb, leb, eqb, length, take, drop, getD, replicate, length-append, length-drop, length-replicate}
+use Rattle.integers.proofs.Prelude.{getD-replicate, List·getD-append, take-append-le, drop-append-le, length-take-le, drop-drop, drop-at}
+use Rattle.integers.proofs.Prelude.{getD-append-add, getD-take, ltb-true, leb-true, leb-false, eqb-true, lt-ltb, le-ltb, lt-leb}
 use Rattle.integers.specs.Integers.{pick}
 use Rattle.integers.proofs.Choices.{impossible}
 use Rattle.definitions.specs.Vocabulary.{FontReader, GlyphReader}

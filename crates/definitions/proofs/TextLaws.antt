@@ -1,12 +1,7 @@
 -- Laws of a text's layout: what another font's letters change, and that the folds of TextSteps.antt, which loops follow, come
 -- to the layouts of Text.antt. Assumes nothing.
-use mathlib.Core.Path.{_≡_, refl, sym, ap, _∙_}
-use mathlib.Core.Bool.{Bool, true, false, _||_}
-use mathlib.Core.List.{List, [], _∷_, _++_, map, append-assoc}
-use Prim.Native.Nat.{ℕ, suc, _+_}
-use native.Mathlib.Omega.{arith}
-use lib.Dec.{eqb}
-use lib.IntN.{ℤ, pos, _+ℤ_, _-ℤ_}
+use Rattle.integers.proofs.Prelude.{_≡_, refl, sym, ap, _∙_, Bool, true, false, _||_, List, [], _∷_, _++_, map, append-assoc, ℕ, suc, _+_, arith, eqb}
+use Rattle.integers.proofs.Prelude.{ℤ, pos, _+ℤ_, _-ℤ_}
 use Rattle.integers.specs.Integers.{pick}
 use Rattle.integers.proofs.Laws.{zarith, plus, minus}
 use Rattle.integers.proofs.Choices.{impossible}

@@ -1,8 +1,6 @@
 -- Sequences that tell readings of Unicode's table 3-7 apart: one table of bytes and what they decode to, and one theorem,
 -- which computes them all.
-use mathlib.Core.Path.{_≡_, refl}
-use mathlib.Core.List.{List, [], _∷_, map}
-use Prim.Native.Nat.{ℕ}
+use Rattle.integers.proofs.Prelude.{_≡_, refl, List, [], _∷_, map, ℕ}
 use Rattle.definitions.specs.Utf8.{table, rowOf, firstCharacter, Decoded, characters, notUtf8, decodeFrom, decode}
 
 pub record Case : Type 0 where

@@ -1,13 +1,7 @@
 -- The sequences that are taken are the encodings of scalar values, no others (`head`) and all of them (`first-encode`).
 -- Assumes nothing.
-use mathlib.Core.Path.{_≡_, refl, sym, ap, subst, _∙_}
-use mathlib.Core.Bool.{Bool, true, false, _&&_}
-use mathlib.Core.List.{List, [], _∷_, _++_}
-use mathlib.Core.Logic.{inl, inr}
-use Prim.Native.Nat.{ℕ, zero, suc, _+_, _*_, _/_, _%_, _≤_, _<_}
-use native.Mathlib.Omega.{arith}
-use lib.ListN.{length, getD, take, List·getD-eq-default}
-use borrow.Author.Tests.{le-leb, lt-leb}
+use Rattle.integers.proofs.Prelude.{_≡_, refl, sym, ap, subst, _∙_, Bool, true, false, _&&_, inl, inr, List, [], _∷_, _++_, ℕ, zero, suc, _+_, _*_}
+use Rattle.integers.proofs.Prelude.{_/_, _%_, _≤_, _<_, arith, length, getD, take, List·getD-eq-default, le-leb, lt-leb}
 use Rattle.integers.specs.Integers.{pick}
 use Rattle.integers.proofs.Choices.{impossible}
 use Rattle.definitions.specs.Utf8.{isIn, continues, Row, one, two, three, four, none, rowOf, character, malformed, sequence, firstCharacter, Scalar, encode}

@@ -1,17 +1,9 @@
 -- Decoding a text. A text decodes exactly to the code points of which it is the encoding (`decoded`, `decode-encodeAll`). A
 -- loop over its characters needs, at a position: what was read there (`position`, `next`), that the text is not UTF-8
 -- (`not-utf8`), and the end (`at-end`). Assumes nothing.
-use mathlib.Core.Path.{_≡_, refl, sym, ap, subst, _∙_}
-use mathlib.Core.Bool.{true, false}
-use mathlib.Core.List.{List, [], _∷_, _++_}
-use mathlib.Core.Logic.{inl, inr}
-use Prim.Native.Nat.{ℕ, zero, suc, _+_, _-_, _/_, _%_, _≤_, _<_}
-use native.Mathlib.Omega.{arith}
-use native.Mathlib.Numerals.{add-one}
-use lib.Dec.{eqb}
-use lib.ListN.{length, getD, drop, length-append, length-drop, take-append-drop, drop-of-length-le}
-use lib.Seq.{drop-cons, drop-drop, drop-append-seam, getD-drop}
-use borrow.Author.Tests.{eq-eqb, ne-eqb}
+use Rattle.integers.proofs.Prelude.{_≡_, refl, sym, ap, subst, _∙_, true, false, inl, inr, List, [], _∷_, _++_, ℕ, zero, suc, _+_, _-_, _/_, _%_, _≤_}
+use Rattle.integers.proofs.Prelude.{_<_, add-one, arith, eqb, length, getD, drop, length-append, length-drop, take-append-drop, drop-of-length-le}
+use Rattle.integers.proofs.Prelude.{drop-cons, drop-drop, drop-append-seam, getD-drop, eq-eqb, ne-eqb}
 use Rattle.integers.specs.Integers.{pick}
 use Rattle.integers.proofs.Choices.{impossible}
 use Rattle.definitions.specs.Utf8.{Row, rowOf, Character, character, malformed, sequence, firstCharacter, Scalar, encode, encodeAll, Scalars, nil, cons, Decoded, characters, notUtf8}

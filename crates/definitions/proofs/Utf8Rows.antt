@@ -1,14 +1,7 @@
 -- Unicode's table 3-7 of well-formed sequences: the row of a first byte, from its range and the other way.
 -- Assumes nothing.
-use mathlib.Core.Path.{_≡_, refl, _∙_}
-use mathlib.Core.Bool.{Bool, true, false, _&&_}
-use mathlib.Core.List.{List, [], _∷_}
-use Prim.Native.Nat.{ℕ, zero, suc, _≤_, _<_}
-use native.Mathlib.Omega.{arith}
-use native.Mathlib.Decide.{decLt}
-use lib.Dec.{leb}
-use lib.ListN.{take, drop}
-use borrow.Author.Tests.{le-leb, lt-leb, leb-true}
+use Rattle.integers.proofs.Prelude.{_≡_, refl, _∙_, Bool, true, false, _&&_, List, [], _∷_, ℕ, zero, suc, _≤_, _<_, decLt, arith, leb, take, drop}
+use Rattle.integers.proofs.Prelude.{le-leb, lt-leb, leb-true}
 use Rattle.integers.specs.Integers.{pick}
 use Rattle.integers.proofs.Choices.{impossible}
 use Rattle.definitions.specs.Utf8.{isIn, Row, one, two, three, four, none, TableRow, table, findRow, rowOf}

@@ -1,10 +1,6 @@
 -- How far the anchor moves a text: at most 128 down, and at most 128 more than t, the newlines times the line height, up. Ascent
 -- and descent are bytes read as signed, −128 to 127. Assumes nothing.
-use Prim.Native.Nat.{ℕ, _+_, _≤_}
-use lib.IntN.{ℤ, pos, negsuc, _+ℤ_, _-ℤ_}
-use lib.Signed.{_≤ℤ_}
-use mir.Syntax.{w8, w32}
-use mir.Val.{SFits}
+use Rattle.integers.proofs.Prelude.{ℕ, _+_, _≤_, ℤ, pos, negsuc, _+ℤ_, _-ℤ_, _≤ℤ_, w8, w32, SFits}
 use Rattle.definitions.specs.Vocabulary.{VerticalPosition}
 use Rattle.types.specs.declared.style.VerticalPosition.the-variants.{Baseline, Top, Center, Bottom}
 use Rattle.integers.specs.Integers.{half}

@@ -1,11 +1,5 @@
 -- What is drawn can be shown. Assumes nothing.
-use mathlib.Core.Path.{_≡_, subst}
-use mathlib.Core.List.{List}
-use Prim.Native.Nat.{ℕ, _+_, _*_, _≤_, _<_}
-use native.Mathlib.Nat.{mul-le-mul-right, mul-comm}
-use native.Mathlib.Omega.{arith}
-use lib.ListN.{length, take}
-use lib.Seq.{length-take-le}
+use Rattle.integers.proofs.Prelude.{_≡_, subst, List, ℕ, _+_, _*_, _≤_, _<_, mul-le-mul-right, mul-comm, arith, length, take, length-take-le}
 use Rattle.definitions.specs.Vocabulary.{Size, FontColor}
 use Rattle.pictures.specs.declared.whole.Drawing.{Drawing}
 use Rattle.pictures.specs.declared.whole.Drawing.the-variants.{Drawn, Blank, TooLarge, Refused}

@@ -1,10 +1,5 @@
 -- The words of the command line: the comparison of two words, and one word more. Assumes nothing.
-use mathlib.Core.Path.{_≡_, refl, sym, subst, _∙_}
-use mathlib.Core.Bool.{Bool, true, false, _&&_}
-use mathlib.Core.List.{List, [], _∷_, _++_}
-use Prim.Native.Nat.{ℕ}
-use lib.Dec.{eqb}
-use borrow.Author.Tests.{eqb-true, eq-eqb}
+use Rattle.integers.proofs.Prelude.{_≡_, refl, sym, subst, _∙_, Bool, true, false, _&&_, List, [], _∷_, _++_, ℕ, eqb, eqb-true, eq-eqb}
 use Rattle.integers.proofs.Choices.{impossible}
 use Rattle.draw_program.specs.declared.options.Options.{Options}
 use Rattle.draw_program.specs.Words.{same, withWord, withWords}

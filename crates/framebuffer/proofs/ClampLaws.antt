@@ -1,11 +1,5 @@
 -- The nearest number from 0 to a limit, as a minimum that `omega` reads. Assumes nothing.
-use mathlib.Core.Path.{_≡_, refl, _∙_}
-use mathlib.Core.Bool.{Bool, true, false}
-use Prim.Native.Nat.{ℕ, _-_, min}
-use native.Mathlib.Omega.{arith}
-use lib.Dec.{ltb}
-use lib.IntN.{ℤ, pos, negsuc}
-use borrow.Author.Tests.{ltb-true, ltb-false, le-ltb}
+use Rattle.integers.proofs.Prelude.{_≡_, refl, _∙_, Bool, true, false, ℕ, _-_, min, arith, ltb, ℤ, pos, negsuc, ltb-true, ltb-false, le-ltb}
 use Rattle.integers.specs.Integers.{pick}
 use Rattle.integers.proofs.Laws.{up, down}
 use Rattle.framebuffer.specs.Areas.{clamped}

@@ -1,15 +1,7 @@
 -- From signed columns and rows to the visible part of a row. Assumes nothing.
-use mathlib.Core.Path.{_≡_, subst}
-use mathlib.Core.List.{List}
-use Prim.Native.Nat.{ℕ, suc, _-_, _≤_}
-use native.Mathlib.Nat.{mul-le-mul-right, mul-le-mul, mul-comm}
-use native.Mathlib.Omega.{arith}
+use Rattle.integers.proofs.Prelude.{_≡_, subst, List, ℕ, suc, _-_, _≤_, mul-le-mul-right, mul-le-mul, mul-comm, arith, ℤ, pos, natAbs, _+ℤ_, _-ℤ_}
+use Rattle.integers.proofs.Prelude.{_≤ℤ_, _<ℤ_, length, w32, SFits}
 use borrow.Rule.Slice.PartMut.{midOf}
-use lib.IntN.{ℤ, pos, natAbs, _+ℤ_, _-ℤ_}
-use lib.ListN.{length}
-use lib.Signed.{_≤ℤ_, _<ℤ_}
-use mir.Syntax.{w32}
-use mir.Val.{SFits}
 use Rattle.integers.specs.Integers.{minZ, maxZ}
 use Rattle.integers.proofs.Laws.{zarith, up, down, plus, minus, min-is, max-is, whole}
 use Rattle.definitions.specs.Vocabulary.{FontColor}

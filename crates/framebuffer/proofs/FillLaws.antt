@@ -1,13 +1,6 @@
 -- A filled rectangle, row by row, and cut to the framebuffer. Assumes nothing.
-use mathlib.Core.Path.{_≡_, refl, sym, ap, _∙_}
-use mathlib.Core.Bool.{Bool, true, false}
-use mathlib.Core.List.{List}
-use Prim.Native.Nat.{ℕ, _+_, _-_, _≤_, _<_}
-use native.Mathlib.Nat.{mul-le-mul-right, mul-le-mul, mul-comm, zero-mul, zero-add}
-use native.Mathlib.Decide.{decLt}
-use native.Mathlib.Omega.{arith}
-use lib.IntN.{ℤ, pos, natAbs, _-ℤ_}
-use lib.ListN.{length, getD}
+use Rattle.integers.proofs.Prelude.{_≡_, refl, sym, ap, _∙_, Bool, true, false, List, ℕ, _+_, _-_, _≤_, _<_, mul-le-mul-right, mul-le-mul, mul-comm}
+use Rattle.integers.proofs.Prelude.{zero-mul, zero-add, decLt, arith, ℤ, pos, natAbs, _-ℤ_, length, getD}
 use Rattle.integers.specs.Integers.{pick}
 use Rattle.integers.proofs.Laws.{zarith, plus, minus, size}
 use Rattle.definitions.specs.Vocabulary.{Some, Rectangle, Transparent}

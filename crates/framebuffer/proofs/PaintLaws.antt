@@ -1,7 +1,5 @@
 -- A bit drawn on a byte, by the colour and the bit. Assumes nothing.
-use mathlib.Core.Path.{_≡_}
-use Prim.Native.Nat.{ℕ}
-use borrow.Author.Tests.{ne-eqb}
+use Rattle.integers.proofs.Prelude.{_≡_, ℕ, ne-eqb}
 use Rattle.definitions.specs.Vocabulary.{FontColor, Transparent, WithBackground}
 use Rattle.definitions.specs.Picture.{paintOf}
 use Rattle.definitions.specs.Framebuffer.{over}

@@ -1,12 +1,6 @@
 -- A row that is written one pixel after the other: those before i are painted, the others are as they were. Assumes nothing.
-use mathlib.Core.Path.{_≡_, sym, _∙_}
-use mathlib.Core.List.{List, _++_, append-assoc, append-nil}
-use Prim.Native.Nat.{ℕ, suc, _+_, _≤_, _<_}
-use native.Mathlib.Nat.{zero-add}
-use native.Mathlib.Numerals.{add-one}
-use native.Mathlib.Omega.{arith}
-use lib.ListN.{length, getD, take, drop, set, drop-of-length-le}
-use lib.Seq.{take-all, take-suc, drop-cons, length-take-le, set-at, getD-at}
+use Rattle.integers.proofs.Prelude.{_≡_, sym, _∙_, List, _++_, append-assoc, append-nil, ℕ, suc, _+_, _≤_, _<_, zero-add, add-one, arith, length}
+use Rattle.integers.proofs.Prelude.{getD, take, drop, set, drop-of-length-le, take-all, take-suc, drop-cons, length-take-le, set-at, getD-at}
 use Rattle.definitions.specs.Vocabulary.{FontColor}
 use Rattle.definitions.specs.Picture.{paintOf}
 use Rattle.definitions.specs.Framebuffer.{over}

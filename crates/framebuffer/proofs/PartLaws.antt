@@ -1,17 +1,9 @@
 -- A row of a glyph on the framebuffer: what lies off it is dropped; and writing the visible bits on the part that they cover is
 -- showing the row's picture. Assumes nothing.
-use mathlib.Core.Path.{_≡_, refl, sym, ap, subst, _∙_}
-use mathlib.Core.List.{List, _++_}
-use mathlib.Core.Bool.{Bool, true, false}
-use Prim.Native.Nat.{ℕ, _+_, _-_, _*_, _≤_, _<_}
-use native.Mathlib.Nat.{mul-le-mul-right, zero-mul, zero-add}
-use native.Mathlib.Decide.{decLt}
-use native.Mathlib.Omega.{arith}
+use Rattle.integers.proofs.Prelude.{_≡_, refl, sym, ap, subst, _∙_, Bool, true, false, List, _++_, ℕ, _+_, _-_, _*_, _≤_, _<_, mul-le-mul-right}
+use Rattle.integers.proofs.Prelude.{zero-mul, zero-add, decLt, arith, ℤ, pos, natAbs, _+ℤ_, _-ℤ_, _≤ℤ_, _<ℤ_, length, getD, take, drop, length-drop}
+use Rattle.integers.proofs.Prelude.{List·getD-append, length-take-le, getD-append-add, getD-take, getD-drop}
 use borrow.Rule.Slice.PartMut.{midOf, putMid, same-len-mid}
-use lib.IntN.{ℤ, pos, natAbs, _+ℤ_, _-ℤ_}
-use lib.ListN.{length, getD, take, drop, length-drop, List·getD-append}
-use lib.Seq.{length-take-le, getD-append-add, getD-take, getD-drop}
-use lib.Signed.{_≤ℤ_, _<ℤ_}
 use Rattle.integers.specs.Integers.{minZ, maxZ}
 use Rattle.integers.proofs.Laws.{zarith, plus, minus, size, min-is, max-is}
 use Rattle.definitions.specs.Vocabulary.{Rectangle, FontColor}

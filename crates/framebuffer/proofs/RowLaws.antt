@@ -1,13 +1,6 @@
 -- Drawing the rows of a rectangle one after the other is drawing the rectangle. Assumes nothing.
-use mathlib.Core.Path.{_≡_, refl, sym, ap, _∙_}
-use mathlib.Core.Bool.{Bool, true, false}
-use mathlib.Core.List.{List}
-use Prim.Native.Nat.{ℕ, _+_, _*_, _≤_, _<_}
-use native.Mathlib.Nat.{mul-le-mul-right, mul-comm, zero-mul, zero-add}
-use native.Mathlib.Decide.{decLt}
-use native.Mathlib.Omega.{arith}
-use lib.IntN.{ℤ, pos, natAbs, _+ℤ_, _-ℤ_}
-use lib.ListN.{length, getD}
+use Rattle.integers.proofs.Prelude.{_≡_, refl, sym, ap, _∙_, Bool, true, false, List, ℕ, _+_, _*_, _≤_, _<_, mul-le-mul-right, mul-comm, zero-mul}
+use Rattle.integers.proofs.Prelude.{zero-add, decLt, arith, ℤ, pos, natAbs, _+ℤ_, _-ℤ_, length, getD}
 use Rattle.integers.proofs.Choices.{impossible}
 use Rattle.integers.proofs.Laws.{zarith, plus, minus, size}
 use Rattle.definitions.specs.Vocabulary.{Rectangle, FontColor}

@@ -1,9 +1,5 @@
 -- A glyph's fields one by one: what is left of the definition after each read, and where the next one begins. Assumes nothing.
-use mathlib.Core.Path.{_≡_}
-use mathlib.Core.List.{List}
-use Prim.Native.Nat.{ℕ, _+_, _*_, _<_}
-use lib.IntN.{ℤ}
-use lib.ListN.{length}
+use Rattle.integers.proofs.Prelude.{_≡_, List, ℕ, _+_, _*_, _<_, ℤ, length}
 use Rattle.definitions.specs.Vocabulary.{FontReader, GlyphReader}
 use Rattle.definitions.specs.Refusals.{Outcome, success, refused}
 use Rattle.definitions.specs.Bits.{readAt, biased}

@@ -1,13 +1,7 @@
 -- The width's power of two as the code has it, and what the answers of the bit reader say of the read. Assumes nothing.
-use mathlib.Core.Path.{_≡_, refl, ap, _∙_}
-use Prim.Native.Nat.{ℕ, _+_, _-_, _*_, _%_, _^_, _≤_, _<_}
-use native.Mathlib.Nat.{one-mul, mod-lt, lt-of-lt-of-le}
-use native.Mathlib.Omega.{arith}
-use lib.IntN.{ℤ, pos, _-ℤ_}
+use Rattle.integers.proofs.Prelude.{_≡_, refl, ap, _∙_, ℕ, _+_, _-_, _*_, _%_, _^_, _≤_, _<_, one-mul, mod-lt, lt-of-lt-of-le, arith, ℤ, pos, _-ℤ_}
+use Rattle.integers.proofs.Prelude.{w8, w32, Fits, SFits, toZ, ofZ, toZ-ofZ, toZ-pos}
 use lib.Pow.{pow-pos, pow-mono, shl-exact}
-use mir.Syntax.{w8, w32}
-use mir.Val.{Fits, SFits, toZ, ofZ}
-use mir.Facts.{toZ-ofZ, toZ-pos}
 use Rattle.integers.proofs.Choices.{impossible}
 use Rattle.integers.proofs.Laws.{zarith, minus, range}
 use Rattle.definitions.specs.Bits.{Read, got, ends, biased}

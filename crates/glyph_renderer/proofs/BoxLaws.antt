@@ -1,16 +1,6 @@
 -- A glyph's box on the framebuffer: its visible rows show all that it shows. Assumes nothing.
-use mathlib.Core.Path.{_≡_, refl, sym, ap, _∙_}
-use mathlib.Core.Bool.{Bool, true, false, _&&_, _||_}
-use mathlib.Core.List.{List}
-use Prim.Native.Nat.{ℕ, _+_, _*_, _≤_, _<_}
-use native.Mathlib.Nat.{mul-le-mul-right, mul-comm}
-use native.Mathlib.Decide.{decLt}
-use native.Mathlib.Omega.{arith}
-use lib.Dec.{eqb}
-use lib.IntN.{ℤ, pos, natAbs, _+ℤ_, _-ℤ_}
-use lib.ListN.{length, getD}
-use lib.Signed.{ltZ, leZ}
-use borrow.Author.Tests.{eqb-false}
+use Rattle.integers.proofs.Prelude.{_≡_, refl, sym, ap, _∙_, Bool, true, false, _&&_, _||_, List, ℕ, _+_, _*_, _≤_, _<_, mul-le-mul-right, mul-comm}
+use Rattle.integers.proofs.Prelude.{decLt, arith, eqb, ℤ, pos, natAbs, _+ℤ_, _-ℤ_, ltZ, leZ, length, getD, eqb-false}
 use Rattle.integers.proofs.Choices.{impossible}
 use Rattle.integers.specs.Integers.{pick}
 use Rattle.integers.proofs.Laws.{zarith, plus}

@@ -1,16 +1,7 @@
 -- The rows of a glyph on the framebuffer, collected from its runs and drawn one after the other. Assumes nothing.
-use mathlib.Core.Path.{_≡_, sym, ap, subst, _∙_}
-use mathlib.Core.List.{List}
-use Prim.Native.Nat.{ℕ, _+_, _-_, _*_, _^_, _≤_, _<_}
-use native.Mathlib.Nat.{mul-le-mul-right, mul-comm}
-use native.Mathlib.Omega.{arith}
-use lib.Dec.{ltb}
-use lib.IntN.{ℤ, pos, _+ℤ_}
-use lib.ListN.{length, getD, set, take, length-set}
-use lib.Seq.{getD-set-same, getD-set-other, getD-take, length-take-le}
-use mir.Syntax.{w32}
-use mir.Val.{SFits, toZ, ofZ}
-use mir.Facts.{toZ-ofZ, toZ-pos}
+use Rattle.integers.proofs.Prelude.{_≡_, sym, ap, subst, _∙_, List, ℕ, _+_, _-_, _*_, _^_, _≤_, _<_, mul-le-mul-right, mul-comm, arith, ltb, ℤ, pos}
+use Rattle.integers.proofs.Prelude.{_+ℤ_, length, getD, set, take, length-set, getD-set-same, getD-set-other, getD-take, length-take-le, w32, SFits}
+use Rattle.integers.proofs.Prelude.{toZ, ofZ, toZ-ofZ, toZ-pos}
 use borrow.Author.Count.{below-more}
 use Rattle.integers.specs.Integers.{pick}
 use Rattle.integers.proofs.Laws.{zarith, plus}

@@ -1,10 +1,5 @@
 -- The visible rows of a glyph: no row before the first and none from `past` on lies on the framebuffer. Assumes nothing.
-use Prim.Native.Nat.{ℕ, _≤_, _<_}
-use native.Mathlib.Omega.{arith}
-use lib.IntN.{ℤ, pos, _+ℤ_, _-ℤ_}
-use lib.Signed.{_≤ℤ_, _<ℤ_}
-use mir.Syntax.{w32, w64}
-use mir.Val.{SFits}
+use Rattle.integers.proofs.Prelude.{ℕ, _≤_, _<_, arith, ℤ, pos, _+ℤ_, _-ℤ_, _≤ℤ_, _<ℤ_, w32, w64, SFits}
 use Rattle.integers.proofs.Laws.{zarith, plus, minus}
 use Rattle.framebuffer.specs.Areas.{clamped}
 use Rattle.framebuffer.proofs.ClampLaws.{clamped-is}

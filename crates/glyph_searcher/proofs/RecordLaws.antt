@@ -1,12 +1,6 @@
 -- What a record comes to in the chain, whichever the width of its code. Assumes nothing.
-use mathlib.Core.Path.{_≡_, sym, ap, _∙_}
-use mathlib.Core.Bool.{Bool, true, false}
-use mathlib.Core.List.{List, []}
-use Prim.Native.Nat.{ℕ, zero, suc, _+_, _≤_, _<_}
-use native.Mathlib.Decide.{decLt}
-use native.Mathlib.Omega.{arith}
-use lib.Dec.{eqb}
-use lib.ListN.{length, drop, drop-of-length-le}
+use Rattle.integers.proofs.Prelude.{_≡_, sym, ap, _∙_, Bool, true, false, List, [], ℕ, zero, suc, _+_, _≤_, _<_, decLt, arith, eqb, length, drop}
+use Rattle.integers.proofs.Prelude.{drop-of-length-le}
 use Rattle.integers.specs.Integers.{pick}
 use Rattle.integers.proofs.Choices.{impossible}
 use Rattle.definitions.specs.Lookup.{Record, next, cut, record8, record16, follow, chain}

@@ -1,13 +1,6 @@
 -- One step of the walk over the jump table, in the terms of the code: what a test shows of the definition. Assumes nothing.
-use mathlib.Core.Path.{_≡_, refl, _∙_}
-use mathlib.Core.Bool.{Bool, true, false}
-use mathlib.Core.List.{List}
-use native.Mathlib.Decide.{decLt}
-use native.Mathlib.Omega.{arith}
-use Prim.Native.Nat.{ℕ, _+_, _≤_, _<_}
-use borrow.Author.Tests.{lt-ltb, le-ltb, eq-eqb, ne-eqb, eqb-true, eqb-false}
-use lib.Dec.{eqb}
-use lib.ListN.{length, drop, length-drop}
+use Rattle.integers.proofs.Prelude.{_≡_, refl, _∙_, Bool, true, false, List, ℕ, _+_, _≤_, _<_, decLt, arith, eqb, length, drop, length-drop, lt-ltb}
+use Rattle.integers.proofs.Prelude.{le-ltb, eq-eqb, ne-eqb, eqb-true, eqb-false}
 use Rattle.integers.specs.Integers.{pick}
 use Rattle.definitions.specs.Header.{byte, bigEndian16}
 use Rattle.definitions.specs.Lookup.{sum, none, jumpTable}

@@ -1,10 +1,5 @@
 -- Causes 3 and 6: the sides of a framebuffer within the limits, and that the header tells of the colour. Assumes nothing.
-use mathlib.Core.Path.{_≡_, ap}
-use mathlib.Core.Bool.{false}
-use mathlib.Core.List.{List}
-use Prim.Native.Nat.{ℕ, _≤_}
-use native.Mathlib.Omega.{arith}
-use borrow.Author.Tests.{ltb-false, eqb-false}
+use Rattle.integers.proofs.Prelude.{_≡_, ap, false, List, ℕ, _≤_, arith, ltb-false, eqb-false}
 use Rattle.definitions.specs.Vocabulary.{FontReader, FontColor}
 use Rattle.definitions.specs.Header.{Opened}
 use Rattle.definitions.specs.Font.{u8g2}

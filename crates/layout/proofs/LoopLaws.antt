@@ -1,11 +1,7 @@
 -- A loop over the characters of a text, whatever it carries along: what holds after `at` bytes, and one turn of it.
 -- `from s cs` is what the code points cs come to from the state s on, and `fits at rest s` what the loop knows of the numbers
 -- in s. Assumes nothing.
-use mathlib.Core.Path.{_≡_, refl, sym, ap, subst, _∙_}
-use mathlib.Core.List.{List, [], _∷_}
-use Prim.Native.Nat.{ℕ, _+_, _≤_}
-use native.Mathlib.Omega.{arith}
-use lib.ListN.{length, drop}
+use Rattle.integers.proofs.Prelude.{_≡_, refl, sym, ap, subst, _∙_, List, [], _∷_, ℕ, _+_, _≤_, arith, length, drop}
 use Rattle.definitions.specs.Utf8.{character, firstCharacter, characters, decode, codePoints}
 use Rattle.definitions.proofs.Utf8Laws.{position, next, at-end}
 

@@ -1,12 +1,6 @@
 -- The letters of a text, and a loop that counts them as plain measuring does (drawing's): what holds after `at` bytes, and one
 -- turn of it. Assumes nothing.
-use mathlib.Core.Path.{_≡_}
-use mathlib.Core.Bool.{Bool, true, false, _&&_}
-use mathlib.Core.List.{List}
-use Prim.Native.Nat.{ℕ, _+_, _≤_}
-use native.Mathlib.Omega.{arith}
-use lib.Dec.{eqb}
-use lib.ListN.{length, drop}
+use Rattle.integers.proofs.Prelude.{_≡_, Bool, true, false, _&&_, List, ℕ, _+_, _≤_, arith, eqb, length, drop}
 use Rattle.integers.proofs.Choices.{impossible}
 use Rattle.integers.specs.Integers.{pick}
 use Rattle.definitions.specs.Vocabulary.{FontReader, Point, RenderedDimensions, GlyphReader}

@@ -1,16 +1,7 @@
 -- Causes 4 and 5 and the origin of a text: what a call within these limits may count on, and what a call that is refused
 -- comes to. Assumes nothing.
-use mathlib.Core.Path.{_≡_, refl, sym, ap, subst, _∙_}
-use mathlib.Core.Bool.{Bool, true, false, not}
-use mathlib.Core.List.{List, [], _∷_}
-use Prim.Native.Nat.{ℕ, _*_, _≤_}
-use native.Mathlib.Omega.{arith}
-use lib.IntN.{ℤ, pos, negsuc}
-use lib.ListN.{length}
-use lib.Signed.{ltZ, _≤ℤ_}
-use mir.Syntax.{w8}
-use mir.Val.{SFits}
-use borrow.Author.Tests.{ltb-false}
+use Rattle.integers.proofs.Prelude.{_≡_, refl, sym, ap, subst, _∙_, Bool, true, false, not, List, [], _∷_, ℕ, _*_, _≤_, arith, ℤ, pos, negsuc, ltZ}
+use Rattle.integers.proofs.Prelude.{_≤ℤ_, length, w8, SFits, ltb-false}
 use Rattle.integers.proofs.Laws.{zarith, plus}
 use Rattle.integers.proofs.Choices.{impossible}
 use Rattle.definitions.specs.Vocabulary.{FontReader, Point, VerticalPosition}

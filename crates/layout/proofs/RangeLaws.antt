@@ -1,16 +1,6 @@
 -- The ranges of measuring: every number of a checked text stays near 0. Assumes nothing.
-use mathlib.Core.Path.{_≡_, refl, subst}
-use mathlib.Core.Bool.{Bool, true, false, _||_}
-use mathlib.Core.List.{List, [], _∷_}
-use Prim.Native.Nat.{ℕ, _+_, _*_, _≤_}
-use native.Mathlib.Nat.{mul-le-mul, zero-add}
-use native.Mathlib.Omega.{arith}
-use lib.Dec.{eqb}
-use lib.IntN.{ℤ, pos, negsuc, negℤ, _+ℤ_, _-ℤ_}
-use lib.ListN.{length}
-use lib.Signed.{_≤ℤ_}
-use mir.Syntax.{w8, w32}
-use mir.Val.{SFits}
+use Rattle.integers.proofs.Prelude.{_≡_, refl, subst, Bool, true, false, _||_, List, [], _∷_, ℕ, _+_, _*_, _≤_, mul-le-mul, zero-add, arith, eqb, ℤ}
+use Rattle.integers.proofs.Prelude.{pos, negsuc, negℤ, _+ℤ_, _-ℤ_, _≤ℤ_, length, w8, w32, SFits}
 use Rattle.integers.proofs.Choices.{impossible}
 use Rattle.integers.specs.Integers.{pick}
 use Rattle.integers.proofs.Laws.{zarith, plus, minus, neg, range}

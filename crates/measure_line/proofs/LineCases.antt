@@ -1,7 +1,5 @@
 -- Document 01, the measuring program's examples: one table of what `measuringLine` gives and what 01 says, computed.
-use mathlib.Core.Path.{_≡_, refl}
-use mathlib.Core.List.{List, [], _∷_, map}
-use Prim.Native.Nat.{ℕ}
+use Rattle.integers.proofs.Prelude.{_≡_, refl, List, [], _∷_, map, ℕ}
 use Rattle.integers.specs.Integers.{signed8}
 use Rattle.definitions.specs.Header.{header, headerOff}
 use Rattle.definitions.specs.Bits.{lowBits, bits, number, readAt}

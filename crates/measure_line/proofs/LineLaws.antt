@@ -1,11 +1,5 @@
 -- Laws of the measuring program's line: its words, as the definition brackets them; and what the program measures. Assumes nothing.
-use mathlib.Core.Path.{_≡_}
-use mathlib.Core.Bool.{false}
-use mathlib.Core.List.{List, [], _++_, append-assoc, append-nil}
-use Prim.Native.Nat.{ℕ, _≤_, _<_}
-use borrow.Author.Tests.{lt-ltb, le-ltb}
-use lib.IntN.{pos}
-use lib.ListN.{length}
+use Rattle.integers.proofs.Prelude.{_≡_, false, List, [], _++_, append-assoc, append-nil, ℕ, _≤_, _<_, pos, length, lt-ltb, le-ltb}
 use Rattle.definitions.specs.Vocabulary.{FontReader}
 use Rattle.types.specs.declared.style.VerticalPosition.the-variants.{Baseline}
 use Rattle.definitions.specs.Refusals.{success, refused}

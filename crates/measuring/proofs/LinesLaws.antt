@@ -1,15 +1,7 @@
 -- The ranges of measuring line by line: a line, counted from its own start, stays near 0, and so does the place to which it is moved.
 -- Assumes nothing.
-use mathlib.Core.Path.{_≡_, refl, subst}
-use mathlib.Core.Bool.{Bool, true, false}
-use mathlib.Core.List.{List, _∷_}
-use Prim.Native.Nat.{ℕ, _+_, _/_, _≤_}
-use native.Mathlib.Omega.{arith}
-use lib.Dec.{eqb}
-use lib.IntN.{ℤ, pos, negsuc, _+ℤ_, _-ℤ_}
-use lib.Signed.{_≤ℤ_}
-use mir.Syntax.{w32}
-use mir.Val.{SFits}
+use Rattle.integers.proofs.Prelude.{_≡_, refl, subst, Bool, true, false, List, _∷_, ℕ, _+_, _/_, _≤_, arith, eqb, ℤ, pos, negsuc, _+ℤ_, _-ℤ_, _≤ℤ_}
+use Rattle.integers.proofs.Prelude.{w32, SFits}
 use Rattle.integers.proofs.Choices.{impossible}
 use Rattle.integers.specs.Integers.{pick, minZ}
 use Rattle.integers.proofs.Laws.{zarith, plus, minus, neg, min-is, max-is}

@@ -1,16 +1,7 @@
 -- A number's decimal digits: the bound on the recursion decides nothing, and the digits are those of the number and no others.
 -- Then signs. Assumes nothing.
-use mathlib.Core.Path.{_≡_, refl, ap, _∙_}
-use mathlib.Core.Bool.{Bool, true, false}
-use mathlib.Core.List.{List, [], _∷_, _++_}
-use Prim.Native.Nat.{ℕ, zero, suc, _+_, _-_, _*_, _/_, _%_, _≤_, _<_}
-use native.Mathlib.Decide.{decLt}
-use native.Mathlib.Omega.{arith}
-use borrow.Author.Tests.{ltb-true, ltb-false, lt-ltb, le-ltb}
-use lib.Dec.{ltb}
-use lib.IntN.{ℤ, pos, negsuc, natAbs}
-use lib.ListN.{length, getD, length-append}
-use lib.Signed.{ltZ}
+use Rattle.integers.proofs.Prelude.{_≡_, refl, ap, _∙_, Bool, true, false, List, [], _∷_, _++_, ℕ, zero, suc, _+_, _-_, _*_, _/_, _%_, _≤_, _<_}
+use Rattle.integers.proofs.Prelude.{decLt, arith, ltb, ℤ, pos, negsuc, natAbs, ltZ, length, getD, length-append, ltb-true, ltb-false, lt-ltb, le-ltb}
 use Rattle.integers.specs.Integers.{pick}
 use Rattle.integers.proofs.Laws.{zarith, ltZ-false}
 use Rattle.numbers.specs.Decimal.{decimalFrom, decimal, signedDecimal}

@@ -1,10 +1,6 @@
 -- The digits that `io::decimal` writes, the fewest that hold the number, are the definition's.
-use mathlib.Core.Path.{_≡_}
-use Prim.Native.Nat.{ℕ, zero, suc, _+_, _-_, _/_, _%_, _^_, _≤_, _<_}
-use native.Mathlib.Nat.{mod-eq-of-lt, pow-suc, pow-le-pow-right}
-use native.Mathlib.Decide.{decLt}
-use native.Mathlib.Omega.{arith}
-use borrow.Author.Tests.{lt-ltb}
+use Rattle.integers.proofs.Prelude.{_≡_, ℕ, zero, suc, _+_, _-_, _/_, _%_, _^_, _≤_, _<_, mod-eq-of-lt, pow-suc, pow-le-pow-right, decLt, arith}
+use Rattle.integers.proofs.Prelude.{lt-ltb}
 use Rattle.io.specs.Digits.{glyph, digits, Fewest}
 use Rattle.numbers.specs.Decimal.{decimal}
 use Rattle.numbers.proofs.DecimalLaws.{decimal-small, decimal-more}

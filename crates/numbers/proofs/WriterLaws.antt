@@ -1,11 +1,6 @@
 -- Laws of a line that is written piece by piece.
-use mathlib.Core.Path.{_≡_, sym, ap, subst, _∙_}
-use mathlib.Core.List.{List, _++_, append-assoc}
-use Prim.Native.Nat.{ℕ, _+_, _≤_, _<_}
-use native.Mathlib.Numerals.{add-one}
-use native.Mathlib.Omega.{arith}
-use lib.ListN.{length, take, drop, getD, set, length-append}
-use lib.Seq.{take-at, drop-at, drop-drop, take-length, length-take-le, paste, paste-suc}
+use Rattle.integers.proofs.Prelude.{_≡_, sym, ap, subst, _∙_, List, _++_, append-assoc, ℕ, _+_, _≤_, _<_, add-one, arith, length, take, drop, getD}
+use Rattle.integers.proofs.Prelude.{set, length-append, take-at, drop-at, drop-drop, take-length, length-take-le, paste, paste-suc}
 use Rattle.io.specs.Counts.{Counts}
 use Rattle.io.proofs.Counting.{counts}
 use Rattle.numbers.specs.Written.{Written}

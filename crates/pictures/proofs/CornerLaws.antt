@@ -1,10 +1,5 @@
 -- Drawing at the opposite of the corner of a text's box: the call is the definition's, and all of the text is seen. Assumes nothing.
-use mathlib.Core.Path.{_≡_, sym, subst, _∙_}
-use mathlib.Core.Bool.{false}
-use mathlib.Core.List.{List}
-use Prim.Native.Nat.{ℕ, _≤_}
-use lib.IntN.{ℤ, pos, _-ℤ_}
-use lib.ListN.{length}
+use Rattle.integers.proofs.Prelude.{_≡_, sym, subst, _∙_, false, List, ℕ, _≤_, ℤ, pos, _-ℤ_, length}
 use Rattle.definitions.specs.Vocabulary.{Point, Rectangle, RenderedDimensions, FontColor}
 use Rattle.definitions.specs.Refusals.{Outcome, success}
 use Rattle.definitions.specs.Geometry.{left, top}

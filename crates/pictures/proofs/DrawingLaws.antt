@@ -1,14 +1,6 @@
 -- What each step of drawing a text on a framebuffer of its own comes to. Assumes nothing.
-use mathlib.Core.Path.{_≡_, refl, sym, ap, subst, _∙_}
-use mathlib.Core.Bool.{false}
-use mathlib.Core.List.{List, [], _∷_, _++_}
-use Prim.Native.Nat.{ℕ, _+_, _*_, _≤_, _<_}
-use native.Mathlib.Nat.{mul-le-mul}
-use native.Mathlib.Omega.{arith}
-use lib.IntN.{pos, natAbs, _+ℤ_}
-use lib.ListN.{length, getD, take, drop}
-use lib.Seq.{length-take-le}
-use lib.Signed.{_≤ℤ_}
+use Rattle.integers.proofs.Prelude.{_≡_, refl, sym, ap, subst, _∙_, false, List, [], _∷_, _++_, ℕ, _+_, _*_, _≤_, _<_, mul-le-mul, arith, pos, natAbs}
+use Rattle.integers.proofs.Prelude.{_+ℤ_, _≤ℤ_, length, getD, take, drop, length-take-le}
 use Rattle.integers.specs.Integers.{signed8}
 use Rattle.integers.proofs.Laws.{zarith, plus, range, size, signed8-fits}
 use Rattle.definitions.specs.Vocabulary.{FontReader, BoundingBox, Some, Point, Rectangle, RenderedDimensions, FontColor}

@@ -1,16 +1,8 @@
 -- A text that is measured at (0, 0) and drawn at the opposite of its box's corner is seen whole (Whole.antt): the box's corner is
 -- within 01's limits for places, the box has a pixel, and drawing comes to what measuring does, moved. Assumes nothing.
-use mathlib.Core.Path.{_≡_, refl, sym, ap, subst, _∙_}
-use mathlib.Core.Logic.{_⊎_, inl, inr}
-use mathlib.Core.Bool.{Bool, true, false, _||_, not}
-use mathlib.Core.List.{List, [], _∷_}
-use Prim.Native.Nat.{ℕ, _+_, _*_, _≤_}
-use native.Mathlib.Omega.{arith}
-use lib.Dec.{ltb, eqb}
-use lib.IntN.{ℤ, pos, negsuc, _+ℤ_, _-ℤ_}
-use lib.ListN.{length}
-use lib.Signed.{ltZ, _≤ℤ_}
-use borrow.Author.Tests.{ltb-false, eqb-false, le-ltb, ne-eqb, eq-eqb, not-false}
+use Rattle.integers.proofs.Prelude.{_≡_, refl, sym, ap, subst, _∙_, Bool, true, false, _||_, not, _⊎_, inl, inr, List, [], _∷_, ℕ, _+_, _*_, _≤_}
+use Rattle.integers.proofs.Prelude.{arith, ltb, eqb, ℤ, pos, negsuc, _+ℤ_, _-ℤ_, ltZ, _≤ℤ_, length, ltb-false, eqb-false, le-ltb, ne-eqb, eq-eqb}
+use Rattle.integers.proofs.Prelude.{not-false}
 use Rattle.integers.specs.Integers.{pick, minZ}
 use Rattle.integers.proofs.Laws.{zarith, plus, minus, min-is, max-is}
 use Rattle.definitions.specs.Vocabulary.{BoundingBox, None, Some, Point, Rectangle, RenderedDimensions, GlyphReader, FontColor}

@@ -1,10 +1,6 @@
 -- Hexadecimal digits written from the last to the first: what is left to write, then what stands at the buffer's end. Assumes nothing.
-use mathlib.Core.Path.{_≡_, sym, _∙_}
-use mathlib.Core.List.{List, [], _∷_, _++_, append-nil, append-assoc}
-use Prim.Native.Nat.{ℕ, zero, suc, _-_, _/_, _%_, _≤_, _<_}
-use native.Mathlib.Omega.{arith}
-use lib.ListN.{length, set, drop, length-set, drop-of-length-le}
-use lib.Seq.{drop-cons, getD-set-same, drop-set-lt}
+use Rattle.integers.proofs.Prelude.{_≡_, sym, _∙_, List, [], _∷_, _++_, append-nil, append-assoc, ℕ, zero, suc, _-_, _/_, _%_, _≤_, _<_, arith}
+use Rattle.integers.proofs.Prelude.{length, set, drop, length-set, drop-of-length-le, drop-cons, getD-set-same, drop-set-lt}
 use Rattle.printing.specs.CodePoints.{hexDigit, hexDigits}
 
 -- `whole` is what is left to write, and then what stands from `start` on

@@ -1,7 +1,5 @@
 -- A reading drawn on a copy of the ground. Assumes nothing.
-use mathlib.Core.Path.{_≡_, sym, ap, _∙_}
-use mathlib.Core.List.{List}
-use Prim.Native.Nat.{ℕ}
+use Rattle.integers.proofs.Prelude.{_≡_, sym, ap, _∙_, List, ℕ}
 use Rattle.definitions.specs.Vocabulary.{RenderedDimensions}
 use Rattle.definitions.specs.Refusals.{Outcome, success, refused}
 use Rattle.definitions.specs.Agreement.{on, Ground, width, height}

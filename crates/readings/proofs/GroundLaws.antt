@@ -1,14 +1,6 @@
 -- The ground, reading by reading: a cleared box is background and stays so, and beside all boxes the rubbish stays. Assumes nothing.
-use mathlib.Core.Path.{_≡_, refl, sym, ap, subst, _∙_}
-use mathlib.Core.Bool.{Bool, true, false}
-use mathlib.Core.List.{List}
-use Prim.Native.Nat.{ℕ, zero, suc, _+_, _*_, _≤_, _<_}
-use native.Mathlib.Decide.{decLt}
-use native.Mathlib.Nat.{mul-le-mul-right, mul-comm, zero-add}
-use native.Mathlib.Omega.{arith}
-use lib.IntN.{pos}
-use lib.ListN.{length, getD, replicate, length-replicate}
-use lib.Seq.{ext-getD}
+use Rattle.integers.proofs.Prelude.{_≡_, refl, sym, ap, subst, _∙_, Bool, true, false, List, ℕ, zero, suc, _+_, _*_, _≤_, _<_, mul-le-mul-right}
+use Rattle.integers.proofs.Prelude.{mul-comm, zero-add, decLt, arith, pos, length, getD, replicate, length-replicate, ext-getD}
 use Rattle.integers.proofs.Choices.{impossible}
 use Rattle.definitions.specs.Vocabulary.{BoundingBox, None, Some, RenderedDimensions}
 use Rattle.definitions.specs.Refusals.{Outcome, success, refused}

@@ -1,9 +1,5 @@
 -- The step with the fault and without it, and a box one column too narrow. Assumes nothing.
-use mathlib.Core.Path.{_≡_, refl, ap}
-use mathlib.Core.Bool.{false}
-use mathlib.Core.List.{List}
-use Prim.Native.Nat.{ℕ, _-_}
-use native.Mathlib.Omega.{arith}
+use Rattle.integers.proofs.Prelude.{_≡_, refl, ap, false, List, ℕ, _-_, arith}
 use Rattle.definitions.specs.Vocabulary.{BoundingBox, Some, Rectangle}
 use Rattle.definitions.specs.Agreement.{Ground}
 use Rattle.redraw.specs.Drawing.{Drawing}

@@ -1,13 +1,7 @@
 -- The sheet, reading by reading: each step answers as drawing the reading alone on the ground does, and without the fault the screen
 -- shows after each what it is to show. Both are the laws of the step (StepsLaws of redraw), reading by reading. Assumes nothing.
-use mathlib.Core.Path.{_≡_, refl, sym, ap, subst, _∙_}
-use mathlib.Core.Bool.{Bool, true, false}
-use mathlib.Core.List.{List, [], _∷_, _++_}
-use Prim.Native.Nat.{ℕ, zero, suc, _+_, _≤_, _<_}
-use native.Mathlib.Decide.{decLt}
-use native.Mathlib.Omega.{arith}
-use lib.Dec.{eqb}
-use lib.ListN.{length}
+use Rattle.integers.proofs.Prelude.{_≡_, refl, sym, ap, subst, _∙_, Bool, true, false, List, [], _∷_, _++_, ℕ, zero, suc, _+_, _≤_, _<_, decLt, arith}
+use Rattle.integers.proofs.Prelude.{eqb, length}
 use Rattle.integers.proofs.Choices.{impossible}
 use Rattle.integers.specs.Integers.{pick}
 use Rattle.definitions.specs.Vocabulary.{RenderedDimensions, Transparent}

@@ -1,11 +1,6 @@
 -- The part of a buffer from a byte to its end. Assumes nothing.
-use mathlib.Core.Path.{_≡_, ap, _∙_}
-use mathlib.Core.List.{List}
-use Prim.Native.Nat.{ℕ, _-_}
-use native.Mathlib.Omega.{arith}
+use Rattle.integers.proofs.Prelude.{_≡_, ap, _∙_, List, ℕ, _-_, arith, length, drop, length-drop, take-all}
 use borrow.Rule.Slice.PartMut.{midOf}
-use lib.ListN.{length, drop, length-drop}
-use lib.Seq.{take-all}
 
 pub to-the-end : (l : List ℕ) (start n : ℕ) → length l ≡ n → midOf start (n - start) l ≡ drop start l
 to-the-end l start n e = take-all (n - start) (drop start l) (omega (arith, length-drop start l))

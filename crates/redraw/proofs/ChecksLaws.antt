@@ -1,9 +1,5 @@
 -- The step's tests: what each of them leaves of the step, and what a step that passes all of them may count on. Assumes nothing.
-use mathlib.Core.Path.{_≡_, sym, ap, subst, _∙_}
-use mathlib.Core.Bool.{true, false}
-use mathlib.Core.List.{List, [], _∷_}
-use Prim.Native.Nat.{ℕ, _<_}
-use lib.ListN.{length, getD}
+use Rattle.integers.proofs.Prelude.{_≡_, sym, ap, subst, _∙_, true, false, List, [], _∷_, ℕ, _<_, length, getD}
 use Rattle.integers.proofs.Laws.{signed8-fits}
 use Rattle.definitions.specs.Vocabulary.{FontReader, Point}
 use Rattle.definitions.specs.Refusals.{Outcome, success, refused, Cause, anyApplies}

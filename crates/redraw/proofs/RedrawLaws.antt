@@ -1,15 +1,7 @@
 -- Filling the box of a reading that was drawn on the background colour brings back what the framebuffer held before: inside the
 -- box it was that colour, and outside nothing had changed, by demand 3. And what the step answers, by its causes. Assumes nothing.
-use mathlib.Core.Path.{_≡_, refl, sym, ap, subst, _∙_}
-use mathlib.Core.Bool.{Bool, true, false, _||_, not}
-use mathlib.Core.List.{List, [], _∷_, _++_}
-use mathlib.Core.Logic.{_⊎_, inl, inr}
-use Prim.Native.Nat.{ℕ, _+_, _*_, _≤_, _<_}
-use native.Mathlib.Omega.{arith}
-use borrow.Author.Tests.{eqb-false, ne-eqb}
-use lib.Dec.{eqb, ltb}
-use lib.IntN.{pos}
-use lib.ListN.{length}
+use Rattle.integers.proofs.Prelude.{_≡_, refl, sym, ap, subst, _∙_, Bool, true, false, _||_, not, _⊎_, inl, inr, List, [], _∷_, _++_, ℕ, _+_, _*_}
+use Rattle.integers.proofs.Prelude.{_≤_, _<_, arith, eqb, ltb, pos, length, eqb-false, ne-eqb}
 use Rattle.integers.proofs.Choices.{impossible}
 use Rattle.integers.specs.Integers.{pick}
 use Rattle.definitions.specs.Vocabulary.{BoundingBox, None, Some, Point, RenderedDimensions}

@@ -1,12 +1,6 @@
 -- The step on a screen that shows the old reading on a ground, and any number of steps. Assumes nothing.
-use mathlib.Core.Path.{_≡_, refl, sym, ap, subst, _∙_}
-use mathlib.Core.Bool.{Bool, true, false, _||_, not}
-use mathlib.Core.List.{List, [], _∷_, _++_, map}
-use Prim.Native.Nat.{ℕ, _*_}
-use native.Mathlib.Omega.{arith}
-use lib.Dec.{eqb}
-use lib.IntN.{pos}
-use lib.ListN.{length}
+use Rattle.integers.proofs.Prelude.{_≡_, refl, sym, ap, subst, _∙_, Bool, true, false, _||_, not, List, [], _∷_, _++_, map, ℕ, _*_, arith, eqb, pos}
+use Rattle.integers.proofs.Prelude.{length}
 use Rattle.integers.specs.Integers.{pick}
 use Rattle.definitions.specs.Vocabulary.{None, RenderedDimensions, FontColor, Transparent}
 use Rattle.definitions.specs.Refusals.{Outcome, success, refused, unlessRefused, anyApplies}

@@ -1,8 +1,5 @@
 -- What a framebuffer is that cause 3 lets pass. Assumes nothing.
-use mathlib.Core.Path.{_≡_}
-use mathlib.Core.Bool.{false}
-use Prim.Native.Nat.{ℕ}
-use borrow.Author.Tests.{eqb-true}
+use Rattle.integers.proofs.Prelude.{_≡_, false, ℕ, eqb-true}
 use Rattle.definitions.proofs.RefusalLaws.{or-false}
 use Rattle.framebuffer.specs.Areas.{BufferFits}
 use Rattle.layout.specs.Sizes.{sizeOff}

@@ -1,12 +1,6 @@
 -- The reading of runs pair by pair: where it stands after each pair, and that it gives the glyph's pixels. Assumes nothing.
-use mathlib.Core.Path.{_≡_, refl, sym, ap, _∙_}
-use mathlib.Core.Bool.{Bool, true, false}
-use mathlib.Core.List.{List, []}
-use Prim.Native.Nat.{ℕ, _+_, _-_, _*_, _≤_, _<_}
-use native.Mathlib.Omega.{arith}
-use lib.Dec.{eqb}
-use lib.ListN.{length, drop}
-use borrow.Author.Tests.{le-leb, lt-leb, eq-eqb, ne-eqb}
+use Rattle.integers.proofs.Prelude.{_≡_, refl, sym, ap, _∙_, Bool, true, false, List, [], ℕ, _+_, _-_, _*_, _≤_, _<_, arith, eqb, length, drop}
+use Rattle.integers.proofs.Prelude.{le-leb, lt-leb, eq-eqb, ne-eqb}
 use Rattle.integers.proofs.Choices.{impossible}
 use Rattle.integers.specs.Integers.{pick}
 use Rattle.definitions.specs.Vocabulary.{FontReader, GlyphReader}

@@ -1,14 +1,7 @@
 -- A reader of runs that stands at a pixel of a glyph whose runs the font has: which pixel that is, and that the reader goes
 -- on to the next pixel and to the next pair. Assumes nothing.
-use mathlib.Core.Path.{_≡_, refl, sym, ap, subst, _∙_}
-use mathlib.Core.Bool.{true}
-use mathlib.Core.List.{List}
-use Prim.Native.Nat.{ℕ, _+_, _-_, _*_, _≤_, _<_}
-use native.Mathlib.Nat.{sub-zero}
-use native.Mathlib.Omega.{arith}
-use lib.Dec.{ltb}
-use lib.ListN.{getD, drop}
-use lib.Seq.{getD-drop, drop-drop}
+use Rattle.integers.proofs.Prelude.{_≡_, refl, sym, ap, subst, _∙_, true, List, ℕ, _+_, _-_, _*_, _≤_, _<_, sub-zero, arith, ltb, getD, drop}
+use Rattle.integers.proofs.Prelude.{getD-drop, drop-drop}
 use Rattle.integers.proofs.Choices.{impossible}
 use Rattle.integers.specs.Integers.{pick}
 use Rattle.definitions.specs.Vocabulary.{FontReader, GlyphReader}

@@ -1,15 +1,6 @@
 -- The edges of all readings: each reading lies between them, and so on the framebuffer that is made for them. Assumes nothing.
-use mathlib.Core.Path.{_≡_, refl, sym, ap, subst, _∙_}
-use mathlib.Core.Bool.{true, false}
-use mathlib.Core.List.{List}
-use Prim.Native.Nat.{ℕ, zero, suc, _+_, _-_, _≤_, _<_, _^_, min, max}
-use native.Mathlib.Decide.{decLt}
-use native.Mathlib.Omega.{arith}
-use lib.IntN.{ℤ, pos, negsuc, natAbs, _+ℤ_, _-ℤ_}
-use lib.Signed.{mag, ltZ, _≤ℤ_, _<ℤ_}
-use mir.Syntax.{w32, w64}
-use mir.Val.{SFits, hbits, toZ, ofZ}
-use mir.Facts.{toZ-ofZ}
+use Rattle.integers.proofs.Prelude.{_≡_, refl, sym, ap, subst, _∙_, true, false, List, ℕ, zero, suc, _+_, _-_, _≤_, _<_, _^_, min, max, decLt, arith}
+use Rattle.integers.proofs.Prelude.{ℤ, pos, negsuc, natAbs, _+ℤ_, _-ℤ_, mag, ltZ, _≤ℤ_, _<ℤ_, w32, w64, SFits, hbits, toZ, ofZ, toZ-ofZ}
 use Rattle.integers.proofs.Choices.{impossible}
 use Rattle.integers.specs.Integers.{minZ, maxZ}
 use Rattle.integers.proofs.Laws.{zarith, up, down, plus, minus, size, min-is, max-is, range, stored}

@@ -1,15 +1,7 @@
 -- A cell copied into the band row by row, and where its rows lie. Assumes nothing.
-use mathlib.Core.Path.{_≡_, refl, sym, ap, subst, _∙_}
-use mathlib.Core.Bool.{Bool, true, false}
-use mathlib.Core.List.{List}
-use Prim.Native.Nat.{ℕ, _+_, _-_, _*_, _/_, _≤_, _<_}
-use native.Mathlib.Decide.{decLt}
-use native.Mathlib.Nat.{mod-lt, mul-assoc, mul-le-mul-right, mul-le-mul, mul-comm, div-add-mod'}
-use native.Mathlib.Omega.{arith}
-use borrow.Author.Tests.{eq-eqb, ne-eqb, lt-ltb, le-ltb}
-use lib.IntN.{pos, natAbs, _-ℤ_}
-use lib.ListN.{length, getD, set, replicate, length-set}
-use lib.Seq.{getD-set-same, getD-set-other}
+use Rattle.integers.proofs.Prelude.{_≡_, refl, sym, ap, subst, _∙_, Bool, true, false, List, ℕ, _+_, _-_, _*_, _/_, _≤_, _<_, mod-lt, mul-assoc}
+use Rattle.integers.proofs.Prelude.{mul-le-mul-right, mul-le-mul, mul-comm, div-add-mod', decLt, arith, pos, natAbs, _-ℤ_, length, getD, set}
+use Rattle.integers.proofs.Prelude.{replicate, length-set, getD-set-same, getD-set-other, eq-eqb, ne-eqb, lt-ltb, le-ltb}
 use Rattle.integers.specs.Integers.{pick}
 use Rattle.integers.proofs.Laws.{zarith, minus, size}
 use Rattle.definitions.specs.Geometry.{Inside}

@@ -1,11 +1,6 @@
 -- The sheet's framebuffers, its band and its image fit. Assumes nothing.
-use mathlib.Core.Path.{_≡_, sym, ap, _∙_}
-use mathlib.Core.List.{List}
-use Prim.Native.Nat.{ℕ, _+_, _-_, _*_, _/_, _≤_, _<_}
-use native.Mathlib.Nat.{div-le-self, mul-le-mul}
-use native.Mathlib.Omega.{arith}
-use lib.ListN.{length, take}
-use lib.Seq.{length-take-le}
+use Rattle.integers.proofs.Prelude.{_≡_, sym, ap, _∙_, List, ℕ, _+_, _-_, _*_, _/_, _≤_, _<_, div-le-self, mul-le-mul, arith, length, take}
+use Rattle.integers.proofs.Prelude.{length-take-le}
 use Rattle.sheet_image.specs.Grid.{BandFits}
 use Rattle.readings.specs.Readings.{PlaceFits}
 use Rattle.sheet_program.specs.Sheets.{SheetFits}

@@ -1,12 +1,5 @@
 -- Every sum of `span_length` fits an i32 where the spans are in reach. Assumes nothing.
-use mathlib.Core.Path.{_≡_}
-use Prim.Native.Nat.{ℕ, _<_, _^_}
-use lib.IntN.{ℤ, pos, _+ℤ_, _-ℤ_}
-use lib.Dec.{T}
-use lib.Signed.{nonNeg}
-use mir.Syntax.{w32}
-use mir.Val.{Fits, SFits, toZ, ofZ}
-use mir.Facts.{toZ-ofZ, toZ-pos}
+use Rattle.integers.proofs.Prelude.{_≡_, ℕ, _<_, _^_, T, ℤ, pos, _+ℤ_, _-ℤ_, nonNeg, w32, Fits, SFits, toZ, ofZ, toZ-ofZ, toZ-pos}
 use Rattle.integers.specs.Integers.{minZ, maxZ}
 use Rattle.integers.proofs.Laws.{zarith, plus, minus, min-is, max-is, castable}
 use Rattle.definitions.specs.Geometry.{spanLength, SpanInReach}

@@ -1,7 +1,5 @@
 -- `put_before` meets its contract. Assumes nothing.
-use borrow.Author.Needs.{needs}
-use Prim.Native.Nat.{_-_}
-use native.Mathlib.Omega.{arith}
+use Rattle.integers.proofs.Prelude.{_-_, arith, needs}
 use Rattle.angles.proofs.AngleLaws.{written-before}
 use Rattle.angles.proofs.put_before.Statement.{statement}
 use Rattle.angles.proofs.put_before.Tie as tie

@@ -1,8 +1,5 @@
 -- `put_degrees` meets its contract: `degreesThen` makes the same test. Assumes nothing.
-use borrow.Author.Needs.{needs}
-use mathlib.Core.Path.{_≡_, sym, _∙_}
-use native.Mathlib.Omega.{arith}
-use lib.ListN.{drop}
+use Rattle.integers.proofs.Prelude.{_≡_, sym, _∙_, arith, drop, needs}
 use Rattle.angles.proofs.AngleLaws.{one-digit, two-digits}
 use Rattle.angles.proofs.put_degrees.Statement.{statement}
 use Rattle.angles.proofs.put_degrees.Tie as tie

@@ -1,8 +1,5 @@
 -- `put_tenths` meets its contract: three steps from the end. Assumes nothing.
-use borrow.Author.Needs.{needs}
-use mathlib.Core.Path.{_≡_, _∙_}
-use native.Mathlib.Omega.{arith}
-use lib.ListN.{drop-of-length-le}
+use Rattle.integers.proofs.Prelude.{_≡_, _∙_, arith, drop-of-length-le, needs}
 use Rattle.angles.proofs.put_tenths.Statement.{statement}
 use Rattle.angles.proofs.put_tenths.Tie as tie
 

@@ -1,8 +1,5 @@
 -- `write_angle` meets its contract: the signs are those of `angleText`. Assumes nothing.
-use borrow.Author.Needs.{needs}
-use mathlib.Core.Path.{_≡_, _∙_}
-use native.Mathlib.Omega.{arith}
-use mir.Facts.{toZ-ofZ}
+use Rattle.integers.proofs.Prelude.{_≡_, _∙_, arith, toZ-ofZ, needs}
 use Rattle.integers.proofs.Laws.{zarith, size}
 use Rattle.angles.proofs.AngleLaws.{whole, below-zero, above-zero, at-zero}
 use Rattle.angles.proofs.write_angle.Statement.{statement}

@@ -1,11 +1,6 @@
 -- `count_differences` meets its contract. The loop's invariant: those counted and those among the pixels that are left are all.
 -- Assumes nothing.
-use mathlib.Core.Path.{_≡_}
-use mathlib.Core.Logic.{⊎-elim}
-use Prim.Native.Nat.{_+_, _≤_, _<_, _-_}
-use native.Mathlib.Omega.{arith}
-use borrow.Author.Needs.{needs}
-use lib.ListN.{length, drop}
+use Rattle.integers.proofs.Prelude.{_≡_, ⊎-elim, _+_, _≤_, _<_, _-_, arith, length, drop, needs}
 use Rattle.buffers.specs.Differences.{differences}
 use Rattle.buffers.proofs.DifferenceLaws.{alike, unlike, none-left}
 use Rattle.buffers.proofs.count_differences.Statement.{statement}

@@ -1,11 +1,7 @@
 -- `fill` meets its contract: WriteLaws.antt has the step. Assumes nothing.
-use mathlib.Core.Path.{_≡_, refl, sym, _∙_}
-use Prim.Native.Nat.{_-_, _≤_}
-use native.Mathlib.Omega.{arith}
-use lib.ListN.{length, getD, replicate, length-set, length-replicate, getD-replicate}
-use lib.Seq.{ext-getD}
+use Rattle.integers.proofs.Prelude.{_≡_, refl, sym, _∙_, _-_, _≤_, arith, length, getD, replicate, length-set, length-replicate, getD-replicate}
+use Rattle.integers.proofs.Prelude.{ext-getD, needs}
 use Rattle.buffers.proofs.WriteLaws.{WrittenTo, write-next}
-use borrow.Author.Needs.{needs}
 use Rattle.buffers.proofs.fill.Statement.{statement}
 use Rattle.buffers.proofs.fill.Tie as tie
 

@@ -1,11 +1,5 @@
 -- `is_same` meets its contract: nothing differs between the same bytes, and only between them. Assumes nothing.
-use borrow.Author.Needs.{needs}
-use mathlib.Core.Path.{_≡_, sym, ap, subst, _∙_}
-use mathlib.Core.List.{List}
-use Prim.Native.Nat.{ℕ}
-use native.Mathlib.Omega.{arith}
-use borrow.Author.Tests.{eq-eqb, eqb-true}
-use lib.ListN.{length}
+use Rattle.integers.proofs.Prelude.{_≡_, sym, ap, subst, _∙_, List, ℕ, arith, length, eq-eqb, eqb-true, needs}
 use Rattle.integers.proofs.Choices.{impossible}
 use Rattle.buffers.specs.Differences.{differences}
 use Rattle.buffers.proofs.DifferenceLaws.{same-if-none, none-if-same}

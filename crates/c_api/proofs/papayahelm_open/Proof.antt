@@ -1,8 +1,6 @@
 -- The font opens as new_from_raw_data says, once there is room for its values.
-use mathlib.Core.Path.{sym, ap, _∙_}
-use borrow.Author.Tests.{lt-ltb, le-ltb}
+use Rattle.integers.proofs.Prelude.{sym, ap, _∙_, lt-ltb, le-ltb, needs}
 use Rattle.definitions.specs.Calls.{fontReaderOutcome}
-use borrow.Author.Needs.{needs}
 use Rattle.c_api.proofs.papayahelm_open.Statement.{statement}
 use Rattle.c_api.proofs.papayahelm_open.Tie as tie
 

@@ -1,10 +1,8 @@
 -- The answer is what the step ensures once the codes have a meaning.
-use mathlib.Core.Path.{ap, _∙_}
-use mir.Facts.{toZ-ofZ}
+use Rattle.integers.proofs.Prelude.{ap, _∙_, toZ-ofZ, needs}
 use Rattle.c_values.specs.Replies.{textReply}
 use Rattle.c_values.proofs.CodesLaws.{has-room}
 use Rattle.c_values.proofs.RepliesLaws.{not-drawn, drawn}
-use borrow.Author.Needs.{needs}
 use Rattle.c_api.proofs.papayahelm_redraw.Statement.{statement}
 use Rattle.c_api.proofs.papayahelm_redraw.Tie as tie
 

@@ -1,7 +1,5 @@
 -- A height that is not negative is its byte.
-use native.Mathlib.Omega.{arith}
-use lib.ListN.{getD}
-use borrow.Author.Needs.{needs}
+use Rattle.integers.proofs.Prelude.{arith, getD, needs}
 use Rattle.integers.proofs.Laws.{signed8-whole}
 use Rattle.font_reader.proofs.get_default_line_height.Statement.{statement}
 use Rattle.font_reader.proofs.get_default_line_height.Tie as tie

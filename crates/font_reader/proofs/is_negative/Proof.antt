@@ -1,6 +1,5 @@
 -- A byte is negative from 128 on.
-use mathlib.Core.Path.{sym}
-use native.Mathlib.Omega.{arith}
+use Rattle.integers.proofs.Prelude.{sym, arith}
 use Rattle.integers.proofs.Laws.{signed8-negative}
 use Rattle.font_reader.proofs.is_negative.Statement.{statement}
 use Rattle.font_reader.proofs.is_negative.Tie as tie

@@ -1,10 +1,5 @@
 -- The tests are the definition's causes, in its order.
-use mathlib.Core.Path.{_≡_, sym, _∙_}
-use mathlib.Core.Bool.{true, false}
-use mathlib.Core.Logic.{⊎-elim}
-use lib.ListN.{length}
-use borrow.Author.Needs.{needs}
-use borrow.Author.Tests.{lt-ltb, le-ltb}
+use Rattle.integers.proofs.Prelude.{_≡_, sym, _∙_, true, false, ⊎-elim, length, lt-ltb, le-ltb, needs}
 use Rattle.definitions.specs.Calls.{openFont}
 use Rattle.definitions.specs.Header.{header, lengthOff}
 use Rattle.definitions.proofs.OpenedLaws.{opened-limits}

@@ -1,8 +1,7 @@
 -- Each field is what the read of its byte or bytes ensures.
-use mir.Syntax.{w8}
+use Rattle.integers.proofs.Prelude.{w8, needs}
 use Rattle.integers.proofs.Laws.{stored}
 use Rattle.definitions.specs.Header.{header}
-use borrow.Author.Needs.{needs}
 use Rattle.font_reader.proofs.read_header.Statement.{statement}
 use Rattle.font_reader.proofs.read_header.Tie as tie
 

@@ -1,8 +1,5 @@
 -- The search's answer decides; a glyph that is found begins within the font.
-use mathlib.Core.Path.{_≡_, sym, ap, _∙_}
-use mathlib.Core.List.{List}
-use Prim.Native.Nat.{ℕ, _*_}
-use borrow.Author.Needs.{needs}
+use Rattle.integers.proofs.Prelude.{_≡_, sym, ap, _∙_, List, ℕ, _*_, needs}
 use Rattle.definitions.specs.Vocabulary.{FontReader}
 use Rattle.definitions.specs.Lookup.{Search, found, search as lookup}
 use Rattle.definitions.specs.Glyph.{fields, fromSearch, glyph}

@@ -1,12 +1,5 @@
 -- A byte below 128 is its own value; from 128 on it is less by 256.
-use mathlib.Core.Path.{_≡_}
-use native.Mathlib.Omega.{arith}
-use lib.IntN.{pos, _-ℤ_}
-use mir.Syntax.{w8, w16}
-use mir.Val.{SFits, toZ}
-use mir.Facts.{toZ-pos, toZ-ofZ}
-use borrow.Author.Tests.{lt-ltb, le-ltb}
-use borrow.Author.Needs.{needs}
+use Rattle.integers.proofs.Prelude.{_≡_, arith, pos, _-ℤ_, w8, w16, SFits, toZ, toZ-pos, toZ-ofZ, lt-ltb, le-ltb, needs}
 use Rattle.integers.specs.Integers.{signed8}
 use Rattle.integers.proofs.Laws.{zarith, minus}
 use Rattle.font_reader.proofs.signed.Statement.{statement}

@@ -1,6 +1,5 @@
 -- `clamped` makes the same two tests.
-use borrow.Author.Tests.{lt-ltb, le-ltb}
-use mir.Facts.{toZ-ofZ}
+use Rattle.integers.proofs.Prelude.{toZ-ofZ, lt-ltb, le-ltb}
 use Rattle.integers.proofs.Laws.{zarith, castable}
 use Rattle.framebuffer.specs.Areas.{clamped}
 use Rattle.framebuffer.proofs.clamp.Statement.{statement}

@@ -1,9 +1,5 @@
 -- `distance` meets its contract: the difference fits and is not negative, by ClipLaws.antt. Assumes nothing.
-use mathlib.Core.Path.{_≡_}
-use lib.IntN.{_-ℤ_}
-use mir.Syntax.{w32}
-use mir.Val.{toZ, ofZ}
-use mir.Facts.{toZ-ofZ}
+use Rattle.integers.proofs.Prelude.{_≡_, _-ℤ_, w32, toZ, ofZ, toZ-ofZ}
 use Rattle.integers.proofs.Laws.{castable}
 use Rattle.framebuffer.proofs.ClipLaws.{apart-fits, apart-nonneg, apart-is}
 use Rattle.framebuffer.proofs.distance.Statement.{statement}

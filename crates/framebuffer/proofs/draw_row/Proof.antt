@@ -1,19 +1,10 @@
 -- `draw_row` meets its contract. Off the framebuffer the row's picture shows nothing; else ClipLaws.antt has the visible columns,
 -- and PartLaws.antt that the visible part of a row is the row. Assumes nothing.
-use mathlib.Core.Path.{_≡_, sym, _∙_}
-use mathlib.Core.Logic.{⊎-elim}
-use Prim.Native.Nat.{_<_, _^_}
-use native.Mathlib.Omega.{arith}
-use lib.IntN.{pos, _+ℤ_}
-use lib.ListN.{length}
-use mir.Syntax.{w32}
-use mir.Val.{SFits, toZ, ofZ}
-use mir.Facts.{toZ-ofZ, toZ-pos}
+use Rattle.integers.proofs.Prelude.{_≡_, sym, _∙_, ⊎-elim, _<_, _^_, arith, pos, _+ℤ_, length, w32, SFits, toZ, ofZ, toZ-ofZ, toZ-pos, needs}
 use Rattle.integers.specs.Integers.{minZ, maxZ}
 use Rattle.integers.proofs.Laws.{zarith, plus}
 use Rattle.framebuffer.proofs.PartLaws.{row-above, row-below, row-beside}
 use Rattle.framebuffer.proofs.ClipLaws.{Clip, Distances, skip-apart, stop-apart, line-apart, column-apart, ordered, stop-in, line-fits, seen-length, seen-shown}
-use borrow.Author.Needs.{needs}
 use Rattle.framebuffer.proofs.draw_row.Statement.{statement}
 use Rattle.framebuffer.proofs.draw_row.Tie as tie
 

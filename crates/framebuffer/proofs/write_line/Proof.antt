@@ -1,10 +1,6 @@
 -- `write_line` meets its contract: PartLaws.antt has that the part written and put back is the row's picture on the framebuffer.
 -- Assumes nothing.
-use mathlib.Core.Path.{_≡_}
-use Prim.Native.Nat.{_+_, _-_, _*_}
-use native.Mathlib.Omega.{arith}
-use borrow.Author.Needs.{needs}
-use lib.ListN.{length}
+use Rattle.integers.proofs.Prelude.{_≡_, _+_, _-_, _*_, arith, length, needs}
 use Rattle.framebuffer.proofs.PartLaws.{row-shown}
 use Rattle.framebuffer.proofs.write_line.Statement.{statement}
 use Rattle.framebuffer.proofs.write_line.Tie as tie

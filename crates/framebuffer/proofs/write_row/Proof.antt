@@ -1,10 +1,6 @@
 -- `write_row` meets its contract. The loop's invariant: the first i pixels are painted and the others as they were;
 -- PaintedLaws.antt has the step. Assumes nothing.
-use mathlib.Core.Path.{_≡_, refl, _∙_}
-use Prim.Native.Nat.{_≤_, _<_, _-_}
-use native.Mathlib.Omega.{arith}
-use borrow.Author.Needs.{needs}
-use lib.ListN.{length, length-set}
+use Rattle.integers.proofs.Prelude.{_≡_, refl, _∙_, _≤_, _<_, _-_, arith, length, length-set, needs}
 use Rattle.framebuffer.proofs.PaintedLaws.{paintedTo, paint-next, paint-all}
 use Rattle.framebuffer.proofs.write_row.Statement.{statement}
 use Rattle.framebuffer.proofs.write_row.Tie as tie

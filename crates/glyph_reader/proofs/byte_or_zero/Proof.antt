@@ -1,8 +1,5 @@
 -- Inside the font the byte is read; past its end stands 0, as `getD` has it. Assumes nothing.
-use mathlib.Core.Path.{refl, sym}
-use native.Mathlib.Omega.{arith}
-use lib.ListN.{List·getD-eq-default}
-use borrow.Author.Needs.{needs}
+use Rattle.integers.proofs.Prelude.{refl, sym, arith, List·getD-eq-default, needs}
 use Rattle.glyph_reader.proofs.byte_or_zero.Statement.{statement}
 use Rattle.glyph_reader.proofs.byte_or_zero.Tie as tie
 

@@ -1,13 +1,6 @@
 -- After each field `left1` to `left5` say what is left of the definition (FieldLaws). A read that stops refuses there, and
 -- the last one leaves the glyph. Assumes nothing.
-use mathlib.Core.Path.{_≡_, sym, _∙_}
-use Prim.Native.Nat.{ℕ, _*_}
-use native.Mathlib.Omega.{arith}
-use lib.IntN.{ℤ}
-use mir.Syntax.{w8}
-use mir.Val.{SFits}
-use mir.Facts.{toZ-ofZ}
-use borrow.Author.Needs.{needs}
+use Rattle.integers.proofs.Prelude.{_≡_, sym, _∙_, ℕ, _*_, arith, ℤ, w8, SFits, toZ-ofZ, needs}
 use Rattle.definitions.specs.Vocabulary.{GlyphReader}
 use Rattle.definitions.specs.Refusals.{Outcome, success}
 use Rattle.definitions.specs.Glyph.{fields}

@@ -1,11 +1,5 @@
 -- The visible rows show all that the box shows, and the rows before them nothing (BoxLaws).
-use mathlib.Core.Path.{_≡_, sym, ap, subst, _∙_}
-use Prim.Native.Nat.{ℕ, _*_, _≤_, _<_}
-use native.Mathlib.Nat.{mul-le-mul}
-use native.Mathlib.Omega.{arith}
-use lib.IntN.{ℤ}
-use mir.Facts.{toZ-ofZ}
-use borrow.Author.Needs.{needs}
+use Rattle.integers.proofs.Prelude.{_≡_, sym, ap, subst, _∙_, ℕ, _*_, _≤_, _<_, mul-le-mul, arith, ℤ, toZ-ofZ, needs}
 use Rattle.definitions.specs.Vocabulary.{BoundingBox, Rectangle}
 use Rattle.definitions.specs.Geometry.{top}
 use Rattle.definitions.specs.Font.{u8g2, pixelsOf}

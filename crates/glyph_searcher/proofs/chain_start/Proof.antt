@@ -1,6 +1,5 @@
 -- The tests are those of the definition. Assumes nothing.
-use borrow.Author.Tests.{le-leb, lt-leb}
-use borrow.Author.Needs.{needs}
+use Rattle.integers.proofs.Prelude.{le-leb, lt-leb, needs}
 use Rattle.glyph_searcher.proofs.chain_start.Statement.{statement}
 use Rattle.glyph_searcher.proofs.chain_start.Tie as tie
 

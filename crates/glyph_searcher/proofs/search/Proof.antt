@@ -1,10 +1,7 @@
 -- Each way out is a law of the definition by the range of the code point (LookupLaws). Assumes nothing.
-use mathlib.Core.Path.{sym, ap, _∙_}
-use Prim.Native.Nat.{ℕ}
-use native.Mathlib.Omega.{arith}
+use Rattle.integers.proofs.Prelude.{sym, ap, _∙_, ℕ, arith, needs}
 use Rattle.definitions.specs.Lookup.{record8, chain}
 use Rattle.definitions.proofs.LookupLaws.{search-above, search-chain, search-table}
-use borrow.Author.Needs.{needs}
 use Rattle.glyph_searcher.proofs.search.Statement.{statement}
 use Rattle.glyph_searcher.proofs.search.Tie as tie
 

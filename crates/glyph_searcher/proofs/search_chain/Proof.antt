@@ -1,10 +1,6 @@
 -- The loop's invariant: the chain from `at` on answers as the chain from `start` on does. What each record comes to is `followed`
 -- (RecordLaws). The measure is what is left of the font, since a jump that is not 0 moves on. Assumes nothing.
-use mathlib.Core.Path.{_≡_, sym, ap, _∙_}
-use Prim.Native.Nat.{_-_, _≤_}
-use native.Mathlib.Omega.{arith}
-use lib.ListN.{length}
-use borrow.Author.Needs.{needs}
+use Rattle.integers.proofs.Prelude.{_≡_, sym, ap, _∙_, _-_, _≤_, arith, length, needs}
 use Rattle.definitions.specs.Lookup.{chain}
 use Rattle.glyph_searcher.specs.Answers.{asRecord, recordOf}
 use Rattle.glyph_searcher.proofs.RecordLaws.{followed, further}

@@ -1,10 +1,8 @@
 -- Each way out is a law of the definition by what the jump table answers (LookupLaws). A move past the end is `short` in the
 -- chain itself. Assumes nothing.
-use mathlib.Core.Path.{sym, ap, _∙_}
-use native.Mathlib.Omega.{arith}
+use Rattle.integers.proofs.Prelude.{sym, ap, _∙_, arith, needs}
 use Rattle.definitions.proofs.LookupLaws.{looks16, chain-past, table-past, table-none, table-sum}
 use Rattle.glyph_searcher.specs.Answers.{distance}
-use borrow.Author.Needs.{needs}
 use Rattle.glyph_searcher.proofs.search_unicode.Statement.{statement}
 use Rattle.glyph_searcher.proofs.search_unicode.Tie as tie
 

@@ -1,6 +1,5 @@
 -- By cases of the box.
-use native.Mathlib.Omega.{arith}
-use borrow.Author.Needs.{needs}
+use Rattle.integers.proofs.Prelude.{arith, needs}
 use Rattle.numbers.proofs.WriterLaws.{spelled-as}
 use Rattle.measure_line.proofs.append_bounding_box.Statement.{statement}
 use Rattle.measure_line.proofs.append_bounding_box.Tie as tie

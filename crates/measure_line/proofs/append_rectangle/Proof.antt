@@ -1,9 +1,5 @@
 -- Four words, each after its space.
-use native.Mathlib.Omega.{arith}
-use mir.Syntax.{w32}
-use mir.Val.{SFits}
-use mir.Facts.{toZ-ofZ}
-use borrow.Author.Needs.{needs}
+use Rattle.integers.proofs.Prelude.{arith, w32, SFits, toZ-ofZ, needs}
 use Rattle.definitions.specs.Geometry.{left, top}
 use Rattle.numbers.proofs.WriterLaws.{spelled-as}
 use Rattle.measure_line.proofs.LineLaws.{four-words}

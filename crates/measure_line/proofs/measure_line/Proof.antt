@@ -1,7 +1,5 @@
 -- The line of what the program measures.
-use mathlib.Core.Path.{ap}
-use native.Mathlib.Omega.{arith}
-use borrow.Author.Needs.{needs}
+use Rattle.integers.proofs.Prelude.{ap, arith, needs}
 use Rattle.measure_line.specs.Line.{outcomeLine, measuringLine}
 use Rattle.numbers.proofs.WriterLaws.{spelled-as, counted}
 use Rattle.measure_line.proofs.measure_line.Statement.{statement}

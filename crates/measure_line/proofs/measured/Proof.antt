@@ -1,7 +1,5 @@
 -- A font of more than 65,536 bytes, one that does not open, or what measuring answers.
-use mathlib.Core.Path.{sym, ap, _∙_}
-use native.Mathlib.Omega.{arith}
-use borrow.Author.Needs.{needs}
+use Rattle.integers.proofs.Prelude.{sym, ap, _∙_, arith, needs}
 use Rattle.definitions.specs.Refusals.{number, codePoint}
 use Rattle.definitions.specs.Calls.{fontReaderOutcome}
 use Rattle.measure_line.proofs.LineLaws.{font-too-long, font-refused, font-opens}

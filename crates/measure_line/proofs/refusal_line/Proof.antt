@@ -1,6 +1,5 @@
 -- What the pieces write, one after the other; the number and the code point are those of the error.
-use native.Mathlib.Omega.{arith}
-use borrow.Author.Needs.{needs}
+use Rattle.integers.proofs.Prelude.{arith, needs}
 use Rattle.numbers.proofs.WriterLaws.{spelled-as}
 use Rattle.measure_line.proofs.LineLaws.{refusal-ends}
 use Rattle.measure_line.proofs.refusal_line.Statement.{statement}

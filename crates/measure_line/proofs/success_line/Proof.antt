@@ -1,9 +1,5 @@
 -- What the pieces write, one after the other.
-use native.Mathlib.Omega.{arith}
-use mir.Syntax.{w32}
-use mir.Val.{SFits}
-use mir.Facts.{toZ-ofZ}
-use borrow.Author.Needs.{needs}
+use Rattle.integers.proofs.Prelude.{arith, w32, SFits, toZ-ofZ, needs}
 use Rattle.numbers.proofs.WriterLaws.{spelled-as}
 use Rattle.measure_line.proofs.LineLaws.{success-ends}
 use Rattle.measure_line.proofs.success_line.Statement.{statement}

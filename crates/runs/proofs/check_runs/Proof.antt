@@ -1,11 +1,6 @@
 -- The invariant: whether the font has the runs is whether it has those from the pair on. Each round reads at least one bit, so
 -- what is left of the font's bits is the measure.
-use mathlib.Core.Path.{_≡_, refl, sym, ap, _∙_}
-use Prim.Native.Nat.{_-_, _*_, _≤_, _<_}
-use native.Mathlib.Nat.{mul-le-mul}
-use native.Mathlib.Omega.{arith}
-use lib.ListN.{length}
-use borrow.Author.Needs.{needs}
+use Rattle.integers.proofs.Prelude.{_≡_, refl, sym, ap, _∙_, _-_, _*_, _≤_, _<_, mul-le-mul, arith, length, needs}
 use Rattle.definitions.specs.Runs.{glyphPixels}
 use Rattle.runs.specs.RunReads.{isWhole}
 use Rattle.runs.proofs.RunReadsLaws.{given, first-place, next-place, whole-last, whole-next, whole-not, no-pixels, glyph-gives}

@@ -1,13 +1,9 @@
 -- The repeat bit is what `readAt` says of it (ReadLaws of the bit reader), and `nextPair` goes by the same test of it.
-use mathlib.Core.Path.{_≡_, sym}
-use Prim.Native.Nat.{_+_}
-use native.Mathlib.Omega.{arith}
+use Rattle.integers.proofs.Prelude.{_≡_, sym, _+_, arith, eq-eqb, ne-eqb, needs}
 use Rattle.definitions.specs.Bits.{got, readAt}
 use Rattle.definitions.proofs.BitsLaws.{read-inside}
 use Rattle.glyph_reader.proofs.ReadLaws.{unsigned-value, unsigned-ends}
 use Rattle.runs.specs.RunReads.{nextPair}
-use borrow.Author.Needs.{needs}
-use borrow.Author.Tests.{eq-eqb, ne-eqb}
 use Rattle.runs.proofs.next_pair.Statement.{statement}
 use Rattle.runs.proofs.next_pair.Tie as tie
 

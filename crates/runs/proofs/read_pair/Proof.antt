@@ -1,11 +1,8 @@
 -- Each read answers what `readAt` says of it (ReadLaws of the bit reader), and `pairAt` goes by the same two reads.
-use mathlib.Core.Path.{_≡_}
-use Prim.Native.Nat.{_+_}
-use native.Mathlib.Omega.{arith}
+use Rattle.integers.proofs.Prelude.{_≡_, _+_, arith, needs}
 use Rattle.definitions.specs.Bits.{got, readAt}
 use Rattle.glyph_reader.proofs.ReadLaws.{unsigned-value, unsigned-ends}
 use Rattle.runs.specs.RunReads.{pairAt}
-use borrow.Author.Needs.{needs}
 use Rattle.runs.proofs.read_pair.Statement.{statement}
 use Rattle.runs.proofs.read_pair.Tie as tie
 

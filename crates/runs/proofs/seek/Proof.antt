@@ -1,10 +1,5 @@
 -- The invariant: where the first pair leads to a glyph's pixel, the pair and the offset do. Each round reads at least one bit.
-use mathlib.Core.Path.{sym, _∙_}
-use mathlib.Core.List.{List}
-use Prim.Native.Nat.{ℕ, _-_, _*_, _<_}
-use native.Mathlib.Omega.{arith}
-use lib.ListN.{length}
-use borrow.Author.Needs.{needs}
+use Rattle.integers.proofs.Prelude.{sym, _∙_, List, ℕ, _-_, _*_, _<_, arith, length, needs}
 use Rattle.runs.specs.Stands.{Stands, StandsAt}
 use Rattle.runs.proofs.RunReadsLaws.{next-place}
 use Rattle.runs.proofs.StandsLaws.{first-known, stands-first, next-known, stands-next}

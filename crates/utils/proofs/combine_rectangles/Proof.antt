@@ -1,10 +1,7 @@
 -- `utils::combine_rectangles` meets its contract by those of `min` and `span_length`: what they answer for columns and rows is
 -- what `joinRectangles` takes. Assumes nothing.
-use mir.Syntax.{w32}
-use mir.Val.{SFits}
-use mir.Facts.{toZ-ofZ}
+use Rattle.integers.proofs.Prelude.{w32, SFits, toZ-ofZ, needs}
 use Rattle.definitions.specs.Geometry.{left, top}
-use borrow.Author.Needs.{needs}
 use Rattle.utils.proofs.combine_rectangles.Statement.{statement}
 use Rattle.utils.proofs.combine_rectangles.Tie as tie
 

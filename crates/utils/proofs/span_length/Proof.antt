@@ -1,11 +1,6 @@
 -- `utils::span_length` meets its contract: each sum fits by SpanLaws, and what is subtracted is what `spanLength` subtracts.
 -- Assumes nothing.
-use mathlib.Core.Path.{_≡_}
-use lib.IntN.{ℤ, _-ℤ_}
-use mir.Syntax.{w32}
-use mir.Val.{SFits, toZ, ofZ}
-use mir.Facts.{toZ-ofZ}
-use borrow.Author.Needs.{needs}
+use Rattle.integers.proofs.Prelude.{_≡_, ℤ, _-ℤ_, w32, SFits, toZ, ofZ, toZ-ofZ, needs}
 use Rattle.integers.specs.Integers.{minZ, maxZ}
 use Rattle.definitions.proofs.JoinLaws.{end}
 use Rattle.utils.proofs.SpanLaws.{length-below, end-fits, end-stored, length-fits, length-casts}

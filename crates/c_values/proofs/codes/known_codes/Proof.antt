@@ -1,8 +1,6 @@
 -- Each code is known as its function says, and the room is tested last.
-use mathlib.Core.Path.{sym, _∙_}
-use borrow.Author.Tests.{lt-ltb, le-ltb}
+use Rattle.integers.proofs.Prelude.{sym, _∙_, lt-ltb, le-ltb, needs}
 use Rattle.c_values.specs.Codes.{meaningOf}
-use borrow.Author.Needs.{needs}
 use Rattle.c_values.proofs.codes.known_codes.Statement.{statement}
 use Rattle.c_values.proofs.codes.known_codes.Tie as tie
 

@@ -1,6 +1,5 @@
 -- An i8 fits an i64, so the cast leaves it as it is.
-use mir.Syntax.{w8, w64}
-use mir.Facts.{toZ-ofZ, sfits-widen}
+use Rattle.integers.proofs.Prelude.{w8, w64, toZ-ofZ, sfits-widen}
 use Rattle.c_values.proofs.header.small.Statement.{statement}
 use Rattle.c_values.proofs.header.small.Tie as tie
 

@@ -1,11 +1,6 @@
 -- Each number is what its function ensures.
-use native.Mathlib.Omega.{arith}
-use lib.ListN.{length-set}
-use mir.Syntax.{w8, w64}
-use mir.Val.{SFits}
-use mir.Facts.{toZ-ofZ}
+use Rattle.integers.proofs.Prelude.{arith, length-set, w8, w64, SFits, toZ-ofZ, needs}
 use Rattle.integers.proofs.Laws.{stored}
-use borrow.Author.Needs.{needs}
 use Rattle.c_values.proofs.header.store_box.Statement.{statement}
 use Rattle.c_values.proofs.header.store_box.Tie as tie
 

@@ -1,6 +1,5 @@
 -- One part after the other.
-use mathlib.Core.Path.{_∙_}
-use borrow.Author.Needs.{needs}
+use Rattle.integers.proofs.Prelude.{_∙_, needs}
 use Rattle.c_values.proofs.header.store_header.Statement.{statement}
 use Rattle.c_values.proofs.header.store_header.Tie as tie
 

@@ -1,9 +1,6 @@
 -- Each number is what its function ensures.
-use native.Mathlib.Omega.{arith}
-use lib.ListN.{length-set}
-use mir.Syntax.{w8, w64}
+use Rattle.integers.proofs.Prelude.{arith, length-set, w8, w64, needs}
 use Rattle.integers.proofs.Laws.{stored}
-use borrow.Author.Needs.{needs}
 use Rattle.c_values.proofs.header.store_offsets.Statement.{statement}
 use Rattle.c_values.proofs.header.store_offsets.Tie as tie
 

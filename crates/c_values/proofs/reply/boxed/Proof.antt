@@ -1,9 +1,6 @@
 -- Each number is what its function ensures.
-use mir.Syntax.{w32, w64}
-use mir.Val.{SFits}
-use mir.Facts.{toZ-ofZ}
+use Rattle.integers.proofs.Prelude.{w32, w64, SFits, toZ-ofZ, needs}
 use Rattle.integers.proofs.Laws.{stored}
-use borrow.Author.Needs.{needs}
 use Rattle.c_values.proofs.reply.boxed.Statement.{statement}
 use Rattle.c_values.proofs.reply.boxed.Tie as tie
 

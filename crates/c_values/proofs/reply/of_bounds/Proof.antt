@@ -1,10 +1,6 @@
 -- With a box and without one.
-use mir.Syntax.{w32, w64}
-use mir.Val.{SFits}
-use mir.Facts.{toZ-ofZ}
+use Rattle.integers.proofs.Prelude.{sym, _∙_, ap, w32, w64, SFits, toZ-ofZ, needs}
 use Rattle.integers.proofs.Laws.{stored}
-use mathlib.Core.Path.{sym, _∙_, ap}
-use borrow.Author.Needs.{needs}
 use Rattle.c_values.proofs.reply.of_bounds.Statement.{statement}
 use Rattle.c_values.proofs.reply.of_bounds.Tie as tie
 

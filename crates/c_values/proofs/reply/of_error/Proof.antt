@@ -1,6 +1,5 @@
 -- The number and the code point are what their functions ensure.
-use mathlib.Core.Path.{_∙_}
-use borrow.Author.Needs.{needs}
+use Rattle.integers.proofs.Prelude.{_∙_, needs}
 use Rattle.c_values.proofs.reply.of_error.Statement.{statement}
 use Rattle.c_values.proofs.reply.of_error.Tie as tie
 

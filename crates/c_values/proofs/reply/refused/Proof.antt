@@ -1,7 +1,6 @@
 -- The code point is a number that an i64 holds.
-use mir.Syntax.{w64}
+use Rattle.integers.proofs.Prelude.{w64, needs}
 use Rattle.integers.proofs.Laws.{stored}
-use borrow.Author.Needs.{needs}
 use Rattle.c_values.proofs.reply.refused.Statement.{statement}
 use Rattle.c_values.proofs.reply.refused.Tie as tie
 

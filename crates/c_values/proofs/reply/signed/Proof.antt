@@ -1,6 +1,5 @@
 -- An i32 fits an i64, so the cast leaves it as it is.
-use mir.Syntax.{w32, w64}
-use mir.Facts.{toZ-ofZ, sfits-widen}
+use Rattle.integers.proofs.Prelude.{w32, w64, toZ-ofZ, sfits-widen}
 use Rattle.c_values.proofs.reply.signed.Statement.{statement}
 use Rattle.c_values.proofs.reply.signed.Tie as tie
 

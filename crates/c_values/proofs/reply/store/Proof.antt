@@ -1,7 +1,5 @@
 -- Eight stores, within the room that is required.
-use native.Mathlib.Omega.{arith}
-use lib.ListN.{length-set}
-use borrow.Author.Needs.{needs}
+use Rattle.integers.proofs.Prelude.{arith, length-set, needs}
 use Rattle.c_values.proofs.reply.store.Statement.{statement}
 use Rattle.c_values.proofs.reply.store.Tie as tie
 

@@ -1,7 +1,5 @@
 -- A u32 fits an i64.
-use borrow.Author.Needs.{needs}
-use mir.Syntax.{w64}
-use mir.Facts.{toZ-pos}
+use Rattle.integers.proofs.Prelude.{w64, toZ-pos, needs}
 use Rattle.c_values.proofs.reply.unsigned.Statement.{statement}
 use Rattle.c_values.proofs.reply.unsigned.Tie as tie
 

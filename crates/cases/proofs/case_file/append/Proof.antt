@@ -1,9 +1,5 @@
 -- The piece ends where both slices reach.
-use mathlib.Core.Path.{_≡_}
-use Prim.Native.Nat.{_+_, _-_, _≤_}
-use native.Mathlib.Omega.{arith}
-use lib.ListN.{length, length-set}
-use borrow.Author.Needs.{needs}
+use Rattle.integers.proofs.Prelude.{_≡_, _+_, _-_, _≤_, arith, length, length-set, needs}
 use Rattle.cases.proofs.case_file.append.Statement.{statement}
 use Rattle.cases.proofs.case_file.append.Tie as tie
 

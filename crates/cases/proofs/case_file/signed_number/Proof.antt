@@ -1,12 +1,6 @@
 -- The difference lies in the range of 32 bits.
-use mathlib.Core.Path.{_≡_}
-use native.Mathlib.Omega.{arith}
-use lib.IntN.{pos, _-ℤ_}
-use mir.Syntax.{Width, w32, w64}
-use mir.Val.{SFits, toZ, hbits}
-use mir.Facts.{toZ-pos, toZ-ofZ, sfits-widen}
+use Rattle.integers.proofs.Prelude.{_≡_, arith, pos, _-ℤ_, Width, w32, w64, SFits, toZ, hbits, toZ-pos, toZ-ofZ, sfits-widen, needs}
 use Rattle.integers.proofs.Laws.{zarith, minus}
-use borrow.Author.Needs.{needs}
 use Rattle.cases.proofs.case_file.signed_number.Statement.{statement}
 use Rattle.cases.proofs.case_file.signed_number.Tie as tie
 

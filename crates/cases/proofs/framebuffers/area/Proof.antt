@@ -1,7 +1,5 @@
 -- Both sides are at most 256.
-use native.Mathlib.Nat.{mul-le-mul}
-use native.Mathlib.Omega.{arith}
-use borrow.Author.Needs.{needs}
+use Rattle.integers.proofs.Prelude.{mul-le-mul, arith, needs}
 use Rattle.cases.proofs.framebuffers.area.Statement.{statement}
 use Rattle.cases.proofs.framebuffers.area.Tie as tie
 

@@ -1,7 +1,5 @@
 -- At most as many bytes changed as were looked at.
-use Prim.Native.Nat.{_-_, _≤_}
-use lib.ListN.{length}
-use borrow.Author.Needs.{needs}
+use Rattle.integers.proofs.Prelude.{_-_, _≤_, length, needs}
 use Rattle.cases.proofs.framebuffers.changed.Statement.{statement}
 use Rattle.cases.proofs.framebuffers.changed.Tie as tie
 

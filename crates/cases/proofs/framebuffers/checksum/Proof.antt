@@ -1,7 +1,5 @@
 -- The sum stays below the modulus.
-use Prim.Native.Nat.{_-_, _≤_, _<_}
-use lib.ListN.{length}
-use borrow.Author.Needs.{needs}
+use Rattle.integers.proofs.Prelude.{_-_, _≤_, _<_, length, needs}
 use Rattle.cases.proofs.framebuffers.checksum.Statement.{statement}
 use Rattle.cases.proofs.framebuffers.checksum.Tie as tie
 

@@ -1,7 +1,5 @@
 -- The column is at most the index.
-use Prim.Native.Nat.{_-_, _≤_}
-use lib.ListN.{length}
-use borrow.Author.Needs.{needs}
+use Rattle.integers.proofs.Prelude.{_-_, _≤_, length, needs}
 use Rattle.cases.proofs.framebuffers.print_rows.Statement.{statement}
 use Rattle.cases.proofs.framebuffers.print_rows.Tie as tie
 

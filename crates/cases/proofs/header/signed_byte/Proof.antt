@@ -1,6 +1,5 @@
 -- An i8 fits an i32, so the cast leaves it as it is.
-use borrow.Author.Needs.{needs}
-use mir.Facts.{toZ-ofZ}
+use Rattle.integers.proofs.Prelude.{toZ-ofZ, needs}
 use Rattle.integers.proofs.Laws.{widens}
 use Rattle.cases.proofs.header.signed_byte.Statement.{statement}
 use Rattle.cases.proofs.header.signed_byte.Tie as tie

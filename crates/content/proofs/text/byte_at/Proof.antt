@@ -1,7 +1,5 @@
 -- `text::byte_at` meets its contract: past the end `getD` gives 0. Assumes nothing.
-use mathlib.Core.Path.{sym}
-use lib.ListN.{List·getD-eq-default}
-use borrow.Author.Needs.{needs}
+use Rattle.integers.proofs.Prelude.{sym, List·getD-eq-default, needs}
 use Rattle.content.proofs.text.byte_at.Statement.{statement}
 use Rattle.content.proofs.text.byte_at.Tie as tie
 

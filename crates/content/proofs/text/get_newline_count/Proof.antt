@@ -1,11 +1,6 @@
 -- `text::get_newline_count` meets its contract. The loop keeps that the newlines counted and those among the bytes from `i`
 -- on are all; bytes and code points have as many (`newlines-decoded`). Assumes nothing.
-use mathlib.Core.Path.{_≡_, _∙_}
-use mathlib.Core.Logic.{⊎-elim}
-use Prim.Native.Nat.{_+_, _-_, _≤_}
-use native.Mathlib.Omega.{arith}
-use lib.ListN.{length, drop}
-use borrow.Author.Needs.{needs}
+use Rattle.integers.proofs.Prelude.{_≡_, _∙_, ⊎-elim, _+_, _-_, _≤_, arith, length, drop, needs}
 use Rattle.definitions.specs.Utf8.{decode, newlines}
 use Rattle.definitions.proofs.Utf8Laws.{newlines-at, newlines-past, newlines-end, newlines-decoded, utf8-characters}
 use Rattle.content.proofs.text.get_newline_count.Statement.{statement}

@@ -1,10 +1,6 @@
 -- `text::is_utf8` meets its contract. The loop keeps that the whole text decodes exactly if the bytes from `at` on do; each
 -- character that is read moves `at` over its bytes (`position`). Assumes nothing.
-use mathlib.Core.Path.{_≡_, refl, sym, ap, _∙_}
-use Prim.Native.Nat.{_-_, _≤_}
-use native.Mathlib.Omega.{arith}
-use lib.ListN.{length, drop}
-use borrow.Author.Needs.{needs}
+use Rattle.integers.proofs.Prelude.{_≡_, refl, sym, ap, _∙_, _-_, _≤_, arith, length, drop, needs}
 use Rattle.definitions.specs.Utf8.{decode, isUtf8}
 use Rattle.definitions.proofs.Utf8Laws.{Position, position, not-utf8, at-end, utf8-next}
 use Rattle.content.specs.Text.{asCharacter}

@@ -1,13 +1,10 @@
 -- `text::next_char` meets its contract: `first-by`, from the row that was found and the bytes after the first.
 -- Assumes nothing.
-use mathlib.Core.Path.{_≡_, refl, sym, ap, _∙_}
-use native.Mathlib.Omega.{arith}
+use Rattle.integers.proofs.Prelude.{_≡_, refl, sym, ap, _∙_, arith, getD, drop, needs}
 use Rattle.definitions.proofs.Utf8Laws.{first-by}
 use Rattle.content.specs.Text.{asRow}
 use Rattle.content.specs.declared.text.Row.{Row}
 use Rattle.definitions.specs.Utf8.{Character, sequence, firstCharacter}
-use lib.ListN.{getD, drop}
-use borrow.Author.Needs.{needs}
 use Rattle.content.proofs.text.next_char.Statement.{statement}
 use Rattle.content.proofs.text.next_char.Tie as tie
 

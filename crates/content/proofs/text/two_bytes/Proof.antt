@@ -1,7 +1,5 @@
 -- `text::two_bytes` meets its contract: the test is that of the definition. Assumes nothing.
-use borrow.Author.Tests.{not-true, not-false}
-use mathlib.Core.Path.{sym, _∙_}
-use borrow.Author.Needs.{needs}
+use Rattle.integers.proofs.Prelude.{sym, _∙_, not-true, not-false, needs}
 use Rattle.content.proofs.text.two_bytes.Statement.{statement}
 use Rattle.content.proofs.text.two_bytes.Tie as tie
 

@@ -1,15 +1,6 @@
 -- `content::vertical_offset::compute_vertical_offset` meets its contract: every value on the way fits, by OffsetLaws and by the
 -- range of the definition's result, so each one is read back as it was stored. Assumes nothing.
-use mathlib.Core.Path.{_≡_}
-use Prim.Native.Nat.{ℕ, _*_, _≤_}
-use native.Mathlib.Nat.{mul-le-mul}
-use native.Mathlib.Omega.{arith}
-use lib.Dec.{T, leb}
-use lib.IntN.{ℤ, pos}
-use mir.Syntax.{w8, w32}
-use mir.Val.{SFits, toZ, ofZ}
-use mir.Facts.{toZ-ofZ, toZ-pos}
-use borrow.Author.Needs.{needs}
+use Rattle.integers.proofs.Prelude.{_≡_, ℕ, _*_, _≤_, mul-le-mul, arith, T, leb, ℤ, pos, w8, w32, SFits, toZ, ofZ, toZ-ofZ, toZ-pos, needs}
 use Rattle.definitions.specs.Vocabulary.{VerticalPosition}
 use Rattle.types.specs.declared.style.VerticalPosition.the-variants.{Top, Bottom}
 use Rattle.integers.proofs.Laws.{zarith, widens, widened}

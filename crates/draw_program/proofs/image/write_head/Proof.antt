@@ -1,6 +1,5 @@
 -- The pieces of the head, one after the other.
-use native.Mathlib.Omega.{arith}
-use borrow.Author.Needs.{needs}
+use Rattle.integers.proofs.Prelude.{arith, needs}
 use Rattle.numbers.proofs.WriterLaws.{counted, four-pieces}
 use Rattle.draw_program.proofs.image.write_head.Statement.{statement}
 use Rattle.draw_program.proofs.image.write_head.Tie as tie

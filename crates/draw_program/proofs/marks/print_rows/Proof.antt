@@ -1,7 +1,5 @@
 -- `print_rows` is safe: each row lies in the picture. Assumes nothing.
-use Prim.Native.Nat.{_-_, _≤_}
-use native.Mathlib.Omega.{arith}
-use borrow.Author.Needs.{needs}
+use Rattle.integers.proofs.Prelude.{_-_, _≤_, arith, needs}
 use Rattle.pictures.proofs.DrawingLaws.{area-most}
 use Rattle.draw_program.proofs.ShownLaws.{row-within}
 use Rattle.draw_program.proofs.marks.print_rows.Statement.{statement}

@@ -1,9 +1,5 @@
 -- `write_marks` meets its contract: WriteLaws.antt of buffers has the step. Assumes nothing.
-use mathlib.Core.Path.{_≡_, refl}
-use Prim.Native.Nat.{_-_, _≤_}
-use native.Mathlib.Omega.{arith}
-use lib.ListN.{length, getD, length-set}
-use borrow.Author.Needs.{needs}
+use Rattle.integers.proofs.Prelude.{_≡_, refl, _-_, _≤_, arith, length, getD, length-set, needs}
 use Rattle.io.proofs.Counting.{counts}
 use Rattle.draw_program.specs.Marks.{shade}
 use Rattle.buffers.proofs.WriteLaws.{WrittenTo, write-next}

@@ -1,8 +1,5 @@
 -- `read` meets its contract: each argument is one word more. Assumes nothing.
-use mathlib.Core.List.{List, [], _∷_, _++_}
-use mathlib.Core.Path.{_≡_, refl, sym, ap, _∙_}
-use Prim.Native.Nat.{ℕ, _-_}
-use borrow.Author.Needs.{needs}
+use Rattle.integers.proofs.Prelude.{_≡_, refl, sym, ap, _∙_, List, [], _∷_, _++_, ℕ, _-_, needs}
 use Rattle.draw_program.proofs.WordsLaws.{one-more}
 use Rattle.draw_program.specs.Words.{withWord, withWords, noWords}
 use Rattle.draw_program.specs.declared.options.Options.{Options}

@@ -1,6 +1,5 @@
 -- `with_word` meets its contract: WordsLaws.antt has what the comparisons decide. Assumes nothing.
-use mathlib.Core.Path.{_∙_}
-use borrow.Author.Needs.{needs}
+use Rattle.integers.proofs.Prelude.{_∙_, needs}
 use Rattle.draw_program.proofs.WordsLaws.{same-is}
 use Rattle.draw_program.specs.Words.{pgm, background}
 use Rattle.draw_program.proofs.options.with_word.Statement.{statement}

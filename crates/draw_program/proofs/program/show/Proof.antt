@@ -1,6 +1,5 @@
 -- `show` is safe. Assumes nothing.
-use mathlib.Core.Path.{subst}
-use borrow.Author.Needs.{needs}
+use Rattle.integers.proofs.Prelude.{subst, needs}
 use Rattle.draw_program.specs.Shown.{Showable}
 use Rattle.draw_program.proofs.program.show.Statement.{statement}
 use Rattle.draw_program.proofs.program.show.Tie as tie

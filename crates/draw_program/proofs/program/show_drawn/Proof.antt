@@ -1,7 +1,5 @@
 -- `show_drawn` is safe: a picture of at most 256 × 256 pixels lies in the buffer. Assumes nothing.
-use mathlib.Core.Path.{sym}
-use native.Mathlib.Omega.{arith}
-use borrow.Author.Needs.{needs}
+use Rattle.integers.proofs.Prelude.{sym, arith, needs}
 use Rattle.pictures.proofs.DrawingLaws.{area-most}
 use Rattle.draw_program.proofs.ShownLaws.{shown-length}
 use Rattle.draw_program.proofs.program.show_drawn.Statement.{statement}

@@ -1,12 +1,5 @@
 -- `clamp_end` meets its contract: in 64 bits the sum of 32 bits fits. Assumes nothing.
-use mathlib.Core.Path.{_≡_, _∙_}
-use Prim.Native.Nat.{_<_, _^_}
-use native.Mathlib.Omega.{arith}
-use lib.IntN.{pos, _+ℤ_}
-use mir.Syntax.{w64}
-use mir.Val.{SFits, toZ}
-use mir.Facts.{toZ-ofZ, toZ-pos, sfits-widen}
-use borrow.Author.Needs.{needs}
+use Rattle.integers.proofs.Prelude.{_≡_, _∙_, _<_, _^_, arith, pos, _+ℤ_, w64, SFits, toZ, toZ-ofZ, toZ-pos, sfits-widen, needs}
 use Rattle.integers.proofs.Laws.{zarith, plus, range}
 use Rattle.framebuffer.proofs.fill.clamp_end.Statement.{statement}
 use Rattle.framebuffer.proofs.fill.clamp_end.Tie as tie

@@ -1,9 +1,5 @@
 -- `clamp_start` meets its contract: the cast keeps the value. Assumes nothing.
-use mathlib.Core.Path.{_∙_}
-use mir.Syntax.{w64}
-use mir.Val.{SFits}
-use mir.Facts.{toZ-ofZ, sfits-widen}
-use borrow.Author.Needs.{needs}
+use Rattle.integers.proofs.Prelude.{_∙_, w64, SFits, toZ-ofZ, sfits-widen, needs}
 use Rattle.framebuffer.proofs.fill.clamp_start.Statement.{statement}
 use Rattle.framebuffer.proofs.fill.clamp_start.Tie as tie
 

@@ -1,14 +1,7 @@
 -- `fill_area` meets its contract. The loop's invariant: the rows above y are filled; FillLaws.antt has that a row of ones fills the
 -- next. Assumes nothing.
-use mathlib.Core.List.{List}
-use mathlib.Core.Path.{_≡_, sym, ap, _∙_}
-use Prim.Native.Nat.{ℕ, _-_, _≤_, _<_}
-use native.Mathlib.Nat.{mul-le-mul-right}
-use native.Mathlib.Omega.{arith}
-use borrow.Author.Needs.{needs}
-use lib.IntN.{pos}
-use lib.ListN.{length, take, getD, replicate, length-replicate, getD-replicate}
-use lib.Seq.{length-take-le, getD-take}
+use Rattle.integers.proofs.Prelude.{_≡_, sym, ap, _∙_, List, ℕ, _-_, _≤_, _<_, mul-le-mul-right, arith, pos, length, take, getD, replicate}
+use Rattle.integers.proofs.Prelude.{length-replicate, getD-replicate, length-take-le, getD-take, needs}
 use Rattle.definitions.specs.Vocabulary.{Some, Transparent}
 use Rattle.definitions.specs.Framebuffer.{shown}
 use Rattle.framebuffer.specs.Rows.{rowPicture, LineFits}

@@ -1,6 +1,5 @@
 -- `fill_box` meets its contract: no box is the blank picture. Assumes nothing.
-use mathlib.Core.Path.{sym, ap, _∙_}
-use borrow.Author.Needs.{needs}
+use Rattle.integers.proofs.Prelude.{sym, ap, _∙_, needs}
 use Rattle.definitions.specs.Vocabulary.{BoundingBox}
 use Rattle.definitions.specs.Framebuffer.{shown}
 use Rattle.framebuffer.specs.Areas.{fillPicture}

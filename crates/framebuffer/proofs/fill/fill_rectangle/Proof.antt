@@ -1,10 +1,6 @@
 -- `fill_rectangle` meets its contract: what the framebuffer shows of the rectangle lies between the edges that are computed.
 -- Assumes nothing.
-use mathlib.Core.Path.{_≡_, refl, _∙_}
-use mir.Syntax.{w32}
-use mir.Val.{SFits}
-use mir.Facts.{toZ-ofZ}
-use borrow.Author.Needs.{needs}
+use Rattle.integers.proofs.Prelude.{_≡_, refl, _∙_, w32, SFits, toZ-ofZ, needs}
 use Rattle.definitions.specs.Geometry.{left, top, right, bottom}
 use Rattle.framebuffer.specs.Areas.{clamped}
 use Rattle.framebuffer.proofs.FillLaws.{edges-fit, edges-shown}

@@ -1,13 +1,10 @@
 -- What `read_unsigned` answers, and that the difference taken in 32 bits fits a signed byte (ReadLaws). Assumes nothing.
-use mathlib.Core.Path.{_≡_, sym}
-use Prim.Native.Nat.{ℕ, _+_, _-_, _*_, _%_, _^_, _≤_, _<_}
-use native.Mathlib.Omega.{arith}
+use Rattle.integers.proofs.Prelude.{_≡_, sym, ℕ, _+_, _-_, _*_, _%_, _^_, _≤_, _<_, arith, needs}
 use Rattle.integers.proofs.Laws.{zarith}
 use Rattle.definitions.proofs.BitsLaws.{read-small, unsigned-range}
 use Rattle.definitions.specs.Bits.{got, readAt}
 use Rattle.glyph_reader.specs.BitReads.{signedRead}
 use Rattle.glyph_reader.proofs.ReadLaws.{unsigned-value, unsigned-ends, difference-fits, narrow-fits, half-bounds, biased-is}
-use borrow.Author.Needs.{needs}
 use Rattle.glyph_reader.proofs.BitReader.read_signed.Statement.{statement}
 use Rattle.glyph_reader.proofs.BitReader.read_signed.Tie as tie
 

@@ -1,11 +1,8 @@
 -- The read is arithmetic on two bytes (`read-bytes`), and the font ends where no bit is left (`read-ends`). Assumes nothing.
-use Prim.Native.Nat.{_/_, _<_}
-use native.Mathlib.Omega.{arith}
-use lib.ListN.{getD}
+use Rattle.integers.proofs.Prelude.{_/_, _<_, arith, getD, needs}
 use Rattle.definitions.proofs.BitsLaws.{read-ends, read-bytes}
 use Rattle.glyph_reader.specs.BitReads.{unsignedRead}
 use Rattle.glyph_reader.proofs.ReadLaws.{power-pos, remainder-is, remainder-fits}
-use borrow.Author.Needs.{needs}
 use Rattle.glyph_reader.proofs.BitReader.read_unsigned.Statement.{statement}
 use Rattle.glyph_reader.proofs.BitReader.read_unsigned.Tie as tie
 

@@ -1,12 +1,5 @@
 -- The differences fit 64 bits, and the answer's fields are the calls' answers.
-use mathlib.Core.Path.{_≡_, ap, _∙_}
-use Prim.Native.Nat.{_^_, _<_}
-use native.Mathlib.Omega.{arith}
-use lib.IntN.{ℤ, pos, _-ℤ_}
-use mir.Syntax.{w32, w64}
-use mir.Val.{SFits, toZ, ofZ}
-use mir.Facts.{toZ-ofZ, toZ-pos, sfits-widen}
-use borrow.Author.Needs.{needs}
+use Rattle.integers.proofs.Prelude.{_≡_, ap, _∙_, _^_, _<_, arith, ℤ, pos, _-ℤ_, w32, w64, SFits, toZ, ofZ, toZ-ofZ, toZ-pos, sfits-widen, needs}
 use Rattle.framebuffer.specs.Areas.{clamped}
 use Rattle.glyph_renderer.proofs.VisibleLaws.{difference-fits}
 use Rattle.glyph_renderer.proofs.geometry.get_visible_rows.Statement.{statement}

@@ -1,11 +1,6 @@
 -- The invariant is `Drawn` (RowsLaws): the rows drawn, the columns collected, and where the reader of runs stands. Each pair
 -- takes at least one bit of the font.
-use mathlib.Core.Path.{_≡_, refl, sym, _∙_}
-use mathlib.Core.List.{List}
-use Prim.Native.Nat.{ℕ, _+_, _-_, _*_, _≤_, _<_}
-use native.Mathlib.Omega.{arith}
-use lib.ListN.{length, take, set, length-set}
-use borrow.Author.Needs.{needs}
+use Rattle.integers.proofs.Prelude.{_≡_, refl, sym, _∙_, List, ℕ, _+_, _-_, _*_, _≤_, _<_, arith, length, take, set, length-set, needs}
 use Rattle.runs.proofs.RunReadsLaws.{next-place}
 use Rattle.glyph_renderer.proofs.RowsLaws.{Drawn, none-drawn, left-is, top-fits, row-place, row-length, row-reach, next-column, next-row, pair-known, next-runs}
 use Rattle.glyph_renderer.proofs.rows.draw_rows.Statement.{statement}

@@ -1,7 +1,5 @@
 -- By the width of the code. Assumes nothing.
-use mathlib.Core.Path.{_∙_}
-use borrow.Author.Tests.{eq-eqb, ne-eqb}
-use borrow.Author.Needs.{needs}
+use Rattle.integers.proofs.Prelude.{_∙_, eq-eqb, ne-eqb, needs}
 use Rattle.glyph_searcher.proofs.record.read_record.Statement.{statement}
 use Rattle.glyph_searcher.proofs.record.read_record.Tie as tie
 

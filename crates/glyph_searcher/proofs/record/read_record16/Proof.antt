@@ -1,9 +1,6 @@
 -- Each way out is the definition's, by the bytes of the record. Assumes nothing.
-use mathlib.Core.Path.{sym, _∙_}
-use native.Mathlib.Omega.{arith}
-use borrow.Author.Tests.{eq-eqb, ne-eqb}
+use Rattle.integers.proofs.Prelude.{sym, _∙_, arith, eq-eqb, ne-eqb, needs}
 use Rattle.definitions.proofs.LookupLaws.{record16-at, record16-zero, record16-cut, record16-short}
-use borrow.Author.Needs.{needs}
 use Rattle.glyph_searcher.proofs.record.read_record16.Statement.{statement}
 use Rattle.glyph_searcher.proofs.record.read_record16.Tie as tie
 

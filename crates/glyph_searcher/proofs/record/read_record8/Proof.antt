@@ -1,9 +1,6 @@
 -- Each way out is the definition's, by the bytes of the record. Assumes nothing.
-use mathlib.Core.Path.{sym, _∙_}
-use native.Mathlib.Omega.{arith}
-use borrow.Author.Tests.{eq-eqb}
+use Rattle.integers.proofs.Prelude.{sym, _∙_, arith, eq-eqb, needs}
 use Rattle.definitions.proofs.LookupLaws.{record8-at, record8-other, record8-cut}
-use borrow.Author.Needs.{needs}
 use Rattle.glyph_searcher.proofs.record.read_record8.Statement.{statement}
 use Rattle.glyph_searcher.proofs.record.read_record8.Tie as tie
 

@@ -1,10 +1,6 @@
 -- The loop's invariant: the rest of the table, with the sum so far, answers as the whole table does. The sum grows by less
 -- than 65536 an entry, so it stays far below 2 to the power 64. Assumes nothing.
-use mathlib.Core.Path.{_≡_, sym, _∙_}
-use Prim.Native.Nat.{_+_, _-_, _*_, _≤_, _<_}
-use native.Mathlib.Omega.{arith}
-use lib.ListN.{length, drop}
-use borrow.Author.Needs.{needs}
+use Rattle.integers.proofs.Prelude.{_≡_, sym, _∙_, _+_, _-_, _*_, _≤_, _<_, arith, length, drop, needs}
 use Rattle.definitions.specs.Header.{bigEndian16}
 use Rattle.definitions.specs.Lookup.{jumpTable}
 use Rattle.glyph_searcher.proofs.TableLaws.{table-end, table-found, table-next}

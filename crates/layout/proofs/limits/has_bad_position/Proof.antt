@@ -1,8 +1,5 @@
 -- The tests are those of the definition, joined in its order.
-use mir.Syntax.{w32}
-use mir.Val.{SFits}
-use mir.Facts.{toZ-ofZ}
-use borrow.Author.Needs.{needs}
+use Rattle.integers.proofs.Prelude.{w32, SFits, toZ-ofZ, needs}
 use Rattle.layout.proofs.limits.has_bad_position.Statement.{statement}
 use Rattle.layout.proofs.limits.has_bad_position.Tie as tie
 

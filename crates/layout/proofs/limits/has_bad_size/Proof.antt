@@ -1,9 +1,6 @@
 -- The tests are those of the cause, in order; sides of at most 256 have a product that fits.
-use mathlib.Core.Path.{_≡_, sym, _∙_}
-use native.Mathlib.Nat.{mul-le-mul}
-use native.Mathlib.Omega.{arith}
+use Rattle.integers.proofs.Prelude.{_≡_, sym, _∙_, mul-le-mul, arith, needs}
 use Rattle.layout.proofs.LimitLaws.{side-limits}
-use borrow.Author.Needs.{needs}
 use Rattle.layout.proofs.limits.has_bad_size.Statement.{statement}
 use Rattle.layout.proofs.limits.has_bad_size.Tie as tie
 

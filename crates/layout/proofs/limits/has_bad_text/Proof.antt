@@ -1,6 +1,5 @@
 -- Length first, then the bytes.
-use borrow.Author.Needs.{needs}
-use borrow.Author.Tests.{lt-ltb, le-ltb}
+use Rattle.integers.proofs.Prelude.{lt-ltb, le-ltb, needs}
 use Rattle.layout.proofs.limits.has_bad_text.Statement.{statement}
 use Rattle.layout.proofs.limits.has_bad_text.Tie as tie
 

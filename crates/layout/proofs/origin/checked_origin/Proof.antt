@@ -1,7 +1,5 @@
 -- The tests are those of the causes, in order.
-use mathlib.Core.Path.{sym, _∙_}
-use mir.Facts.{toZ-ofZ}
-use borrow.Author.Needs.{needs}
+use Rattle.integers.proofs.Prelude.{sym, _∙_, toZ-ofZ, needs}
 use Rattle.layout.proofs.origin.checked_origin.Statement.{statement}
 use Rattle.layout.proofs.origin.checked_origin.Tie as tie
 

@@ -1,10 +1,5 @@
 -- Within the limits of the text and the place every value on the way is near 0.
-use mathlib.Core.Path.{_≡_}
-use lib.IntN.{ℤ, _+ℤ_}
-use mir.Syntax.{w8, w32}
-use mir.Val.{SFits, toZ, ofZ}
-use mir.Facts.{toZ-ofZ}
-use borrow.Author.Needs.{needs}
+use Rattle.integers.proofs.Prelude.{_≡_, ℤ, _+ℤ_, w8, w32, SFits, toZ, ofZ, toZ-ofZ, needs}
 use Rattle.integers.proofs.Laws.{zarith, plus, stored}
 use Rattle.layout.proofs.OriginLaws.{TextLimits, text-limits, PositionLimits, position-limits, offset, offset-near}
 use Rattle.layout.proofs.origin.text_origin.Statement.{statement}

@@ -1,6 +1,5 @@
 -- `answer` goes by the same cases.
-use mathlib.Core.Path.{_∙_}
-use borrow.Author.Needs.{needs}
+use Rattle.integers.proofs.Prelude.{_∙_, needs}
 use Rattle.layout.proofs.render_actions.answer_of.Statement.{statement}
 use Rattle.layout.proofs.render_actions.answer_of.Tie as tie
 

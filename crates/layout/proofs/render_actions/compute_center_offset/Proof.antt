@@ -1,11 +1,5 @@
 -- Every value on the way is near 0.
-use mathlib.Core.Path.{_≡_}
-use Prim.Native.Nat.{_/_, _<_, _^_}
-use lib.IntN.{ℤ, pos, negℤ, _+ℤ_}
-use mir.Syntax.{w32}
-use mir.Val.{SFits, toZ}
-use mir.Facts.{toZ-ofZ, toZ-pos}
-use borrow.Author.Needs.{needs}
+use Rattle.integers.proofs.Prelude.{_≡_, _/_, _<_, _^_, ℤ, pos, negℤ, _+ℤ_, w32, SFits, toZ, toZ-ofZ, toZ-pos, needs}
 use Rattle.integers.proofs.Laws.{zarith, plus, neg}
 use Rattle.definitions.specs.Vocabulary.{Rectangle}
 use Rattle.definitions.specs.Geometry.{left}

@@ -1,10 +1,5 @@
 -- `horizontalOffset` goes by the same cases.
-use mathlib.Core.Path.{_≡_, refl, _∙_}
-use lib.IntN.{ℤ, pos, negℤ, _-ℤ_}
-use mir.Syntax.{w32}
-use mir.Val.{SFits}
-use mir.Facts.{toZ-ofZ}
-use borrow.Author.Needs.{needs}
+use Rattle.integers.proofs.Prelude.{_≡_, refl, _∙_, ℤ, pos, negℤ, _-ℤ_, w32, SFits, toZ-ofZ, needs}
 use Rattle.integers.proofs.Laws.{zarith, minus, neg, stored}
 use Rattle.definitions.specs.Vocabulary.{BoundingBox, None, Some}
 use Rattle.types.specs.declared.style.HorizontalAlignment.the-variants.{Center}

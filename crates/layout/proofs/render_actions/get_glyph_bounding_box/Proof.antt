@@ -1,8 +1,5 @@
 -- The tests are the definition's, and each edge is what its function ensures.
-use mir.Syntax.{w8, w32}
-use mir.Val.{SFits}
-use mir.Facts.{toZ-ofZ}
-use borrow.Author.Needs.{needs}
+use Rattle.integers.proofs.Prelude.{w8, w32, SFits, toZ-ofZ, needs}
 use Rattle.integers.proofs.Laws.{stored}
 use Rattle.layout.proofs.render_actions.get_glyph_bounding_box.Statement.{statement}
 use Rattle.layout.proofs.render_actions.get_glyph_bounding_box.Tie as tie

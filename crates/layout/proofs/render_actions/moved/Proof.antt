@@ -1,8 +1,5 @@
 -- The sum of a near number and a byte fits.
-use lib.IntN.{_+ℤ_}
-use mir.Syntax.{w32}
-use mir.Val.{SFits}
-use mir.Facts.{toZ-ofZ}
+use Rattle.integers.proofs.Prelude.{_+ℤ_, w32, SFits, toZ-ofZ}
 use Rattle.integers.proofs.Laws.{zarith, plus, range, widens, widened}
 use Rattle.layout.proofs.render_actions.moved.Statement.{statement}
 use Rattle.layout.proofs.render_actions.moved.Tie as tie

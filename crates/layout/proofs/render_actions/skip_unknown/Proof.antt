@@ -1,13 +1,7 @@
 -- Of the errors only that of an unknown letter has number 7.
-use mathlib.Core.Path.{_≡_, refl}
-use mathlib.Core.Bool.{Bool, true, false, _&&_}
-use mathlib.Core.List.{[], _∷_}
-use mathlib.Core.Logic.{inl, inr}
-use Prim.Native.Nat.{ℕ}
-use native.Mathlib.Omega.{arith}
+use Rattle.integers.proofs.Prelude.{_≡_, refl, Bool, true, false, _&&_, inl, inr, [], _∷_, ℕ, arith, needs}
 use types.Run.{OneOf}
 use denote.Enum.Declared.{tagOf}
-use borrow.Author.Needs.{needs}
 use Rattle.integers.specs.Integers.{pick}
 use Rattle.definitions.specs.Vocabulary.{Error}
 use Rattle.types.specs.declared.error.Error.the-variants.{FontLength, FontHeader, FramebufferSize, TextEncoding, PositionOrLineHeight, BackgroundColorNotSupported, GlyphNotFound, FontEnds}

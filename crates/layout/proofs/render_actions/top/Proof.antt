@@ -1,10 +1,5 @@
 -- Every value on the way is near 0.
-use mathlib.Core.Path.{_≡_}
-use lib.IntN.{pos, _+ℤ_, _-ℤ_}
-use mir.Syntax.{w32}
-use mir.Val.{SFits, toZ}
-use mir.Facts.{toZ-ofZ, toZ-pos}
-use borrow.Author.Needs.{needs}
+use Rattle.integers.proofs.Prelude.{_≡_, pos, _+ℤ_, _-ℤ_, w32, SFits, toZ, toZ-ofZ, toZ-pos, needs}
 use Rattle.integers.proofs.Laws.{zarith, plus, minus, range, widens, widened}
 use Rattle.layout.proofs.render_actions.top.Statement.{statement}
 use Rattle.layout.proofs.render_actions.top.Tie as tie

@@ -1,6 +1,5 @@
 -- The letter of what the lookup answers.
-use mathlib.Core.Path.{sym, ap, _∙_}
-use borrow.Author.Needs.{needs}
+use Rattle.integers.proofs.Prelude.{sym, ap, _∙_, needs}
 use Rattle.definitions.specs.Glyph.{glyphOutcome}
 use Rattle.definitions.specs.Text.{answer}
 use Rattle.layout.proofs.render_actions.try_retrieve_glyph_data.Statement.{statement}

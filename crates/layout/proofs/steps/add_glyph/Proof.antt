@@ -1,8 +1,5 @@
 -- Where there is room, the sum fits, and the glyph's box lies within the reach of joining.
-use mir.Syntax.{w8, w32}
-use mir.Val.{SFits}
-use mir.Facts.{toZ-ofZ}
-use borrow.Author.Needs.{needs}
+use Rattle.integers.proofs.Prelude.{w8, w32, SFits, toZ-ofZ, needs}
 use Rattle.integers.proofs.Laws.{stored}
 use Rattle.layout.proofs.RangeLaws.{near-fits}
 use Rattle.layout.proofs.steps.add_glyph.Statement.{statement}

@@ -1,10 +1,5 @@
 -- The sum of a near number and a line height fits.
-use mathlib.Core.Path.{_≡_}
-use lib.IntN.{pos, _+ℤ_}
-use mir.Syntax.{w32}
-use mir.Val.{SFits, toZ}
-use mir.Facts.{toZ-ofZ, toZ-pos}
-use borrow.Author.Needs.{needs}
+use Rattle.integers.proofs.Prelude.{_≡_, pos, _+ℤ_, w32, SFits, toZ, toZ-ofZ, toZ-pos, needs}
 use Rattle.integers.proofs.Laws.{zarith, plus}
 use Rattle.layout.proofs.RangeLaws.{near-fits}
 use Rattle.layout.proofs.steps.add_newline.Statement.{statement}

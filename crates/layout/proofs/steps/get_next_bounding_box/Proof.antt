@@ -1,10 +1,5 @@
 -- Where there is room, the sums fit and the glyph's box lies within the reach of joining.
-use mathlib.Core.Path.{_≡_, sym, subst}
-use Prim.Native.Nat.{_≤_}
-use mir.Syntax.{w8, w32}
-use mir.Val.{SFits}
-use mir.Facts.{toZ-ofZ}
-use borrow.Author.Needs.{needs}
+use Rattle.integers.proofs.Prelude.{_≡_, sym, subst, _≤_, w8, w32, SFits, toZ-ofZ, needs}
 use Rattle.definitions.specs.Geometry.{InReach}
 use Rattle.definitions.specs.TextSteps.{nextBox}
 use Rattle.layout.proofs.RangeLaws.{Small, near-fits, signed-byte, box-in-reach}

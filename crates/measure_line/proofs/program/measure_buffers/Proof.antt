@@ -1,6 +1,5 @@
 -- The buffers have room for a byte more than is allowed, so the line of what they hold is the line of the files.
-use native.Mathlib.Omega.{arith}
-use borrow.Author.Needs.{needs}
+use Rattle.integers.proofs.Prelude.{arith, needs}
 use Rattle.measure_line.proofs.FilledLaws.{files-line}
 use Rattle.numbers.proofs.WriterLaws.{spelled-as}
 use Rattle.measure_line.proofs.program.measure_buffers.Statement.{statement}

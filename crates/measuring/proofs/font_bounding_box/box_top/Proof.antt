@@ -1,8 +1,5 @@
 -- Every value on the way is near 0.
-use lib.IntN.{ℤ, _+ℤ_, _-ℤ_}
-use mir.Syntax.{w32}
-use mir.Val.{SFits}
-use mir.Facts.{toZ-ofZ}
+use Rattle.integers.proofs.Prelude.{ℤ, _+ℤ_, _-ℤ_, w32, SFits, toZ-ofZ}
 use Rattle.integers.proofs.Laws.{zarith, plus, minus, range, widens, widened}
 use Rattle.measuring.proofs.font_bounding_box.box_top.Statement.{statement}
 use Rattle.measuring.proofs.font_bounding_box.box_top.Tie as tie

@@ -1,11 +1,5 @@
 -- Each part of the rectangle is what its function ensures.
-use mathlib.Core.Path.{_≡_}
-use lib.IntN.{pos, negsuc}
-use lib.Signed.{_≤ℤ_}
-use mir.Syntax.{w8, w32}
-use mir.Val.{SFits, toZ, ofZ}
-use mir.Facts.{toZ-ofZ}
-use borrow.Author.Needs.{needs}
+use Rattle.integers.proofs.Prelude.{_≡_, pos, negsuc, _≤ℤ_, w8, w32, SFits, toZ, ofZ, toZ-ofZ, needs}
 use Rattle.integers.proofs.Laws.{zarith, plus, stored, widens, widened}
 use Rattle.definitions.specs.Vocabulary.{FontReader, VerticalPosition}
 use Rattle.definitions.specs.VerticalOffset.{verticalOffset}

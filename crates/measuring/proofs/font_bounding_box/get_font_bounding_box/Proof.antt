@@ -1,6 +1,5 @@
 -- A font that opens has a box that is not negative; one that does not open is refused as opening is.
-use mathlib.Core.Path.{_≡_, sym, _∙_, ap}
-use borrow.Author.Needs.{needs}
+use Rattle.integers.proofs.Prelude.{_≡_, sym, _∙_, ap, needs}
 use Rattle.definitions.specs.Vocabulary.{FontReader}
 use Rattle.definitions.specs.Refusals.{success, number, codePoint}
 use Rattle.definitions.specs.Header.{Opened}

@@ -1,9 +1,5 @@
 -- A newline is code point 10; any other is looked up.
-use mathlib.Core.Path.{_≡_, sym, ap, _∙_}
-use lib.IntN.{pos}
-use mir.Facts.{toZ-ofZ}
-use borrow.Author.Needs.{needs}
-use borrow.Author.Tests.{eq-eqb, ne-eqb}
+use Rattle.integers.proofs.Prelude.{_≡_, sym, ap, _∙_, pos, toZ-ofZ, eq-eqb, ne-eqb, needs}
 use Rattle.definitions.specs.Text.{point}
 use Rattle.definitions.specs.TextSteps.{answerStep}
 use Rattle.definitions.specs.Font.{u8g2, measuredAnswer}

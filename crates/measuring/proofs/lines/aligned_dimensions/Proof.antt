@@ -1,9 +1,5 @@
 -- A font that opens and a text with its place within the limits leave measuring; else the call is refused as they are.
-use mathlib.Core.Path.{_≡_, sym, ap, _∙_}
-use mir.Syntax.{w8}
-use mir.Val.{SFits}
-use mir.Facts.{toZ-ofZ}
-use borrow.Author.Needs.{needs}
+use Rattle.integers.proofs.Prelude.{_≡_, sym, ap, _∙_, w8, SFits, toZ-ofZ, needs}
 use Rattle.definitions.specs.Vocabulary.{FontReader}
 use Rattle.definitions.specs.Refusals.{success, number, codePoint}
 use Rattle.definitions.specs.Calls.{openFont, Request, request, fontReaderOutcome}

@@ -1,14 +1,9 @@
 -- Where there is room, the sums fit and the moved box lies within the reach of joining.
-use mathlib.Core.Path.{_≡_, sym, subst}
-use mir.Syntax.{w32}
-use mir.Val.{SFits, toZ, ofZ}
-use mir.Facts.{toZ-ofZ}
+use Rattle.integers.proofs.Prelude.{_≡_, sym, subst, ℤ, _+ℤ_, w32, SFits, toZ, ofZ, toZ-ofZ, needs}
 use Rattle.integers.proofs.Laws.{stored}
-use borrow.Author.Needs.{needs}
 use Rattle.definitions.specs.Geometry.{InReach}
 use Rattle.definitions.specs.Text.{horizontalOffset}
 use Rattle.definitions.specs.TextSteps.{movedBox}
-use lib.IntN.{ℤ, _+ℤ_}
 use Rattle.layout.proofs.RangeLaws.{near-fits}
 use Rattle.measuring.proofs.LinesLaws.{x-near, column-near, moved-in-reach}
 use Rattle.measuring.proofs.lines.end_line.Statement.{statement}

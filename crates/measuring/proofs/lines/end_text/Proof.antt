@@ -1,6 +1,5 @@
 -- Where there is room, the numbers fit; `end_line` does the rest.
-use mir.Facts.{toZ-ofZ}
-use borrow.Author.Needs.{needs}
+use Rattle.integers.proofs.Prelude.{toZ-ofZ, needs}
 use Rattle.layout.proofs.RangeLaws.{near-fits}
 use Rattle.measuring.proofs.LinesLaws.{x-near}
 use Rattle.measuring.proofs.lines.end_text.Statement.{statement}

@@ -1,6 +1,5 @@
 -- The sums of a near number and an edge of a line's box fit.
-use mir.Facts.{toZ-ofZ}
-use borrow.Author.Needs.{needs}
+use Rattle.integers.proofs.Prelude.{toZ-ofZ, needs}
 use Rattle.definitions.specs.Vocabulary.{Rectangle}
 use Rattle.layout.specs.Ranges.{LineRectangle}
 use Rattle.measuring.proofs.LinesLaws.{start-fits, moved-fits}

@@ -1,6 +1,5 @@
 -- Plain measuring is aligned measuring to the left.
-use mathlib.Core.Path.{_∙_}
-use borrow.Author.Needs.{needs}
+use Rattle.integers.proofs.Prelude.{_∙_, needs}
 use Rattle.definitions.specs.Font.{u8g2}
 use Rattle.definitions.specs.Calls.{plain}
 use Rattle.measuring.proofs.AlignedLaws.{plain-is-left}

@@ -1,6 +1,5 @@
 -- The answer is the box of the aligned text's dimensions.
-use mathlib.Core.Path.{_≡_, sym, ap, _∙_}
-use borrow.Author.Needs.{needs}
+use Rattle.integers.proofs.Prelude.{_≡_, sym, ap, _∙_, needs}
 use Rattle.definitions.specs.Vocabulary.{BoundingBox}
 use Rattle.types.specs.declared.results.DimensionsResult.{DimensionsResult}
 use Rattle.definitions.specs.Refusals.{Outcome}

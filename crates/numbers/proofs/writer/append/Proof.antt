@@ -1,10 +1,5 @@
 -- The loop's invariant: the first i bytes of s stand at `at`, and everything else as it was.
-use mathlib.Core.Path.{_≡_}
-use Prim.Native.Nat.{_-_, _≤_}
-use native.Mathlib.Omega.{arith}
-use lib.ListN.{length}
-use lib.Seq.{paste, paste-zero}
-use borrow.Author.Needs.{needs}
+use Rattle.integers.proofs.Prelude.{_≡_, _-_, _≤_, arith, length, paste, paste-zero, needs}
 use Rattle.numbers.proofs.WriterLaws.{next-byte, all-bytes}
 use Rattle.numbers.proofs.writer.append.Statement.{statement}
 use Rattle.numbers.proofs.writer.append.Tie as tie

@@ -1,7 +1,5 @@
 -- `io::decimal` writes the fewest digits that hold the number: they are the definition's, and ten at most.
-use mathlib.Core.Path.{_∙_}
-use native.Mathlib.Omega.{arith}
-use borrow.Author.Needs.{needs}
+use Rattle.integers.proofs.Prelude.{_∙_, arith, needs}
 use Rattle.numbers.proofs.DigitsLaws.{spelled, at-most-ten}
 use Rattle.numbers.proofs.WriterLaws.{spelled-as}
 use Rattle.numbers.proofs.writer.append_decimal.Statement.{statement}

@@ -1,10 +1,5 @@
 -- A minus sign where the number is negative, then the digits of its size.
-use mathlib.Core.Path.{sym, ap, _∙_}
-use mathlib.Core.List.{List, _∷_}
-use Prim.Native.Nat.{ℕ}
-use native.Mathlib.Omega.{arith}
-use mir.Facts.{toZ-ofZ}
-use borrow.Author.Needs.{needs}
+use Rattle.integers.proofs.Prelude.{sym, ap, _∙_, List, _∷_, ℕ, arith, toZ-ofZ, needs}
 use Rattle.numbers.specs.Decimal.{decimal}
 use Rattle.numbers.proofs.DecimalLaws.{minus-sign, no-sign}
 use Rattle.numbers.proofs.WriterLaws.{then, spelled-as}

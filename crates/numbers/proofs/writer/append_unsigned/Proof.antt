@@ -1,6 +1,5 @@
 -- A space, then the digits.
-use native.Mathlib.Omega.{arith}
-use borrow.Author.Needs.{needs}
+use Rattle.integers.proofs.Prelude.{arith, needs}
 use Rattle.numbers.proofs.WriterLaws.{then}
 use Rattle.numbers.proofs.writer.append_unsigned.Statement.{statement}
 use Rattle.numbers.proofs.writer.append_unsigned.Tie as tie

@@ -1,11 +1,5 @@
 -- `draw_at_corner` meets its contract: CornerLaws.antt has what the call comes to. Assumes nothing.
-use mathlib.Core.Path.{_∙_}
-use mir.Val.{SFits, toZ, ofZ}
-use mir.Facts.{toZ-ofZ}
-use lib.IntN.{negsuc}
-use lib.Signed.{_≤ℤ_}
-use mir.Syntax.{w32}
-use borrow.Author.Needs.{needs}
+use Rattle.integers.proofs.Prelude.{_∙_, negsuc, _≤ℤ_, w32, SFits, toZ, ofZ, toZ-ofZ, needs}
 use Rattle.integers.proofs.Laws.{stored}
 use Rattle.pictures.proofs.CornerLaws.{corner-near, call-answers, call-shows, call-seen}
 use Rattle.pictures.proofs.whole.draw_at_corner.Statement.{statement}

@@ -1,8 +1,5 @@
 -- `draw_box` meets its contract: DrawingLaws.antt has what the call leaves. Assumes nothing.
-use mathlib.Core.Logic.{inl, inr}
-use mathlib.Core.Path.{refl, sym, ap}
-use native.Mathlib.Omega.{arith}
-use borrow.Author.Needs.{needs}
+use Rattle.integers.proofs.Prelude.{refl, sym, ap, inl, inr, arith, needs}
 use Rattle.definitions.specs.Calls.{dimensionsOutcome}
 use Rattle.pictures.proofs.DrawingLaws.{area-most, part-length, framed, called}
 use Rattle.pictures.proofs.whole.draw_box.Statement.{statement}

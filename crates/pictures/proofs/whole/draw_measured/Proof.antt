@@ -1,7 +1,5 @@
 -- `draw_measured` meets its contract. Assumes nothing.
-use mathlib.Core.Logic.{inl}
-use mathlib.Core.Path.{refl, sym, ap, _∙_}
-use borrow.Author.Needs.{needs}
+use Rattle.integers.proofs.Prelude.{refl, sym, ap, _∙_, inl, needs}
 use Rattle.definitions.specs.Calls.{dimensionsOutcome}
 use Rattle.pictures.proofs.DrawingLaws.{measured-box}
 use Rattle.pictures.proofs.whole.draw_measured.Statement.{statement}

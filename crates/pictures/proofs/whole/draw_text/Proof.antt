@@ -1,9 +1,5 @@
 -- `draw_text` meets its contract: a font that does not open is not measured, and its line height is at most 128. Assumes nothing.
-use mathlib.Core.Logic.{inl}
-use mathlib.Core.Path.{refl, sym, ap, subst, _∙_}
-use Prim.Native.Nat.{ℕ}
-use native.Mathlib.Omega.{arith}
-use borrow.Author.Needs.{needs}
+use Rattle.integers.proofs.Prelude.{refl, sym, ap, subst, _∙_, inl, ℕ, arith, needs}
 use Rattle.definitions.specs.Header.{header}
 use Rattle.definitions.specs.Calls.{fontReaderOutcome}
 use Rattle.pictures.proofs.DrawingLaws.{opening-refused, is-default, default-low}

@@ -1,8 +1,5 @@
 -- `opposite` meets its contract. Assumes nothing.
-use lib.IntN.{pos, _-ℤ_}
-use mir.Facts.{toZ-ofZ}
-use mir.Val.{SFits}
-use mir.Syntax.{w32}
+use Rattle.integers.proofs.Prelude.{pos, _-ℤ_, w32, SFits, toZ-ofZ}
 use Rattle.integers.proofs.Laws.{zarith, minus, range}
 use Rattle.pictures.proofs.whole.opposite.Statement.{statement}
 use Rattle.pictures.proofs.whole.opposite.Tie as tie

@@ -1,6 +1,5 @@
 -- `digit_count` meets its contract, test by test. Assumes nothing.
-use native.Mathlib.Omega.{arith}
-use borrow.Author.Tests.{lt-ltb, le-ltb}
+use Rattle.integers.proofs.Prelude.{arith, lt-ltb, le-ltb}
 use Rattle.printing.proofs.digits.digit_count.Statement.{statement}
 use Rattle.printing.proofs.digits.digit_count.Tie as tie
 

@@ -1,6 +1,5 @@
 -- `hex_digit` meets its contract. Assumes nothing.
-use borrow.Author.Tests.{lt-ltb, le-ltb}
-use borrow.Author.Needs.{needs}
+use Rattle.integers.proofs.Prelude.{lt-ltb, le-ltb, needs}
 use Rattle.printing.proofs.digits.hex_digit.Statement.{statement}
 use Rattle.printing.proofs.digits.hex_digit.Tie as tie
 

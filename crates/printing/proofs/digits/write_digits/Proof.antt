@@ -1,8 +1,5 @@
 -- `write_digits` meets its contract: DigitLaws.antt has the step. Assumes nothing.
-use mathlib.Core.Path.{subst}
-use Prim.Native.Nat.{ℕ}
-use native.Mathlib.Omega.{arith}
-use borrow.Author.Needs.{needs}
+use Rattle.integers.proofs.Prelude.{subst, ℕ, arith, needs}
 use Rattle.printing.specs.CodePoints.{hexDigits, hexPlaces}
 use Rattle.printing.proofs.DigitLaws.{Written, written-none, written-next, written-all}
 use Rattle.printing.proofs.digits.write_digits.Statement.{statement}

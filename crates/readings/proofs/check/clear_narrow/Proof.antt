@@ -1,12 +1,9 @@
 -- The narrowed box of what drawing the text would answer is filled.
-use mathlib.Core.Path.{sym, ap, _∙_}
-use mathlib.Core.List.{List}
-use Prim.Native.Nat.{ℕ}
+use Rattle.integers.proofs.Prelude.{sym, ap, _∙_, List, ℕ, needs}
 use Rattle.definitions.specs.Vocabulary.{BoundingBox}
 use Rattle.definitions.specs.Framebuffer.{shown}
 use Rattle.definitions.specs.Calls.{dimensionsOutcome}
 use Rattle.framebuffer.specs.Areas.{fillPicture}
-use borrow.Author.Needs.{needs}
 use Rattle.readings.proofs.check.clear_narrow.Statement.{statement}
 use Rattle.readings.proofs.check.clear_narrow.Tie as tie
 

@@ -1,10 +1,9 @@
 -- A refused drawing is taken back.
-use mathlib.Core.Path.{ap, _∙_}
+use Rattle.integers.proofs.Prelude.{ap, _∙_, needs}
 use Rattle.buffers.proofs.CopyLaws.{whole}
 use Rattle.definitions.specs.Calls.{dimensionsOutcome}
 use Rattle.readings.specs.Readings.{asked, framebuffer}
 use Rattle.readings.proofs.AloneLaws.{drawn-alone, refused-alone}
-use borrow.Author.Needs.{needs}
 use Rattle.readings.proofs.check.draw_alone.Statement.{statement}
 use Rattle.readings.proofs.check.draw_alone.Tie as tie
 

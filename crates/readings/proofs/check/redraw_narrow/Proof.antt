@@ -1,10 +1,6 @@
 -- As `redraw` of the gauge, but for what is filled: a refused step is that of its causes; else the narrowed box is filled and the new
 -- reading drawn.
-use mathlib.Core.Path.{_≡_, sym, ap, subst, _∙_}
-use mathlib.Core.Bool.{true}
-use Prim.Native.Nat.{ℕ}
-use native.Mathlib.Omega.{arith}
-use borrow.Author.Needs.{needs}
+use Rattle.integers.proofs.Prelude.{_≡_, sym, ap, subst, _∙_, true, ℕ, arith, needs}
 use Rattle.definitions.specs.Refusals.{success}
 use Rattle.definitions.specs.Agreement.{Ground}
 use Rattle.framebuffer.specs.Areas.{BufferFits}

@@ -1,12 +1,8 @@
 -- Without the fault the step is the gauge's.
-use mathlib.Core.Path.{sym, ap, _∙_}
-use mathlib.Core.Bool.{Bool}
-use mathlib.Core.List.{List}
-use Prim.Native.Nat.{ℕ}
+use Rattle.integers.proofs.Prelude.{sym, ap, _∙_, Bool, List, ℕ, needs}
 use Rattle.readings.specs.Readings.{asked, framebuffer}
 use Rattle.readings.specs.Sheet.{stepBuffer}
 use Rattle.readings.proofs.NarrowLaws.{faultless}
-use borrow.Author.Needs.{needs}
 use Rattle.readings.proofs.check.redraw_on.Statement.{statement}
 use Rattle.readings.proofs.check.redraw_on.Tie as tie
 

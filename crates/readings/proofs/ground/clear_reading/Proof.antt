@@ -1,7 +1,6 @@
 -- `clear_reading` meets its contract: each way is a case of what the reading measures. Assumes nothing.
-use mathlib.Core.Path.{sym, ap, _∙_}
+use Rattle.integers.proofs.Prelude.{sym, ap, _∙_, needs}
 use Rattle.definitions.specs.Calls.{dimensionsOutcome}
-use borrow.Author.Needs.{needs}
 use Rattle.readings.proofs.ground.clear_reading.Statement.{statement}
 use Rattle.readings.proofs.ground.clear_reading.Tie as tie
 

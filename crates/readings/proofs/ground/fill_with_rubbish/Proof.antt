@@ -1,11 +1,7 @@
 -- `fill_with_rubbish` meets its contract: WriteLaws.antt of buffers has the step. Assumes nothing.
-use mathlib.Core.Path.{_≡_, refl}
-use Prim.Native.Nat.{_+_, _%_, _-_, _≤_}
-use native.Mathlib.Omega.{arith}
-use lib.ListN.{length, length-set}
+use Rattle.integers.proofs.Prelude.{_≡_, refl, _+_, _%_, _-_, _≤_, arith, length, length-set, needs}
 use Rattle.buffers.proofs.WriteLaws.{WrittenTo, write-next}
 use Rattle.readings.proofs.GroundLaws.{all-rubbish}
-use borrow.Author.Needs.{needs}
 use Rattle.readings.proofs.ground.fill_with_rubbish.Statement.{statement}
 use Rattle.readings.proofs.ground.fill_with_rubbish.Tie as tie
 

@@ -1,12 +1,8 @@
 -- `lay_ground` meets its contract: the boxes of the first k readings are cleared, and GroundLaws.antt has what that leaves.
 -- Assumes nothing.
-use mathlib.Core.Path.{_≡_, refl}
-use Prim.Native.Nat.{_-_, _≤_}
-use native.Mathlib.Omega.{arith}
-use lib.ListN.{length}
+use Rattle.integers.proofs.Prelude.{_≡_, refl, _-_, _≤_, arith, length, needs}
 use Rattle.readings.specs.Ground.{rubbish, clearedTo}
 use Rattle.readings.proofs.GroundLaws.{laid-start, laid-next, laid}
-use borrow.Author.Needs.{needs}
 use Rattle.readings.proofs.ground.lay_ground.Statement.{statement}
 use Rattle.readings.proofs.ground.lay_ground.Tie as tie
 

@@ -1,12 +1,9 @@
 -- The text is the reading's.
-use mathlib.Core.Path.{ap, _∙_}
-use mathlib.Core.List.{List}
-use Prim.Native.Nat.{ℕ}
+use Rattle.integers.proofs.Prelude.{ap, _∙_, List, ℕ, needs}
 use Rattle.buffers.specs.Differences.{differences}
 use Rattle.redraw.specs.Redraw.{readingOn}
 use Rattle.readings.specs.Readings.{asked, framebuffer}
 use Rattle.readings.proofs.TextLaws.{to-the-end}
-use borrow.Author.Needs.{needs}
 use Rattle.readings.proofs.step.compare.Statement.{statement}
 use Rattle.readings.proofs.step.compare.Tie as tie
 

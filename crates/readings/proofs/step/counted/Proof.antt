@@ -1,8 +1,6 @@
 -- Each way is a case of the answer.
-use native.Mathlib.Nat.{add-zero}
-use native.Mathlib.Omega.{arith}
+use Rattle.integers.proofs.Prelude.{add-zero, arith, needs}
 use Rattle.readings.proofs.SheetLaws.{at-most}
-use borrow.Author.Needs.{needs}
 use Rattle.readings.proofs.step.counted.Statement.{statement}
 use Rattle.readings.proofs.step.counted.Tie as tie
 

@@ -1,10 +1,9 @@
 -- The texts are the readings'.
-use mathlib.Core.Path.{_∙_}
+use Rattle.integers.proofs.Prelude.{_∙_, needs}
 use Rattle.redraw.specs.Redraw.{redrawn}
 use Rattle.readings.specs.Readings.{asked, framebuffer}
 use Rattle.readings.specs.Sheet.{stepBuffer}
 use Rattle.readings.proofs.TextLaws.{to-the-end, both-texts}
-use borrow.Author.Needs.{needs}
 use Rattle.readings.proofs.step.draw_over.Statement.{statement}
 use Rattle.readings.proofs.step.draw_over.Tie as tie
 

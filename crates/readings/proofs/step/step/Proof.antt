@@ -1,14 +1,11 @@
 -- What is found, part by part.
-use mathlib.Core.Path.{ap, _∙_}
-use mathlib.Core.List.{List}
-use Prim.Native.Nat.{ℕ}
+use Rattle.integers.proofs.Prelude.{ap, _∙_, List, ℕ, needs}
 use Rattle.integers.specs.Integers.{pick}
 use Rattle.definitions.specs.Vocabulary.{RenderedDimensions}
 use Rattle.definitions.specs.Refusals.{Outcome}
 use Rattle.buffers.specs.Differences.{differences}
 use Rattle.redraw.specs.Redraw.{taken}
 use Rattle.readings.specs.Sheet.{wanted}
-use borrow.Author.Needs.{needs}
 use Rattle.readings.proofs.step.step.Statement.{statement}
 use Rattle.readings.proofs.step.step.Tie as tie
 

@@ -1,12 +1,8 @@
 -- `measure_reading` meets its contract: what is measured is the part that `write_reading` wrote. Assumes nothing.
-use mathlib.Core.Path.{ap, _∙_}
-use mathlib.Core.Bool.{false}
-use mathlib.Core.List.{List}
-use Prim.Native.Nat.{ℕ}
+use Rattle.integers.proofs.Prelude.{ap, _∙_, false, List, ℕ, needs}
 use Rattle.definitions.specs.Font.{u8g2}
 use Rattle.definitions.specs.Calls.{plain, measure}
 use Rattle.readings.proofs.TextLaws.{to-the-end}
-use borrow.Author.Needs.{needs}
 use Rattle.readings.proofs.texts.measure_reading.Statement.{statement}
 use Rattle.readings.proofs.texts.measure_reading.Tie as tie
 

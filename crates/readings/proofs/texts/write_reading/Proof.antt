@@ -1,15 +1,6 @@
 -- `write_reading` meets its contract: past the last reading nothing is left of the buffer. Assumes nothing.
-use mathlib.Core.Path.{_≡_, _∙_}
-use Prim.Native.Nat.{ℕ, _<_}
-use native.Mathlib.Omega.{arith}
-use borrow.Author.Tests.{le-leb, lt-leb}
-use lib.IntN.{pos, _-ℤ_}
-use lib.ListN.{drop-of-length-le}
-use mir.Syntax.{w32}
-use mir.Val.{SFits, toZ}
-use mir.Facts.{toZ-ofZ, toZ-pos}
+use Rattle.integers.proofs.Prelude.{_≡_, _∙_, ℕ, _<_, arith, pos, _-ℤ_, drop-of-length-le, w32, SFits, toZ, toZ-ofZ, toZ-pos, le-leb, lt-leb, needs}
 use Rattle.integers.proofs.Laws.{zarith, minus}
-use borrow.Author.Needs.{needs}
 use Rattle.readings.proofs.texts.write_reading.Statement.{statement}
 use Rattle.readings.proofs.texts.write_reading.Tie as tie
 

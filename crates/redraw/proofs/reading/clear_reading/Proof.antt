@@ -1,7 +1,6 @@
 -- The box of what drawing the text would answer is filled.
-use mathlib.Core.Path.{_≡_, sym, ap, _∙_}
+use Rattle.integers.proofs.Prelude.{_≡_, sym, ap, _∙_, needs}
 use Rattle.definitions.specs.Calls.{dimensionsOutcome}
-use borrow.Author.Needs.{needs}
 use Rattle.redraw.proofs.reading.clear_reading.Statement.{statement}
 use Rattle.redraw.proofs.reading.clear_reading.Tie as tie
 

@@ -1,7 +1,6 @@
 -- What drawing the text would answer decides; drawing it then answers the same.
-use mathlib.Core.Path.{_≡_, sym, ap, _∙_}
+use Rattle.integers.proofs.Prelude.{_≡_, sym, ap, _∙_, needs}
 use Rattle.definitions.specs.Calls.{dimensionsOutcome}
-use borrow.Author.Needs.{needs}
 use Rattle.redraw.proofs.reading.draw_reading.Statement.{statement}
 use Rattle.redraw.proofs.reading.draw_reading.Tie as tie
 

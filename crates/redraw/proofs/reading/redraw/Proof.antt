@@ -1,9 +1,6 @@
 -- A refused step is that of its causes; else the old reading is cleared and the new one drawn (RedrawLaws), and what that leaves
 -- on a ground is `leaves-reading` of StepsLaws.
-use mathlib.Core.Path.{_≡_, sym, ap, subst, _∙_}
-use Prim.Native.Nat.{ℕ}
-use native.Mathlib.Omega.{arith}
-use borrow.Author.Needs.{needs}
+use Rattle.integers.proofs.Prelude.{_≡_, sym, ap, subst, _∙_, ℕ, arith, needs}
 use Rattle.definitions.specs.Refusals.{success}
 use Rattle.definitions.specs.Calls.{dimensionsOutcome}
 use Rattle.definitions.specs.Agreement.{Ground}

@@ -1,6 +1,5 @@
 -- A newline is code point 10; any other is looked up and counted.
-use borrow.Author.Needs.{needs}
-use borrow.Author.Tests.{eq-eqb, ne-eqb}
+use Rattle.integers.proofs.Prelude.{eq-eqb, ne-eqb, needs}
 use Rattle.renderer.proofs.drawn_dimensions.add_char.Statement.{statement}
 use Rattle.renderer.proofs.drawn_dimensions.add_char.Tie as tie
 

@@ -1,9 +1,5 @@
 -- The loop keeps that the rest of the text measures from here on what the whole text measures from its start (`Measured`).
-use mathlib.Core.Path.{_≡_, sym, ap, _∙_}
-use Prim.Native.Nat.{_-_}
-use native.Mathlib.Omega.{arith}
-use lib.ListN.{length, drop}
-use borrow.Author.Needs.{needs}
+use Rattle.integers.proofs.Prelude.{_≡_, sym, ap, _∙_, _-_, arith, length, drop, needs}
 use Rattle.content.specs.Text.{asCharacter}
 use Rattle.definitions.specs.Utf8.{character, firstCharacter}
 use Rattle.definitions.specs.Font.{u8g2, drawnAnswer}

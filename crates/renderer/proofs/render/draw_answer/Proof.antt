@@ -1,8 +1,6 @@
 -- `answerShown` goes by the same cases.
-use mathlib.Core.Path.{_≡_, ap, _∙_}
-use lib.IntN.{_+ℤ_}
+use Rattle.integers.proofs.Prelude.{_≡_, ap, _∙_, _+ℤ_, needs}
 use Rattle.layout.specs.CharAnswers.{asAnswer}
-use borrow.Author.Needs.{needs}
 use Rattle.renderer.proofs.render.draw_answer.Statement.{statement}
 use Rattle.renderer.proofs.render.draw_answer.Tie as tie
 

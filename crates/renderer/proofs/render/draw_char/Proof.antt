@@ -1,8 +1,6 @@
 -- A newline is code point 10; any other is looked up, drawn and counted.
-use mathlib.Core.Path.{_≡_, sym, _∙_}
-use borrow.Author.Tests.{eq-eqb, ne-eqb}
+use Rattle.integers.proofs.Prelude.{_≡_, sym, _∙_, eq-eqb, ne-eqb, needs}
 use Rattle.renderer.proofs.RenderLaws.{runs-checked}
-use borrow.Author.Needs.{needs}
 use Rattle.renderer.proofs.render.draw_char.Statement.{statement}
 use Rattle.renderer.proofs.render.draw_char.Tie as tie
 

@@ -1,9 +1,5 @@
 -- The loop keeps that the rest of the text draws from here on what the whole text draws from its start (`DrawnTo`).
-use mathlib.Core.Path.{_≡_, sym, ap, subst, _∙_}
-use Prim.Native.Nat.{ℕ, _-_}
-use native.Mathlib.Omega.{arith}
-use lib.ListN.{length, drop}
-use borrow.Author.Needs.{needs}
+use Rattle.integers.proofs.Prelude.{_≡_, sym, ap, subst, _∙_, ℕ, _-_, arith, length, drop, needs}
 use Rattle.content.specs.Text.{asCharacter}
 use Rattle.definitions.specs.Utf8.{character, firstCharacter}
 use Rattle.definitions.specs.Font.{u8g2, drawnAnswer, pixelsOf}

@@ -1,7 +1,6 @@
 -- The letter of what the lookup answers.
-use mathlib.Core.Path.{_≡_, ap, _∙_}
+use Rattle.integers.proofs.Prelude.{_≡_, ap, _∙_, needs}
 use Rattle.definitions.specs.Text.{answer}
-use borrow.Author.Needs.{needs}
 use Rattle.renderer.proofs.render.retrieve_answer.Statement.{statement}
 use Rattle.renderer.proofs.render.retrieve_answer.Tie as tie
 

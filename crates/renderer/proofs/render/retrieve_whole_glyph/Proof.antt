@@ -1,11 +1,9 @@
 -- A glyph that is found is answered if its runs are all there.
-use mathlib.Core.Path.{_≡_, sym, ap, _∙_}
-use native.Mathlib.Omega.{arith}
+use Rattle.integers.proofs.Prelude.{_≡_, sym, ap, _∙_, arith, needs}
 use Rattle.definitions.specs.Refusals.{success}
 use Rattle.definitions.specs.Glyph.{glyph, glyphOutcome}
 use Rattle.definitions.proofs.GlyphLaws.{glyph-range}
 use Rattle.renderer.proofs.RenderLaws.{whole-glyph, cut-glyph}
-use borrow.Author.Needs.{needs}
 use Rattle.renderer.proofs.render.retrieve_whole_glyph.Statement.{statement}
 use Rattle.renderer.proofs.render.retrieve_whole_glyph.Tie as tie
 

@@ -1,6 +1,5 @@
 -- The definition makes the same test.
-use borrow.Author.Tests.{lt-ltb, le-ltb}
-use borrow.Author.Needs.{needs}
+use Rattle.integers.proofs.Prelude.{lt-ltb, le-ltb, needs}
 use Rattle.runs.proofs.Runs.pixel.Statement.{statement}
 use Rattle.runs.proofs.Runs.pixel.Tie as tie
 

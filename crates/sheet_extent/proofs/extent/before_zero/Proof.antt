@@ -1,10 +1,5 @@
 -- `before_zero` meets its contract. Assumes nothing.
-use Prim.Native.Nat.{_≤_}
-use lib.IntN.{ℤ, pos, negsuc, _-ℤ_}
-use lib.Signed.{_≤ℤ_}
-use mir.Syntax.{w64}
-use mir.Val.{SFits}
-use mir.Facts.{toZ-ofZ}
+use Rattle.integers.proofs.Prelude.{_≤_, ℤ, pos, negsuc, _-ℤ_, _≤ℤ_, w64, SFits, toZ-ofZ}
 use Rattle.integers.proofs.Laws.{zarith, minus, castable}
 use Rattle.sheet_extent.proofs.ExtentLaws.{far-before, not-before, before}
 use Rattle.sheet_extent.proofs.extent.before_zero.Statement.{statement}

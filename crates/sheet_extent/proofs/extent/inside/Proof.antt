@@ -1,14 +1,8 @@
 -- `inside` meets its contract. Assumes nothing.
-use mathlib.Core.Path.{_≡_, ap, _∙_}
-use Prim.Native.Nat.{ℕ, _+_, _≤_}
-use native.Mathlib.Omega.{arith}
-use lib.IntN.{pos}
-use mir.Syntax.{w32}
-use mir.Facts.{toZ-ofZ, toZ-pos}
+use Rattle.integers.proofs.Prelude.{_≡_, ap, _∙_, ℕ, _+_, _≤_, arith, pos, w32, toZ-ofZ, toZ-pos, needs}
 use Rattle.integers.proofs.Laws.{zarith}
 use Rattle.sheet_extent.specs.Extent.{beforeZero}
 use Rattle.sheet_extent.proofs.ExtentLaws.{before-most}
-use borrow.Author.Needs.{needs}
 use Rattle.sheet_extent.proofs.extent.inside.Statement.{statement}
 use Rattle.sheet_extent.proofs.extent.inside.Tie as tie
 

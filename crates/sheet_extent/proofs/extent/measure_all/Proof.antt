@@ -1,10 +1,7 @@
 -- `measure_all` meets its contract: the extent is that of the first k readings. Assumes nothing.
-use mathlib.Core.Path.{_≡_}
-use Prim.Native.Nat.{_≤_, _-_}
-use native.Mathlib.Omega.{arith}
+use Rattle.integers.proofs.Prelude.{_≡_, _≤_, _-_, arith, needs}
 use Rattle.sheet_extent.specs.Extent.{extentOf, NearExtent}
 use Rattle.sheet_extent.proofs.ExtentLaws.{no-readings, next-reading, all-readings}
-use borrow.Author.Needs.{needs}
 use Rattle.sheet_extent.proofs.extent.measure_all.Statement.{statement}
 use Rattle.sheet_extent.proofs.extent.measure_all.Tie as tie
 

@@ -1,12 +1,7 @@
 -- `side` meets its contract: in 64 bits the sums fit, and ExtentLaws.antt has the tests. Assumes nothing.
-use lib.IntN.{ℤ, pos, _+ℤ_}
-use lib.Signed.{_≤ℤ_}
-use mir.Syntax.{w64}
-use mir.Val.{SFits}
-use mir.Facts.{toZ-ofZ, sfits-widen}
+use Rattle.integers.proofs.Prelude.{ℤ, pos, _+ℤ_, _≤ℤ_, w64, SFits, toZ-ofZ, sfits-widen, needs}
 use Rattle.integers.proofs.Laws.{zarith, plus, range, castable}
 use Rattle.sheet_extent.proofs.ExtentLaws.{short-side, long-side, whole-side}
-use borrow.Author.Needs.{needs}
 use Rattle.sheet_extent.proofs.extent.side.Statement.{statement}
 use Rattle.sheet_extent.proofs.extent.side.Tie as tie
 

@@ -1,6 +1,5 @@
 -- `start_edge`: 32 bits fit 64. Assumes nothing.
-use mir.Syntax.{w64}
-use mir.Facts.{toZ-ofZ, sfits-widen}
+use Rattle.integers.proofs.Prelude.{w64, toZ-ofZ, sfits-widen}
 use Rattle.sheet_extent.proofs.extent.start_edge.Statement.{statement}
 use Rattle.sheet_extent.proofs.extent.start_edge.Tie as tie
 

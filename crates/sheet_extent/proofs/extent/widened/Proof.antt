@@ -1,13 +1,8 @@
 -- `widened` meets its contract: each edge is chosen and stored, and ExtentLaws.antt has that it stays in reach. Assumes nothing.
-use mathlib.Core.Path.{refl, sym, ap, subst, _∙_}
-use Prim.Native.Nat.{_<_, _^_}
-use lib.IntN.{ℤ, pos, _+ℤ_}
-use mir.Syntax.{w32, w64}
-use mir.Val.{SFits}
+use Rattle.integers.proofs.Prelude.{refl, sym, ap, subst, _∙_, _<_, _^_, ℤ, pos, _+ℤ_, w32, w64, SFits, needs}
 use Rattle.integers.proofs.Laws.{stored}
 use Rattle.sheet_extent.specs.Extent.{NearExtent}
 use Rattle.sheet_extent.proofs.ExtentLaws.{near-widened, least-stored, most-stored, four-edges}
-use borrow.Author.Needs.{needs}
 use Rattle.sheet_extent.proofs.extent.widened.Statement.{statement}
 use Rattle.sheet_extent.proofs.extent.widened.Tie as tie
 

@@ -1,9 +1,8 @@
 -- `with_reading` meets its contract: each way is a case of what the reading measures (ExtentLaws.antt). Assumes nothing.
-use mathlib.Core.Path.{sym, ap, _∙_}
+use Rattle.integers.proofs.Prelude.{sym, ap, _∙_, needs}
 use Rattle.definitions.specs.Calls.{dimensionsOutcome}
 use Rattle.sheet_extent.specs.Extent.{atOrigin}
 use Rattle.sheet_extent.proofs.ExtentLaws.{refused-reading, boxless-reading, measured-reading}
-use borrow.Author.Needs.{needs}
 use Rattle.sheet_extent.proofs.extent.with_reading.Statement.{statement}
 use Rattle.sheet_extent.proofs.extent.with_reading.Tie as tie
 

@@ -1,12 +1,8 @@
 -- `place_for` meets its contract: ExtentLaws.antt has that all readings are seen. Assumes nothing.
-use mathlib.Core.Path.{sym, subst, _∙_}
-use mir.Syntax.{w32, w64}
-use mir.Val.{SFits}
-use mir.Facts.{toZ-ofZ}
+use Rattle.integers.proofs.Prelude.{sym, subst, _∙_, w32, w64, SFits, toZ-ofZ, needs}
 use Rattle.readings.specs.declared.values.Place.{Place}
 use Rattle.sheet_extent.specs.Extent.{extentOf, side, Uncut, AllSeen}
 use Rattle.sheet_extent.proofs.ExtentLaws.{is-place, all-seen, both}
-use borrow.Author.Needs.{needs}
 use Rattle.sheet_extent.proofs.place.place_for.Statement.{statement}
 use Rattle.sheet_extent.proofs.place.place_for.Tie as tie
 

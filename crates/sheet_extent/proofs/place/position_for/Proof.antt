@@ -1,12 +1,8 @@
 -- `position_for` meets its contract. Assumes nothing.
-use mathlib.Core.Path.{ap, _∙_}
-use mir.Syntax.{w32, w64}
-use mir.Val.{SFits}
-use mir.Facts.{toZ-ofZ}
+use Rattle.integers.proofs.Prelude.{ap, _∙_, w32, w64, SFits, toZ-ofZ, needs}
 use Rattle.integers.proofs.Laws.{stored}
 use Rattle.sheet_extent.specs.Extent.{inside}
 use Rattle.sheet_extent.proofs.ExtentLaws.{seen-position}
-use borrow.Author.Needs.{needs}
 use Rattle.sheet_extent.proofs.place.position_for.Statement.{statement}
 use Rattle.sheet_extent.proofs.place.position_for.Tie as tie
 

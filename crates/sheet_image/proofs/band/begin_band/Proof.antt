@@ -1,7 +1,6 @@
 -- `begin_band` meets its contract. Assumes nothing.
-use mathlib.Core.Path.{_∙_}
+use Rattle.integers.proofs.Prelude.{_∙_, needs}
 use Rattle.sheet_image.proofs.GridLaws.{begins-white, goes-on}
-use borrow.Author.Needs.{needs}
 use Rattle.sheet_image.proofs.band.begin_band.Statement.{statement}
 use Rattle.sheet_image.proofs.band.begin_band.Tie as tie
 

@@ -1,8 +1,6 @@
 -- `columns` meets its contract. Assumes nothing.
-use native.Mathlib.Nat.{mul-le-mul-right}
-use native.Mathlib.Omega.{arith}
+use Rattle.integers.proofs.Prelude.{mul-le-mul-right, arith, needs}
 use Rattle.sheet_image.proofs.GridLaws.{cells}
-use borrow.Author.Needs.{needs}
 use Rattle.sheet_image.proofs.band.columns.Statement.{statement}
 use Rattle.sheet_image.proofs.band.columns.Tie as tie
 

@@ -1,10 +1,7 @@
 -- `put_cell` meets its contract: GridLaws.antt has that the cell fits, and which cell is next. Assumes nothing.
-use mathlib.Core.Path.{ap, _∙_}
-use Prim.Native.Nat.{_*_}
-use native.Mathlib.Omega.{arith}
+use Rattle.integers.proofs.Prelude.{ap, _∙_, _*_, arith, needs}
 use Rattle.sheet_image.specs.Grid.{withCell}
 use Rattle.sheet_image.proofs.GridLaws.{band-cell, band-products, last-cell, cell-after, band-after}
-use borrow.Author.Needs.{needs}
 use Rattle.sheet_image.proofs.band.put_cell.Statement.{statement}
 use Rattle.sheet_image.proofs.band.put_cell.Tie as tie
 

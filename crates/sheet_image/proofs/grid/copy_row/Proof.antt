@@ -1,10 +1,7 @@
 -- `copy_row` meets its contract: GridLaws.antt has the step. Assumes nothing.
-use mathlib.Core.Path.{_≡_, subst}
-use Prim.Native.Nat.{_-_, _≤_}
-use native.Mathlib.Omega.{arith}
+use Rattle.integers.proofs.Prelude.{_≡_, subst, _-_, _≤_, arith, needs}
 use Rattle.sheet_image.specs.Grid.{RowCopied}
 use Rattle.sheet_image.proofs.GridLaws.{copy-next}
-use borrow.Author.Needs.{needs}
 use Rattle.sheet_image.proofs.grid.copy_row.Statement.{statement}
 use Rattle.sheet_image.proofs.grid.copy_row.Tie as tie
 

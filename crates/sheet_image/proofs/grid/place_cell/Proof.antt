@@ -1,12 +1,8 @@
 -- `place_cell` meets its contract: GridLaws.antt has that each row lies in the band and in the cell, and what a row more shows.
 -- Assumes nothing.
-use mathlib.Core.Path.{_≡_, refl, ap, _∙_}
-use Prim.Native.Nat.{ℕ, _-_, _≤_, _<_}
-use native.Mathlib.Omega.{arith}
-use lib.ListN.{length}
+use Rattle.integers.proofs.Prelude.{_≡_, refl, ap, _∙_, ℕ, _-_, _≤_, _<_, arith, length, needs}
 use Rattle.sheet_image.specs.Grid.{withCell}
 use Rattle.sheet_image.proofs.GridLaws.{band-row, cell-row, band-small, no-rows, next-row}
-use borrow.Author.Needs.{needs}
 use Rattle.sheet_image.proofs.grid.place_cell.Statement.{statement}
 use Rattle.sheet_image.proofs.grid.place_cell.Tie as tie
 

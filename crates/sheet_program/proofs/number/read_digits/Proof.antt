@@ -1,7 +1,5 @@
 -- `read_digits` ends, and its number stays small. Assumes nothing.
-use Prim.Native.Nat.{_-_, _≤_}
-use borrow.Author.Needs.{needs}
-use lib.ListN.{length}
+use Rattle.integers.proofs.Prelude.{_-_, _≤_, length, needs}
 use Rattle.sheet_program.proofs.number.read_digits.Statement.{statement}
 use Rattle.sheet_program.proofs.number.read_digits.Tie as tie
 

@@ -1,13 +1,6 @@
 -- `read_natural` is safe: a number within the limits has a negative. Assumes nothing.
-use mathlib.Core.Path.{_≡_}
-use Prim.Native.Nat.{ℕ, _≤_}
-use native.Mathlib.Omega.{arith}
-use lib.IntN.{pos, _-ℤ_}
-use mir.Syntax.{w32}
-use mir.Val.{SFits, toZ}
-use mir.Facts.{toZ-pos}
+use Rattle.integers.proofs.Prelude.{_≡_, ℕ, _≤_, arith, pos, _-ℤ_, w32, SFits, toZ, toZ-pos, needs}
 use Rattle.integers.proofs.Laws.{zarith, minus}
-use borrow.Author.Needs.{needs}
 use Rattle.sheet_program.proofs.number.read_natural.Statement.{statement}
 use Rattle.sheet_program.proofs.number.read_natural.Tie as tie
 

@@ -1,6 +1,5 @@
 -- `read` ends: a count of arguments. Assumes nothing.
-use Prim.Native.Nat.{_-_}
-use borrow.Author.Needs.{needs}
+use Rattle.integers.proofs.Prelude.{_-_, needs}
 use Rattle.sheet_program.proofs.options.read.Statement.{statement}
 use Rattle.sheet_program.proofs.options.read.Tie as tie
 

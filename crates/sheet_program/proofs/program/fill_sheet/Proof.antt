@@ -1,12 +1,8 @@
 -- `fill_sheet` meets its contract: the ground is background wherever a reading can stand, so what `run` promises holds. Assumes nothing.
-use mathlib.Core.Path.{ap, subst, _∙_}
-use mathlib.Core.List.{List}
-use Prim.Native.Nat.{ℕ}
-use native.Mathlib.Omega.{arith}
+use Rattle.integers.proofs.Prelude.{ap, subst, _∙_, List, ℕ, arith, needs}
 use Rattle.buffers.proofs.CopyLaws.{whole}
 use Rattle.readings.specs.Sheet.{totalsTo, Sound}
 use Rattle.sheet_program.proofs.FitLaws.{cell-size}
-use borrow.Author.Needs.{needs}
 use Rattle.sheet_program.proofs.program.fill_sheet.Statement.{statement}
 use Rattle.sheet_program.proofs.program.fill_sheet.Tie as tie
 

@@ -1,12 +1,10 @@
 -- `make_sheet` meets its contract: FitLaws.antt has that the framebuffers are large enough. Assumes nothing.
-use mathlib.Core.Path.{sym, subst}
-use native.Mathlib.Omega.{arith}
+use Rattle.integers.proofs.Prelude.{sym, subst, arith, needs}
 use Rattle.readings.specs.declared.values.Place.{Place}
 use Rattle.readings.specs.Readings.{PlaceFits}
 use Rattle.sheet_program.specs.Sheets.{SheetOf}
 use Rattle.sheet_extent.proofs.ExtentLaws.{fits-for}
 use Rattle.sheet_program.proofs.FitLaws.{place-size, front-length, sheet-fits}
-use borrow.Author.Needs.{needs}
 use Rattle.sheet_program.proofs.program.make_sheet.Statement.{statement}
 use Rattle.sheet_program.proofs.program.make_sheet.Tie as tie
 

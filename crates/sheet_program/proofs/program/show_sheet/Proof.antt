@@ -1,7 +1,5 @@
 -- `show_sheet` is safe: its arrays have the lengths that are asked. Assumes nothing.
-use Prim.Native.Nat.{ℕ}
-use lib.ListN.{length-replicate}
-use borrow.Author.Needs.{needs}
+use Rattle.integers.proofs.Prelude.{ℕ, length-replicate, needs}
 use Rattle.sheet_program.proofs.program.show_sheet.Statement.{statement}
 use Rattle.sheet_program.proofs.program.show_sheet.Tie as tie
 

@@ -1,7 +1,6 @@
 -- `write_head` is safe: FitLaws.antt bounds the image. Assumes nothing.
-use native.Mathlib.Omega.{arith}
+use Rattle.integers.proofs.Prelude.{arith, needs}
 use Rattle.sheet_program.proofs.FitLaws.{image-size}
-use borrow.Author.Needs.{needs}
 use Rattle.sheet_program.proofs.program.write_head.Statement.{statement}
 use Rattle.sheet_program.proofs.program.write_head.Tie as tie
 

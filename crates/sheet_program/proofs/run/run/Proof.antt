@@ -1,13 +1,8 @@
 -- The screen and the totals are those of the first k readings, and SheetLaws has what holds of all.
-use mathlib.Core.Path.{_≡_, refl, sym, ap, subst, _∙_}
-use Prim.Native.Nat.{_*_, _-_, _≤_, _<_}
-use native.Mathlib.Omega.{arith}
-use lib.ListN.{length}
-use lib.Seq.{length-take-le}
+use Rattle.integers.proofs.Prelude.{_≡_, refl, sym, ap, subst, _∙_, _*_, _-_, _≤_, _<_, arith, length, length-take-le, needs}
 use Rattle.readings.specs.Sheet.{Screen, screenOf, screenAt, totalsTo, Sound}
 use Rattle.sheet_program.proofs.FitLaws.{used-band, cell-size}
 use Rattle.readings.proofs.SheetLaws.{start-screen, start-totals, few, next-screen, next-totals, sound}
-use borrow.Author.Needs.{needs}
 use Rattle.sheet_program.proofs.run.run.Statement.{statement}
 use Rattle.sheet_program.proofs.run.run.Tie as tie
 

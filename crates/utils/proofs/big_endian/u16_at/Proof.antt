@@ -1,8 +1,5 @@
 -- Both bytes are below 256, so the number fits 16 bits.
-use Prim.Native.Nat.{_+_, _<_}
-use native.Mathlib.Omega.{arith}
-use lib.ListN.{getD}
-use borrow.Author.Needs.{needs}
+use Rattle.integers.proofs.Prelude.{_+_, _<_, arith, getD, needs}
 use Rattle.utils.proofs.big_endian.u16_at.Statement.{statement}
 use Rattle.utils.proofs.big_endian.u16_at.Tie as tie
 
