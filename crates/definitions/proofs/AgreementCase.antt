@@ -14,7 +14,7 @@ use Rattle.definitions.specs.Text.{point, joinAll, letters, lines, lineB
 use Rattle.definitions.specs.Runs.{afterPair, runs, glyphPixels}
 use Rattle.definitions.specs.Picture.{textPicture}
 use Rattle.definitions.specs.Framebuffer.{mapAt}
-use Rattle.definitions.specs.Calls.{Request, plain, draw, drawBuffer}
+use Rattle.definitions.specs.Calls.{Request, placed, plain, draw, drawBuffer}
 use Rattle.definitions.specs.Font.{u8g2}
 use Rattle.definitions.specs.FontT.{T}
 use Rattle.definitions.specs.Agreement.{Ground, on, drawn, after, pixel, results, TwoDrawings, Agree}
@@ -24,7 +24,7 @@ abbrev added : List ℕ
 added = 45 ∷ 3 ∷ 255 ∷ 0 ∷ 9 ∷ []
 
 abbrev asked : Request
-asked = plain (45 ∷ 52 ∷ []) (point (pos 5) (pos 3)) Baseline 4 false
+asked = plain (45 ∷ 52 ∷ []) (placed (point (pos 5) (pos 3)) Baseline 4 false)
 
 abbrev small : Ground
 small = on record { width = 8; height = 8 } (replicate 64 0)

@@ -11,7 +11,7 @@ use Rattle.definitions.specs.VerticalOffset.{verticalOffset}
 use Rattle.definitions.specs.Utf8.{newlines}
 use Rattle.definitions.specs.Limits.{textCause, coordinateOff, positionCause}
 use Rattle.definitions.specs.Font.{Font, measuredAnswer}
-use Rattle.definitions.specs.Calls.{Request, request, characters, origin, laid, measureCauses, measuredText, measure}
+use Rattle.definitions.specs.Calls.{Request, placed, request, characters, origin, laid, measureCauses, measuredText, measure}
 use Rattle.definitions.proofs.RefusalLaws.{or-false, none-applies, succeeded, NoneApplies, each-off, all-off, any-parts, parts-any}
 use Rattle.definitions.proofs.TextLaws.{moved, join-all-moved}
 
@@ -78,7 +78,7 @@ module _ (x y : ℤ) where
 
 -- the same request at another place
 abbrev pub at : Point → Request → Request
-at position r = request (r .text) position (r .anchor) (r .align) (r .lineHeight) (r .skip)
+at position r = request (r .text) (placed position (r .anchor) (r .lineHeight) (r .skip)) (r .align)
 
 module _ (x y : ℤ) (font : Font) (r : Request) where
   abbrev pub movedRequest : Request

@@ -5,7 +5,7 @@ use mathlib.Core.List.{List, [], _∷_, _++_}
 use Prim.Native.Nat.{ℕ, _*_}
 use lib.IntN.{pos, natAbs, _+ℤ_, _-ℤ_}
 use Rattle.integers.specs.Integers.{pick}
-use Rattle.definitions.specs.Vocabulary.{FontReader, Framebuffer, BoundingBox, Point, Rectangle, RenderedDimensions, FontColor, HorizontalAlignment, VerticalPosition}
+use Rattle.definitions.specs.Vocabulary.{FontReader, Framebuffer, BoundingBox, Point, Rectangle, RenderedDimensions, FontColor, HorizontalAlignment, VerticalPosition, Placement}
 use Rattle.types.specs.declared.results.BoundingBoxResult.{BoundingBoxResult}
 use Rattle.types.specs.declared.results.BoundingBoxResult.the-variants.{Ok as BoundingBox·Ok, Err as BoundingBox·Err}
 use Rattle.types.specs.declared.results.DimensionsResult.{DimensionsResult}
@@ -66,19 +66,27 @@ pub record Request : Type 0 where
   pub lineHeight : ℕ
   pub skip : Bool
 
-abbrev pub request : List ℕ → Point → VerticalPosition → HorizontalAlignment → ℕ → Bool → Request
-request text position anchor align lineHeight skip = record {
-  text = text;
+abbrev pub placed : Point → VerticalPosition → ℕ → Bool → Placement
+placed position anchor lineHeight skip = record {
   position = position;
-  anchor = anchor;
+  «vertical_pos» = anchor;
+  «line_height» = lineHeight;
+  «ignore_unknown_chars» = skip;
+}
+
+abbrev pub request : List ℕ → Placement → HorizontalAlignment → Request
+request text p align = record {
+  text = text;
+  position = p .position;
+  anchor = p .«vertical_pos»;
   align = align;
-  lineHeight = lineHeight;
-  skip = skip;
+  lineHeight = p .«line_height»;
+  skip = p .«ignore_unknown_chars»;
 }
 
 -- .. of a plain call
-abbrev pub plain : List ℕ → Point → VerticalPosition → ℕ → Bool → Request
-plain text position anchor lineHeight skip = request text position anchor Left lineHeight skip
+abbrev pub plain : List ℕ → Placement → Request
+plain text p = request text p Left
 
 -- The letters of a text.
 abbrev pub characters : List ℕ → List ℕ

@@ -13,7 +13,9 @@ use Rattle.definitions.specs.TextSteps.{newlineStep, nextBox, glyphStep, answer
 use Rattle.definitions.proofs.BitsLaws.{SignedByte}
 use Rattle.definitions.proofs.JoinLaws.{reach-join}
 use Rattle.definitions.proofs.GlyphLaws.{InRange}
-use Rattle.layout.specs.Ranges.{Near, HasRoom, Checked}
+use Rattle.checks.specs.Origins.{Checked}
+use Rattle.checks.proofs.OriginLaws.{newlines-length, newlines-most}
+use Rattle.layout.specs.Ranges.{Near, HasRoom}
 
 pub near-fits : {z : ℤ} → Near z → SFits w32 z
 near-fits h = omega zarith
@@ -70,21 +72,6 @@ box-in-reach {x} {y} g h k s = by (eqb (g .«glyph_width») 0 || eqb (g .«glyph
         }))
     by true = tt
     by false = record { columns = columns; rows = rows }
-
--- ---- newlines
-
-pub newlines-length : (cs : List ℕ) → newlines cs ≤ length cs
-unfolding newlines
-newlines-length [] = omega arith
-newlines-length (c ∷ cs) = by (eqb c 10) (newlines-length cs)
-  where
-    by : (t : Bool) → newlines cs ≤ length cs → pick t 1 0 + newlines cs ≤ length (c ∷ cs)
-    by true h = omega arith
-    by false h = omega arith
-
--- t of a checked text
-pub newlines-most : {n h : ℕ} → n ≤ 4096 → h ≤ 65535 → n * h ≤ 268431360
-newlines-most p q = mul-le-mul p q
 
 -- ---- the advance after `at` bytes, `rest` being the code points to come
 

@@ -1,4 +1,2 @@
 pub mod CharAnswers
 pub mod Ranges
-pub mod Origins
-pub mod Sizes

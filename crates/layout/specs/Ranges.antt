@@ -1,15 +1,11 @@
 -- How far from 0 the numbers lie that the functions inside are handed. Calls within 01's limits stay far inside.
 use mathlib.Core.Path.{_≡_}
-use mathlib.Core.Bool.{true}
-use mathlib.Core.List.{List}
-use Prim.Native.Nat.{ℕ, _≤_}
+use Prim.Native.Nat.{ℕ}
 use lib.IntN.{ℤ, pos, negsuc, _+ℤ_}
-use lib.ListN.{length}
 use lib.Signed.{_≤ℤ_}
 use Rattle.definitions.specs.Vocabulary.{Point, BoundingBox, None, Some, Rectangle, RenderedDimensions}
 use Rattle.definitions.specs.Geometry.{left, top, InReach}
 use Rattle.definitions.specs.TextSteps.{LineState}
-use Rattle.definitions.specs.Utf8.{decode, isUtf8}
 
 -- less than 2 to the power 29: sums of two such numbers fit an i32
 pub record Near (z : ℤ) : Type 0 where
@@ -23,17 +19,6 @@ pub record HasRoom (origin : Point) (d : RenderedDimensions) : Type 0 where
   pub column : Near (origin .x +ℤ d .advance .x)
   pub row : Near (origin .y +ℤ d .advance .y)
   pub box : InReach (d .«bounding_box»)
-
--- What the checks of a call leave of a text and its place: the text is UTF-8 of at most 4,096 bytes, the line height at most
--- 65,535, and the place within 01's limits, moved by the anchor.
-pub record Checked (text : List ℕ) (origin : Point) (lineHeight : ℕ) : Type 0 where
-  pub short : length text ≤ 4096
-  pub utf8 : isUtf8 (decode text) ≡ true
-  pub line : lineHeight ≤ 65535
-  pub left : negsuc 1048575 ≤ℤ origin .x
-  pub right : origin .x ≤ℤ pos 1048576
-  pub top : negsuc 269480063 ≤ℤ origin .y
-  pub bottom : origin .y ≤ℤ pos 1048704
 
 -- ---- measuring line by line: a line, counted from its own start
 

@@ -1,5 +1,3 @@
-// What a call checks of its input, where its text begins, what the font answers to each character, and how the text is counted.
-pub mod limits;
-pub mod origin;
+// What the font answers to each character, and how a text is counted.
 pub mod render_actions;
 pub mod steps;

@@ -10,9 +10,10 @@ use Rattle.definitions.specs.Font.{Font, u8g2, measuredAnswer}
 use Rattle.definitions.specs.Calls.{openFont, Request, plain, characters, origin, measureCauses, measure, alignedText, measureAligned}
 use Rattle.definitions.proofs.TextLaws.{measure-lines, boxAlone, box-of-layout, left-dimensions, lines-next, lines-stop}
 use Rattle.definitions.proofs.Utf8Laws.{position, character-count}
-use Rattle.layout.specs.Ranges.{Checked, LineHasRoom}
+use Rattle.checks.specs.Origins.{Checked}
+use Rattle.layout.specs.Ranges.{LineHasRoom}
 use Rattle.layout.proofs.RangeLaws.{Small, advanced-start}
-use Rattle.layout.proofs.OriginLaws.{tested, origin-is, call-refused, call-goes-on}
+use Rattle.checks.proofs.OriginLaws.{tested, origin-is, call-refused, call-goes-on}
 use Rattle.measuring.specs.Lines.{alignedDimensions}
 use Rattle.measuring.proofs.LinesLaws.{InLines, line-has-room, in-lines-next}
 use Rattle.layout.proofs.LoopLaws.{Reached, reached-start, reached-end, reached-next, reached-stops}

@@ -13,7 +13,8 @@ use Rattle.definitions.specs.Text.{Answer, shows, nothing, stops, boxAt, point,
 use Rattle.definitions.specs.TextSteps.{nextBox, glyphStep, movedBox, LineState, withLine, nextLine, answerOfLine, lineStep}
 use Rattle.definitions.proofs.JoinLaws.{end, join-end, reach-join}
 use Rattle.definitions.proofs.TextLaws.{either-box}
-use Rattle.layout.specs.Ranges.{Near, HasRoom, Checked, LineSpan, LineInReach, LineHasRoom}
+use Rattle.checks.specs.Origins.{Checked}
+use Rattle.layout.specs.Ranges.{Near, HasRoom, LineSpan, LineInReach, LineHasRoom}
 use Rattle.layout.proofs.RangeLaws.{Small, Advanced, advanced-y, near-row, advanced-newline, advanced-answer, advanced-nothing}
 
 -- ---- boxes

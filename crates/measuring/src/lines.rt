@@ -6,12 +6,13 @@ ghost use Rattle.definitions.specs.TextSteps.{start, movedBox, withLine, nextLi
 ghost use Rattle.definitions.specs.Font.{u8g2, measuredAnswer};
 ghost use Rattle.definitions.specs.Calls.{request, characters, dimensionsOutcome};
 ghost use Rattle.measuring.specs.Lines.{asState, stateOutcome, alignedDimensions};
-ghost use Rattle.layout.specs.Ranges.{Near, LineInReach, LineHasRoom, Checked};
+ghost use Rattle.checks.specs.Origins.{Checked};
+ghost use Rattle.layout.specs.Ranges.{Near, LineInReach, LineHasRoom};
 use content::text::NextChar;
 use content::text::next_char;
 use font_reader::new_from_raw_data;
-use layout::origin::OriginResult;
-use layout::origin::checked_origin;
+use checks::origin::OriginResult;
+use checks::origin::checked_origin;
 use layout::render_actions::compute_horizontal_offset;
 use layout::render_actions::try_retrieve_glyph_data;
 use layout::steps::NEWLINE;

@@ -7,7 +7,7 @@ ghost use Rattle.definitions.specs.TextSteps.{measureFrom, start};
 ghost use Rattle.definitions.specs.Font.{u8g2, drawnAnswer};
 ghost use Rattle.definitions.specs.Calls.{characters, dimensionsOutcome};
 ghost use Rattle.framebuffer.specs.Areas.{BufferFits};
-ghost use Rattle.layout.specs.Ranges.{Checked};
+ghost use Rattle.checks.specs.Origins.{Checked};
 ghost use Rattle.redraw.specs.Redraw.{readingOn, clearedBy, redrawn};
 ghost use Rattle.readings.specs.Readings.{asked, framebuffer};
 ghost use Rattle.readings.specs.Sheet.{narrowedBox, toFill, stepBuffer};

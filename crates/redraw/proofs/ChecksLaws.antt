@@ -14,9 +14,8 @@ use Rattle.definitions.proofs.OpenedLaws.{passes-font, opened, opened-limits}
 use Rattle.definitions.proofs.RefusalLaws.{succeeded, each-off}
 use Rattle.definitions.proofs.ComesLaws.{Comes, comes-none, comes-off, comes-on, comes-passed, comes-stopped}
 use Rattle.framebuffer.specs.Areas.{BufferFits}
-use Rattle.layout.specs.Ranges.{Checked}
-use Rattle.layout.specs.Origins.{originBy, checkedOrigin}
-use Rattle.layout.proofs.OriginLaws.{text-limits, position-limits, origin-checked, origin-is}
+use Rattle.checks.specs.Origins.{originBy, checkedOrigin, Checked}
+use Rattle.checks.proofs.OriginLaws.{text-limits, position-limits, origin-checked, origin-is}
 use Rattle.renderer.proofs.SizeLaws.{size-fits}
 use Rattle.redraw.specs.declared.step.Step.{Step}
 use Rattle.redraw.specs.Redraw.{redrawCauses}

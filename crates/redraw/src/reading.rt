@@ -8,7 +8,7 @@ ghost use Rattle.definitions.specs.Font.{u8g2, drawnAnswer, pixelsOf};
 ghost use Rattle.definitions.specs.Calls.{characters, dimensionsOutcome};
 ghost use Rattle.redraw.specs.Drawing.{drawing, groundOf};
 ghost use Rattle.framebuffer.specs.Areas.{BufferFits};
-ghost use Rattle.layout.specs.Ranges.{Checked};
+ghost use Rattle.checks.specs.Origins.{Checked};
 ghost use Rattle.redraw.specs.Redraw.{wholeOr, clearedBy, redrawn, redrawnBuffer, taken};
 ghost use Rattle.redraw.specs.Steps.{fieldOf, readingOf, LeavesReading};
 use crate::step::StepResult;

@@ -22,9 +22,8 @@ use Rattle.definitions.proofs.TextLaws.{measure-from, draw-from, draw-next}
 use Rattle.definitions.proofs.Utf8Laws.{next}
 use Rattle.runs.specs.RunReads.{isWhole}
 use Rattle.renderer.specs.CharAnswers.{RunsChecked}
-use Rattle.layout.specs.Ranges.{Checked}
-use Rattle.layout.specs.Origins.{originBy}
-use Rattle.layout.proofs.OriginLaws.{tested, origin-is}
+use Rattle.checks.specs.Origins.{originBy, Checked}
+use Rattle.checks.proofs.OriginLaws.{tested, origin-is}
 use Rattle.layout.proofs.RangeLaws.{Small, in-range-small}
 use Rattle.layout.proofs.LoopLaws.{reached-start, reached-last, reached-next}
 use Rattle.layout.proofs.MeasureLaws.{shown-glyph, Measured, measured-start, measured-next}

@@ -3,8 +3,8 @@ use Rattle.integers.proofs.Prelude.{_≡_, false, ℕ, eqb-true}
 use Rattle.definitions.proofs.RefusalLaws.{or-false}
 use Rattle.framebuffer.specs.Areas.{BufferFits}
 use Rattle.layout.specs.Sizes.{sizeOff}
-use Rattle.layout.proofs.OriginLaws.{not-false}
-use Rattle.layout.proofs.LimitLaws.{side-limits}
+use Rattle.checks.proofs.OriginLaws.{not-false}
+use Rattle.checks.proofs.LimitLaws.{side-limits}
 
 pub size-fits : (width height len : ℕ) → sizeOff width height len ≡ false → BufferFits len width height
 size-fits width height len e =

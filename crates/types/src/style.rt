@@ -1,4 +1,5 @@
 // How a text is placed and coloured.
+use crate::geometry::Point;
 
 // Which height of the font stands at the given y (01's anchor).
 pub enum VerticalPosition {
@@ -22,7 +23,11 @@ pub enum FontColor {
     WithBackground { fg: u8, bg: u8 },
 }
 
-pub struct FontStyle {
-    pub color: FontColor,
+// Where a text stands and how it goes on: its place, the height of the font that stands there, how far below a line the next one
+// lies, and whether characters that the font does not have are skipped.
+pub struct Placement {
+    pub position: Point,
     pub vertical_pos: VerticalPosition,
+    pub line_height: u32,
+    pub ignore_unknown_chars: bool,
 }

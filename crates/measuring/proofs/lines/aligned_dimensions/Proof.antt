@@ -4,8 +4,8 @@ use Rattle.definitions.specs.Vocabulary.{FontReader}
 use Rattle.definitions.specs.Refusals.{success, number, codePoint}
 use Rattle.definitions.specs.Calls.{openFont, Request, request, fontReaderOutcome}
 use Rattle.definitions.proofs.OpenedLaws.{opened, open-refused}
-use Rattle.layout.specs.Origins.{originOutcome}
-use Rattle.layout.proofs.OriginLaws.{tested, request-checked}
+use Rattle.checks.specs.Origins.{originOutcome}
+use Rattle.checks.proofs.OriginLaws.{tested, request-checked}
 use Rattle.measuring.specs.Lines.{alignedDimensions}
 use Rattle.measuring.proofs.AlignedLaws.{aligned-is, aligned-refused}
 use Rattle.measuring.proofs.lines.aligned_dimensions.Statement.{statement}

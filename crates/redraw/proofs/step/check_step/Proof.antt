@@ -9,9 +9,9 @@ use Rattle.definitions.specs.Calls.{openFont, fontReaderOutcome}
 use Rattle.definitions.specs.Agreement.{Ground}
 use Rattle.redraw.specs.Drawing.{Drawing, drawing, groundOf}
 use Rattle.definitions.proofs.OpenedLaws.{opened}
-use Rattle.layout.specs.Origins.{checkedOrigin, originOutcome}
-use Rattle.layout.proofs.OriginLaws.{passed}
-use Rattle.layout.proofs.LimitLaws.{color-is}
+use Rattle.checks.specs.Origins.{checkedOrigin, originOutcome}
+use Rattle.checks.proofs.OriginLaws.{passed}
+use Rattle.checks.proofs.LimitLaws.{color-is}
 use Rattle.redraw.proofs.ChecksLaws.{font-refused, size-refused, old-refused, new-refused, color-refused, all-passed}
 use Rattle.redraw.proofs.step.check_step.Statement.{statement}
 use Rattle.redraw.proofs.step.check_step.Tie as tie

@@ -7,9 +7,9 @@ use Rattle.definitions.specs.Framebuffer.{sized, framebufferCause}
 use Rattle.definitions.specs.Limits.{backgroundOff, backgroundCause}
 use Rattle.definitions.specs.Calls.{openFont, Request, plain, fontReaderOutcome}
 use Rattle.definitions.proofs.OpenedLaws.{opened}
-use Rattle.layout.specs.Origins.{originOutcome}
-use Rattle.layout.proofs.OriginLaws.{tested, request-checked}
-use Rattle.layout.proofs.LimitLaws.{color-is}
+use Rattle.checks.specs.Origins.{originOutcome}
+use Rattle.checks.proofs.OriginLaws.{tested, request-checked}
+use Rattle.checks.proofs.LimitLaws.{color-is}
 use Rattle.renderer.proofs.SizeLaws.{size-fits}
 use Rattle.renderer.proofs.RenderLaws.{font-refused, size-refused, position-refused, color-refused, drawn-whole}
 use Rattle.renderer.proofs.render.render.Statement.{statement}

@@ -1,11 +1,11 @@
 // The limits of framebuffers, texts, places, line heights and colours: 01's causes 3 to 6.
 ghost use mathlib.Core.Path.{_≡_};
-ghost use Rattle.definitions.specs.Framebuffer.{sideOff};
+ghost use Rattle.definitions.specs.Framebuffer.{sideOff, framebufferCause};
 ghost use Rattle.definitions.specs.Limits.{textCause, coordinateOff, positionCause, backgroundOff};
-ghost use Rattle.layout.specs.Sizes.{sizeOff};
 use content::text::is_utf8;
-use types::geometry::Point;
+use types::framebuffer::Framebuffer;
 use types::style::FontColor;
+use types::style::Placement;
 
 const MAX_SIDE: usize = 256;
 
@@ -21,17 +21,17 @@ fn has_bad_side(side: usize) -> bool
     (side == 0) | (MAX_SIDE < side)
 }
 
-// Cause 3, for a buffer of `len` bytes. The sides are tested before they are multiplied.
-pub fn has_bad_size(width: usize, height: usize, len: usize) -> bool
-    ensures { λ r. ⌜ r ≡ sizeOff width height len ⌝ }
+// Cause 3. The sides are tested before they are multiplied.
+pub fn has_bad_size(framebuffer: Framebuffer, buffer: &[u8]) -> bool
+    ensures { λ r. ⌜ r ≡ framebufferCause framebuffer (now (buffer .entry)) .applies ⌝ }
 {
-    if has_bad_side(width) {
+    if has_bad_side(framebuffer.width) {
         return true;
     }
-    if has_bad_side(height) {
+    if has_bad_side(framebuffer.height) {
         return true;
     }
-    len != width * height
+    buffer.len() != framebuffer.width * framebuffer.height
 }
 
 // Cause 4. All of the text is looked at, so none of a text that is not UTF-8 is drawn.
@@ -51,12 +51,13 @@ fn has_bad_coordinate(coordinate: i32) -> bool
 }
 
 // Cause 5. The place is the given one: the anchor and the advance may move a glyph past the limit.
-pub fn has_bad_position(position: Point, line_height: u32) -> bool
-    ensures { λ r. ⌜ r ≡ positionCause position «line_height» .applies ⌝ }
+pub fn has_bad_position(placement: Placement) -> bool
+    ensures { λ r. ⌜ r ≡ positionCause (placement .position) (placement .«line_height») .applies ⌝ }
 {
+    let position = placement.position;
     has_bad_coordinate(position.x)
         | has_bad_coordinate(position.y)
-        | (MAX_LINE_HEIGHT < line_height)
+        | (MAX_LINE_HEIGHT < placement.line_height)
 }
 
 // Cause 6: a background colour is wanted, and the font has none.

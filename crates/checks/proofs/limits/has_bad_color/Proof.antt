@@ -1,7 +1,7 @@
 -- `backgroundOff` goes by the same cases.
 use borrow.Author.Needs.{needs}
-use Rattle.layout.proofs.limits.has_bad_color.Statement.{statement}
-use Rattle.layout.proofs.limits.has_bad_color.Tie as tie
+use Rattle.checks.proofs.limits.has_bad_color.Statement.{statement}
+use Rattle.checks.proofs.limits.has_bad_color.Tie as tie
 
 enum-told : tie.Need-enum-told
 enum-told c = search needs

@@ -1,7 +1,7 @@
 -- Length first, then the bytes.
 use Rattle.integers.proofs.Prelude.{lt-ltb, le-ltb, needs}
-use Rattle.layout.proofs.limits.has_bad_text.Statement.{statement}
-use Rattle.layout.proofs.limits.has_bad_text.Tie as tie
+use Rattle.checks.proofs.limits.has_bad_text.Statement.{statement}
+use Rattle.checks.proofs.limits.has_bad_text.Tie as tie
 
 returns-2 : tie.Need-returns-2
 returns-2 c = simp (le-ltb _ _ (c .before .if1 .left), c .is-utf8 .ensures)

@@ -1,15 +1,19 @@
 -- Within the limits of the text and the place every value on the way is near 0.
 use Rattle.integers.proofs.Prelude.{_≡_, ℤ, _+ℤ_, w8, w32, SFits, toZ, ofZ, toZ-ofZ, needs}
 use Rattle.integers.proofs.Laws.{zarith, plus, stored}
-use Rattle.layout.proofs.OriginLaws.{TextLimits, text-limits, PositionLimits, position-limits, offset, offset-near}
-use Rattle.layout.proofs.origin.text_origin.Statement.{statement}
-use Rattle.layout.proofs.origin.text_origin.Tie as tie
+use Rattle.definitions.specs.Calls.{Request, plain}
+use Rattle.checks.proofs.OriginLaws.{TextLimits, text-limits, PositionLimits, position-limits, offset, offset-near}
+use Rattle.checks.proofs.origin.text_origin.Statement.{statement}
+use Rattle.checks.proofs.origin.text_origin.Tie as tie
 
 module _ (c : tie.Start) where
-  text-in : TextLimits (c .args .text .now)
+  abbrev asked : Request
+  asked = plain (c .args .text .now) (c .args .placement)
+
+  text-in : TextLimits (asked .text)
   text-in = text-limits _ (c .pre .0)
 
-  place-in : PositionLimits (c .args .position) (c .args .line-height)
+  place-in : PositionLimits (asked .position) (asked .lineHeight)
   place-in = position-limits _ _ (c .pre .1)
 
   ascent-fits : SFits w8 (c .args .ascent)
@@ -18,30 +22,30 @@ module _ (c : tie.Start) where
   descent-fits : SFits w8 (c .args .descent)
   descent-fits = search needs
 
-  x-fits : SFits w32 (c .args .position .x)
+  x-fits : SFits w32 (asked .position .x)
   x-fits = search needs
 
-  y-fits : SFits w32 (c .args .position .y)
+  y-fits : SFits w32 (asked .position .y)
   y-fits = search needs
 
   abbrev moved-by : ℤ
-  moved-by = offset (c .args .ascent) (c .args .descent) (c .args .text .now) (c .args .position) (c .args .vertical-pos) (c .args .line-height)
+  moved-by = offset (c .args .ascent) (c .args .descent) asked
 
-  sum-fits : SFits w32 (c .args .position .y +ℤ moved-by)
+  sum-fits : SFits w32 (asked .position .y +ℤ moved-by)
   sum-fits =
       let b = place-in in
-      let o = offset-near (c .args .ascent) (c .args .descent) (c .args .text .now) (c .args .position) (c .args .vertical-pos) (c .args .line-height) ascent-fits descent-fits text-in b in
-      omega (zarith, plus (c .args .position .y) moved-by)
+      let o = offset-near (c .args .ascent) (c .args .descent) asked ascent-fits descent-fits text-in b in
+      omega (zarith, plus (asked .position .y) moved-by)
 
 compute-vertical-offset-requires : tie.Need-compute-vertical-offset-requires
 compute-vertical-offset-requires c κs =
-    let s = c .before .before in
+    let s = c .before .before .before in
     simp (c .get-newline-count .ensures) (text-in s .count, place-in s .line)
 
 -- the anchor's number
 module _ (c : tie.After-compute-vertical-offset) where
   abbrev entry : tie.Start
-  entry = c .before .before .before
+  entry = c .before .before .before .before
 
   offset-is : toZ w32 (ofZ w32 (c .compute-vertical-offset .result)) ≡ moved-by entry
   offset-is =
@@ -49,7 +53,7 @@ module _ (c : tie.After-compute-vertical-offset) where
       (simp (toZ-ofZ, ascent-fits entry, descent-fits entry, c .before .get-newline-count .ensures) at (c .compute-vertical-offset .ensures))
 
 get-newline-count-requires : tie.Need-get-newline-count-requires
-get-newline-count-requires c κs = let t = text-in (c .before) in (t .short, t .utf8)
+get-newline-count-requires c κs = let t = text-in (c .before .before) in (t .short, t .utf8)
 
 add-t9 : tie.Need-add-t9
 add-t9 c =

@@ -1,7 +1,7 @@
 -- The tests are those of the causes, in order.
 use Rattle.integers.proofs.Prelude.{sym, _∙_, toZ-ofZ, needs}
-use Rattle.layout.proofs.origin.checked_origin.Statement.{statement}
-use Rattle.layout.proofs.origin.checked_origin.Tie as tie
+use Rattle.checks.proofs.origin.checked_origin.Statement.{statement}
+use Rattle.checks.proofs.origin.checked_origin.Tie as tie
 
 returns : tie.Need-returns
 returns c = simp (sym (c .before .before .has-bad-text .ensures), c .if1 .taken)

@@ -1,10 +1,11 @@
 -- Causes 4 and 5 and the origin of a text: what a call within these limits may count on, and what a call that is refused
 -- comes to. Assumes nothing.
-use Rattle.integers.proofs.Prelude.{_≡_, refl, sym, ap, subst, _∙_, Bool, true, false, not, List, [], _∷_, ℕ, _*_, _≤_, arith, ℤ, pos, negsuc, ltZ}
-use Rattle.integers.proofs.Prelude.{_≤ℤ_, length, w8, SFits, ltb-false}
+use Rattle.integers.proofs.Prelude.{_≡_, refl, sym, ap, subst, _∙_, Bool, true, false, not, List, [], _∷_, ℕ, _+_, _*_, _≤_, mul-le-mul, arith, eqb, ℤ}
+use Rattle.integers.proofs.Prelude.{pos, negsuc, ltZ, _≤ℤ_, length, w8, SFits, ltb-false}
+use Rattle.integers.specs.Integers.{pick}
 use Rattle.integers.proofs.Laws.{zarith, plus}
 use Rattle.integers.proofs.Choices.{impossible}
-use Rattle.definitions.specs.Vocabulary.{FontReader, Point, VerticalPosition}
+use Rattle.definitions.specs.Vocabulary.{FontReader, Point}
 use Rattle.definitions.specs.Refusals.{Outcome, success, refused, Cause, unlessRefused}
 use Rattle.definitions.specs.Header.{fontCauses}
 use Rattle.definitions.specs.Utf8.{decode, isUtf8, newlines}
@@ -17,9 +18,22 @@ use Rattle.definitions.proofs.ComesLaws.{comes-stopped}
 use Rattle.definitions.proofs.OpenedLaws.{passes-font, opened}
 use Rattle.definitions.proofs.Utf8Laws.{utf8-characters, character-count}
 use Rattle.definitions.proofs.VerticalOffsetLaws.{offset-limits}
-use Rattle.layout.specs.Ranges.{Checked}
-use Rattle.layout.specs.Origins.{originBy, checkedOrigin}
-use Rattle.layout.proofs.RangeLaws.{newlines-length, newlines-most}
+use Rattle.checks.specs.Origins.{originBy, checkedOrigin, Checked}
+
+-- ---- newlines
+
+pub newlines-length : (cs : List ℕ) → newlines cs ≤ length cs
+unfolding newlines
+newlines-length [] = omega arith
+newlines-length (c ∷ cs) = by (eqb c 10) (newlines-length cs)
+  where
+    by : (t : Bool) → newlines cs ≤ length cs → pick t 1 0 + newlines cs ≤ length (c ∷ cs)
+    by true h = omega arith
+    by false h = omega arith
+
+-- t of a checked text
+pub newlines-most : {n h : ℕ} → n ≤ 4096 → h ≤ 65535 → n * h ≤ 268431360
+newlines-most p q = mul-le-mul p q
 
 -- ---- neither cause applies
 
@@ -63,15 +77,18 @@ position-limits position lineHeight e =
 
 -- ---- the origin
 
-module _ (ascent descent : ℤ) (text : List ℕ) (position : Point) (v : VerticalPosition) (lineHeight : ℕ) where
+module _ (ascent descent : ℤ) (r : Request) where
   abbrev pub offset : ℤ
-  offset = verticalOffset v (pos (newlines (characters text) * lineHeight)) ascent descent
+  offset = verticalOffset (r .anchor) (pos (newlines (characters (r .text)) * r .lineHeight)) ascent descent
 
-  module _ (f : SFits w8 ascent) (g : SFits w8 descent) (a : TextLimits text) (b : PositionLimits position lineHeight) where
+  abbrev begins : Point
+  begins = originBy ascent descent r
+
+  module _ (f : SFits w8 ascent) (g : SFits w8 descent) (a : TextLimits (r .text)) (b : PositionLimits (r .position) (r .lineHeight)) where
     pub offset-near : (negsuc 268431487 ≤ℤ offset) × (offset ≤ℤ pos 128)
-    offset-near = offset-limits (newlines (characters text) * lineHeight) f g v (newlines-most (a .count) (b .line))
+    offset-near = offset-limits (newlines (characters (r .text)) * r .lineHeight) f g (r .anchor) (newlines-most (a .count) (b .line))
 
-    pub origin-checked : Checked text (originBy ascent descent text position v lineHeight) lineHeight
+    pub origin-checked : Checked (r .text) begins (r .lineHeight)
     origin-checked =
         let o = offset-near in
         record {
@@ -80,55 +97,51 @@ module _ (ascent descent : ℤ) (text : List ℕ) (position : Point) (v : Vertic
           line = b .line;
           left = b .left;
           right = b .right;
-          top = omega (zarith, plus (position .y) offset);
-          bottom = omega (zarith, plus (position .y) offset);
+          top = omega (zarith, plus (r .position .y) offset);
+          bottom = omega (zarith, plus (r .position .y) offset);
         }
 
   abbrev causes : List Cause
-  causes = textCause text ∷ positionCause position lineHeight ∷ []
-
-  abbrev begins : Point
-  begins = originBy ascent descent text position v lineHeight
+  causes = textCause (r .text) ∷ positionCause (r .position) (r .lineHeight) ∷ []
 
   pub record Passed (o : Point) : Type 0 where
-    pub text-in : TextLimits text
-    pub place-off : positionCause position lineHeight .applies ≡ false
-    pub place-in : PositionLimits position lineHeight
-    pub is : originBy ascent descent text position v lineHeight ≡ o
+    pub text-in : TextLimits (r .text)
+    pub place-off : positionCause (r .position) (r .lineHeight) .applies ≡ false
+    pub place-in : PositionLimits (r .position) (r .lineHeight)
+    pub is : begins ≡ o
 
-  pub passed : (o : Point) → checkedOrigin ascent descent text position v lineHeight ≡ success o → Passed o
+  pub passed : (o : Point) → checkedOrigin ascent descent r ≡ success o → Passed o
   passed o e =
       let p = succeeded (success begins) o causes e in
       let q = each-off causes (p .0) in
       let f = p .1 in
-      record { text-in = text-limits text (q .0); place-off = q .1 .0; place-in = position-limits position lineHeight (q .1 .0); is = cc }
+      record { text-in = text-limits _ (q .0); place-off = q .1 .0; place-in = position-limits _ _ (q .1 .0); is = cc }
 
-  pub passed-checked : {o : Point} → SFits w8 ascent → SFits w8 descent → Passed o → Checked text o lineHeight
-  passed-checked f g p = subst (λ (o : Point). Checked text o lineHeight) (p .is) (origin-checked f g (p .text-in) (p .place-in))
+  pub passed-checked : {o : Point} → SFits w8 ascent → SFits w8 descent → Passed o → Checked (r .text) o (r .lineHeight)
+  passed-checked f g p = subst (λ (o : Point). Checked (r .text) o (r .lineHeight)) (p .is) (origin-checked f g (p .text-in) (p .place-in))
 
 -- ---- a call that measures, on a font that opens
 
 module _ (font : List ℕ) {head : FontReader} (opens : openFont font ≡ success head) (r : Request) where
   -- the text and its place, tested with the header that was read
   abbrev pub tested : Outcome Point
-  tested = checkedOrigin (head .ascent) (head .descent) (r .text) (r .position) (r .anchor) (r .lineHeight)
+  tested = checkedOrigin (head .ascent) (head .descent) r
 
   pub origin-is : {o : Point} → tested ≡ success o → origin (u8g2 font) r ≡ o
   origin-is {o} e =
-      ap (λ (h : FontReader). originBy (h .ascent) (h .descent) (r .text) (r .position) (r .anchor) (r .lineHeight)) (sym (opened font head opens .read))
-      ∙ passed (head .ascent) (head .descent) (r .text) (r .position) (r .anchor) (r .lineHeight) o e .is
+      ap (λ (h : FontReader). originBy (h .ascent) (h .descent) r) (sym (opened font head opens .read))
+      ∙ passed (head .ascent) (head .descent) r o e .is
 
   pub request-checked : {o : Point} → SFits w8 (head .ascent) → SFits w8 (head .descent) → tested ≡ success o → Checked (r .text) o (r .lineHeight)
   request-checked {o} f g e =
-      passed-checked (head .ascent) (head .descent) (r .text) (r .position) (r .anchor) (r .lineHeight) f g
-      (passed (head .ascent) (head .descent) (r .text) (r .position) (r .anchor) (r .lineHeight) o e)
+      passed-checked (head .ascent) (head .descent) r f g (passed (head .ascent) (head .descent) r o e)
 
   module _ {A : Type 0} (rest : Outcome A) where
     abbrev after-font : List Cause
     after-font = textCause (r .text) ∷ positionCause (r .position) (r .lineHeight) ∷ []
 
     abbrev start : Point
-    start = originBy (head .ascent) (head .descent) (r .text) (r .position) (r .anchor) (r .lineHeight)
+    start = originBy (head .ascent) (head .descent) r
 
     font-passed : unlessRefused (measureCauses (u8g2 font) r) rest ≡ unlessRefused after-font rest
     font-passed = causes-passed rest (fontCauses font) after-font (passes-font font opens)
