@@ -7,7 +7,7 @@ use Rattle.definitions.specs.Utf8.{character, firstCharacter, decode, codePoint
 use Rattle.definitions.specs.Text.{Answer, shows, dimensions}
 use Rattle.definitions.specs.TextSteps.{LineState, lineStep, measureLinesFrom, startLines, linesDimensions, measureLines}
 use Rattle.definitions.specs.Font.{Font, u8g2, measuredAnswer}
-use Rattle.definitions.specs.Calls.{openFont, Request, plain, characters, origin, measureCauses, measure, alignedText, measureAligned}
+use Rattle.definitions.specs.Calls.{openFont, Request, placed, plain, characters, origin, measureCauses, measure, alignedText, measureAligned}
 use Rattle.definitions.proofs.TextLaws.{measure-lines, boxAlone, box-of-layout, left-dimensions, lines-next, lines-stop}
 use Rattle.definitions.proofs.Utf8Laws.{position, character-count}
 use Rattle.checks.specs.Origins.{Checked}
@@ -85,7 +85,7 @@ box-unless (c ∷ cs) o = by (c .applies) (box-unless cs o)
 
 module _ (font : Font) (r : Request) where
   -- plain measuring is the alignment Left
-  pub plain-is-left : alignedDimensions font (plain (r .text) (r .position) (r .anchor) (r .lineHeight) (r .skip)) ≡ measure font r
+  pub plain-is-left : alignedDimensions font (plain (r .text) (placed (r .position) (r .anchor) (r .lineHeight) (r .skip))) ≡ measure font r
   unfolding alignedDimensions measure
   plain-is-left =
       ap (unlessRefused (measureCauses font r))

@@ -8,11 +8,12 @@ ghost use Rattle.definitions.specs.Calls.{request, characters, dimensionsOutcom
 ghost use Rattle.measuring.specs.Lines.{asState, stateOutcome, alignedDimensions};
 ghost use Rattle.checks.specs.Origins.{Checked};
 ghost use Rattle.layout.specs.Ranges.{Near, LineInReach, LineHasRoom};
+use checks::origin::OriginResult;
+use checks::origin::Pen;
+use checks::origin::checked_origin;
 use content::text::NextChar;
 use content::text::next_char;
 use font_reader::new_from_raw_data;
-use checks::origin::OriginResult;
-use checks::origin::checked_origin;
 use layout::render_actions::compute_horizontal_offset;
 use layout::render_actions::try_retrieve_glyph_data;
 use layout::steps::NEWLINE;
@@ -26,7 +27,7 @@ use types::geometry::RenderedDimensions;
 use types::results::DimensionsResult;
 use types::results::FontReaderResult;
 use types::style::HorizontalAlignment;
-use types::style::VerticalPosition;
+use types::style::Placement;
 use utils::combine_bounding_boxes;
 
 // The text so far: the line from its own start, how far below the origin it lies, and the box of the lines that have ended.
@@ -105,17 +106,17 @@ fn add_char(
     ch: u32,
     state: LineState,
     horizontal_align: HorizontalAlignment,
-    origin: Point,
-    line_height: u32,
-    ignore_unknown_chars: bool,
+    pen: Pen,
 ) -> LineResult
-    requires { ⌜ Opened (now font) head × (LineHasRoom origin (asState state) × («line_height» ≤ 65535)) ⌝ }
-    ensures { λ r. ⌜ stateOutcome r ≡ lineStep (measuredAnswer (u8g2 (now (font .entry))) «ignore_unknown_chars») «horizontal_align» «line_height» origin (asState state) ch ⌝ }
+    requires { ⌜ Opened (now font) head × (LineHasRoom (pen .origin) (asState state) × (pen .«line_height» ≤ 65535)) ⌝ }
+    ensures { λ r. ⌜ stateOutcome r ≡ lineStep (measuredAnswer (u8g2 (now (font .entry))) (pen .«ignore_unknown_chars»)) «horizontal_align» (pen .«line_height») (pen .origin) (asState state) ch ⌝ }
 {
     if ch == NEWLINE {
-        return LineResult::Ok(add_newline(state, horizontal_align, line_height, origin));
+        let origin = pen.origin;
+        let next = add_newline(state, horizontal_align, pen.line_height, origin);
+        return LineResult::Ok(next);
     }
-    let answer = try_retrieve_glyph_data(font, head, ch, ignore_unknown_chars);
+    let answer = try_retrieve_glyph_data(font, head, ch, pen.ignore_unknown_chars);
     let line_so_far = state.line;
     let bounding_box = state.bounding_box;
     match add_answer(line_so_far, Point { x: 0, y: 0 }, answer) {
@@ -156,12 +157,10 @@ fn measure_lines(
     head: FontReader,
     text: &[u8],
     horizontal_align: HorizontalAlignment,
-    origin: Point,
-    line_height: u32,
-    ignore_unknown_chars: bool,
+    pen: Pen,
 ) -> DimensionsResult
-    requires { ⌜ Opened (now font) head × Checked (now text) origin «line_height» ⌝ }
-    ensures { λ r. ⌜ dimensionsOutcome r ≡ measureLines (measuredAnswer (u8g2 (now (font .entry))) «ignore_unknown_chars») «horizontal_align» «line_height» origin (characters (now (text .entry))) ⌝ }
+    requires { ⌜ Opened (now font) head × Checked (now text) (pen .origin) (pen .«line_height») ⌝ }
+    ensures { λ r. ⌜ dimensionsOutcome r ≡ measureLines (measuredAnswer (u8g2 (now (font .entry))) (pen .«ignore_unknown_chars»)) «horizontal_align» (pen .«line_height») (pen .origin) (characters (now (text .entry))) ⌝ }
 {
     let mut state = LineState {
         line: empty_line(),
@@ -174,16 +173,7 @@ fn measure_lines(
         let NextChar::Char(ch, len) = next else {
             return DimensionsResult::Err(Error::TextEncoding);
         };
-        let added = add_char(
-            font,
-            head,
-            ch,
-            state,
-            horizontal_align,
-            origin,
-            line_height,
-            ignore_unknown_chars,
-        );
+        let added = add_char(font, head, ch, state, horizontal_align, pen);
         match added {
             LineResult::Err(error) => {
                 return DimensionsResult::Err(error);
@@ -194,6 +184,7 @@ fn measure_lines(
         }
         at += len;
     }
+    let origin = pen.origin;
     DimensionsResult::Ok(end_text(state, horizontal_align, origin))
 }
 
@@ -201,36 +192,23 @@ fn measure_lines(
 pub fn aligned_dimensions(
     font: &[u8],
     text: &[u8],
-    position: Point,
-    vertical_pos: VerticalPosition,
+    placement: Placement,
     horizontal_align: HorizontalAlignment,
-    line_height: u32,
-    ignore_unknown_chars: bool,
 ) -> DimensionsResult
-    ensures { λ r. ⌜ dimensionsOutcome r ≡ alignedDimensions (u8g2 (now (font .entry))) (request (now (text .entry)) position «vertical_pos» «horizontal_align» «line_height» «ignore_unknown_chars») ⌝ }
+    ensures { λ r. ⌜ dimensionsOutcome r ≡ alignedDimensions (u8g2 (now (font .entry))) (request (now (text .entry)) placement «horizontal_align») ⌝ }
 {
     match new_from_raw_data(font) {
         FontReaderResult::Err(error) => DimensionsResult::Err(error),
         FontReaderResult::Ok(head) => {
-            match checked_origin(
-                head.ascent,
-                head.descent,
-                text,
-                position,
-                vertical_pos,
-                line_height,
-            ) {
+            match checked_origin(head.ascent, head.descent, text, placement) {
                 OriginResult::Err(error) => DimensionsResult::Err(error),
                 OriginResult::Ok(origin) => {
-                    measure_lines(
-                        font,
-                        head,
-                        text,
-                        horizontal_align,
+                    let pen = Pen {
                         origin,
-                        line_height,
-                        ignore_unknown_chars,
-                    )
+                        line_height: placement.line_height,
+                        ignore_unknown_chars: placement.ignore_unknown_chars,
+                    };
+                    measure_lines(font, head, text, horizontal_align, pen)
                 }
             }
         }

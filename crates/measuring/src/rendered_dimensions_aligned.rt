@@ -3,34 +3,22 @@ ghost use mathlib.Core.Path.{_≡_};
 ghost use Rattle.definitions.specs.Font.{u8g2};
 ghost use Rattle.definitions.specs.Calls.{request, measureAligned, boundingBoxOutcome};
 use crate::lines::aligned_dimensions;
-use types::geometry::Point;
 use types::results::BoundingBoxResult;
 use types::results::DimensionsResult;
 use types::style::HorizontalAlignment;
-use types::style::VerticalPosition;
+use types::style::Placement;
 
 // The bounding box of the aligned text at the position, or the refusal. It has no advance: 01 returns
 // none for aligned lines.
 pub fn get_rendered_dimensions_aligned(
     font: &[u8],
     text: &[u8],
-    position: Point,
-    vertical_pos: VerticalPosition,
+    placement: Placement,
     horizontal_align: HorizontalAlignment,
-    line_height: u32,
-    ignore_unknown_chars: bool,
 ) -> BoundingBoxResult
-    ensures { λ r. ⌜ boundingBoxOutcome r ≡ measureAligned (u8g2 (now (font .entry))) (request (now (text .entry)) position «vertical_pos» «horizontal_align» «line_height» «ignore_unknown_chars») ⌝ }
+    ensures { λ r. ⌜ boundingBoxOutcome r ≡ measureAligned (u8g2 (now (font .entry))) (request (now (text .entry)) placement «horizontal_align») ⌝ }
 {
-    let measured = aligned_dimensions(
-        font,
-        text,
-        position,
-        vertical_pos,
-        horizontal_align,
-        line_height,
-        ignore_unknown_chars,
-    );
+    let measured = aligned_dimensions(font, text, placement, horizontal_align);
     match measured {
         DimensionsResult::Err(error) => BoundingBoxResult::Err(error),
         DimensionsResult::Ok(dimensions) => {

@@ -2,13 +2,13 @@
 ghost use mathlib.Core.Path.{_≡_};
 ghost use Rattle.redraw.specs.Drawing.{drawing, groundOf};
 ghost use Rattle.redraw.specs.Checks.{stepOutcome, checkedStep};
-use font_reader::new_from_raw_data;
 use checks::limits::has_bad_color;
 use checks::limits::has_bad_size;
 use checks::limits::has_bad_text;
 use checks::origin::OriginResult;
 use checks::origin::checked_origin;
 use checks::origin::text_origin;
+use font_reader::new_from_raw_data;
 use types::error::Error;
 use types::font_reader::FontReader;
 use types::geometry::Point;

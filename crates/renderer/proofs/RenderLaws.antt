@@ -167,7 +167,7 @@ module _ (font : List ℕ) (r : Request) (color : FontColor) (p : Framebuffer) (
 
       -- where the text would begin, by the header that was read
       abbrev begins : Point
-      begins = originBy (head .ascent) (head .descent) (r .text) (r .position) (r .anchor) (r .lineHeight)
+      begins = originBy (head .ascent) (head .descent) r
 
       pub position-refused : {n c : ℕ} → tested font opens r ≡ refused n c → Defined (refused n c) buffer
       position-refused e = after-size (comes-stopped begins placeCauses (colorCause ∷ []) e)

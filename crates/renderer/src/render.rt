@@ -1,27 +1,27 @@
-// Drawing a text on a framebuffer of one byte a pixel.
+// Drawing a text on a framebuffer.
 ghost use mathlib.Core.Path.{_≡_};
 ghost use Prim.Native.Nat.{_≤_};
 ghost use lib.ListN.{length};
 ghost use Rattle.definitions.specs.Header.{Opened};
 ghost use Rattle.definitions.specs.Glyph.{glyph, glyphOutcome};
-ghost use Rattle.definitions.specs.TextSteps.{answerShown, step, stepShown, measureFrom, drawFrom, start};
+ghost use Rattle.definitions.specs.TextSteps.{answerShown, step, stepShown};
 ghost use Rattle.definitions.specs.Font.{u8g2, drawable, drawnAnswer, pixelsOf};
-ghost use Rattle.definitions.specs.Framebuffer.{sized};
-ghost use Rattle.definitions.specs.Calls.{plain, characters, draw, drawBuffer, dimensionsOutcome};
-ghost use Rattle.framebuffer.specs.Areas.{BufferFits};
+ghost use Rattle.definitions.specs.Calls.{plain, draw, drawBuffer, dimensionsOutcome};
 ghost use Rattle.layout.specs.CharAnswers.{asAnswer};
 ghost use Rattle.renderer.specs.CharAnswers.{RunsChecked};
+ghost use Rattle.renderer.specs.Texts.{Fits, countedWith, drawnWith};
 ghost use Rattle.checks.specs.Origins.{Checked};
 ghost use Rattle.layout.specs.Ranges.{HasRoom};
+use checks::limits::has_bad_color;
+use checks::limits::has_bad_size;
+use checks::origin::OriginResult;
+use checks::origin::Pen;
+use checks::origin::checked_origin;
 use content::text::NextChar;
 use content::text::next_char;
 use font_reader::new_from_raw_data;
 use font_reader::retrieve_glyph_data;
 use glyph_renderer::render_glyph;
-use checks::limits::has_bad_color;
-use checks::limits::has_bad_size;
-use checks::origin::OriginResult;
-use checks::origin::checked_origin;
 use layout::render_actions::Answer;
 use layout::render_actions::answer_of;
 use layout::steps::NEWLINE;
@@ -31,6 +31,7 @@ use layout::steps::get_next_bounding_box;
 use runs::check_runs;
 use types::error::Error;
 use types::font_reader::FontReader;
+use types::framebuffer::Framebuffer;
 use types::geometry::BoundingBox;
 use types::geometry::Point;
 use types::geometry::RenderedDimensions;
@@ -38,7 +39,7 @@ use types::results::DimensionsResult;
 use types::results::FontReaderResult;
 use types::results::GlyphResult;
 use types::style::FontColor;
-use types::style::FontStyle;
+use types::style::Placement;
 
 // The glyph of a code point, its runs read to the last pixel. So a glyph that the font's end cuts off is refused before any
 // of it is drawn.
@@ -57,11 +58,17 @@ fn retrieve_whole_glyph(font: &[u8], head: FontReader, ch: u32) -> GlyphResult
 }
 
 // The answer to a code point in drawing.
-pub fn retrieve_answer(font: &[u8], head: FontReader, ch: u32, ignore_unknown_chars: bool) -> Answer
+fn retrieve_answer(font: &[u8], head: FontReader, ch: u32, ignore_unknown_chars: bool) -> Answer
     requires { ⌜ Opened (now font) head ⌝ }
     ensures { λ r. ⌜ asAnswer r ≡ drawnAnswer (u8g2 (now (font .entry))) «ignore_unknown_chars» ch ⌝ }
 {
     answer_of(retrieve_whole_glyph(font, head, ch), ignore_unknown_chars)
+}
+
+// What is drawn with, and on what.
+pub struct Context {
+    pub color: FontColor,
+    pub framebuffer: Framebuffer,
 }
 
 // Draws the glyph that a character shows, at the advance so far. Other answers draw nothing.
@@ -71,17 +78,17 @@ fn draw_answer(
     answer: Answer,
     dimensions: RenderedDimensions,
     origin: Point,
-    color: FontColor,
+    context: Context,
     buffer: &mut [u8],
-    width: usize,
-    height: usize,
 )
-    requires { ⌜ RunsChecked (now font) head (asAnswer answer) × (HasRoom origin dimensions × BufferFits (length (now buffer)) width height) ⌝ }
-    ensures { λ r. ⌜ now (buffer .exit) ≡ answerShown width color (pixelsOf (u8g2 (now (font .entry)))) origin dimensions (asAnswer answer) (now (buffer .entry)) ⌝ }
+    requires { ⌜ RunsChecked (now font) head (asAnswer answer) × (HasRoom origin dimensions × Fits (length (now buffer)) context) ⌝ }
+    ensures { λ r. ⌜ now (buffer .exit) ≡ answerShown (context .framebuffer .width) (context .color) (pixelsOf (u8g2 (now (font .entry)))) origin dimensions (asAnswer answer) (now (buffer .entry)) ⌝ }
 {
     match answer {
         Answer::Shows(glyph) => {
             let glyph_box = get_next_bounding_box(dimensions, origin, glyph);
+            let color = context.color;
+            let framebuffer = context.framebuffer;
             render_glyph(
                 font,
                 head,
@@ -89,8 +96,8 @@ fn draw_answer(
                 glyph_box,
                 color,
                 &mut buffer[..],
-                width,
-                height,
+                framebuffer.width,
+                framebuffer.height,
             );
         }
         Answer::Nothing => {}
@@ -104,32 +111,27 @@ fn draw_char(
     head: FontReader,
     ch: u32,
     dimensions: RenderedDimensions,
-    origin: Point,
-    line_height: u32,
-    ignore_unknown_chars: bool,
-    color: FontColor,
+    pen: Pen,
+    context: Context,
     buffer: &mut [u8],
-    width: usize,
-    height: usize,
 ) -> DimensionsResult
-    requires { ⌜ Opened (now font) head × (HasRoom origin dimensions × ((«line_height» ≤ 65535) × BufferFits (length (now buffer)) width height)) ⌝ }
-    ensures counted { λ r. ⌜ dimensionsOutcome r ≡ step (drawnAnswer (u8g2 (now (font .entry))) «ignore_unknown_chars») «line_height» origin dimensions ch ⌝ }
-    ensures shown { λ r. ⌜ now (buffer .exit) ≡ stepShown width color (pixelsOf (u8g2 (now (font .entry)))) (drawnAnswer (u8g2 (now (font .entry))) «ignore_unknown_chars») origin dimensions ch (now (buffer .entry)) ⌝ }
+    requires { ⌜ Opened (now font) head × (HasRoom (pen .origin) dimensions × ((pen .«line_height» ≤ 65535) × Fits (length (now buffer)) context)) ⌝ }
+    ensures counted { λ r. ⌜ dimensionsOutcome r ≡ step (drawnAnswer (u8g2 (now (font .entry))) (pen .«ignore_unknown_chars»)) (pen .«line_height») (pen .origin) dimensions ch ⌝ }
+    ensures shown { λ r. ⌜ now (buffer .exit) ≡ stepShown (context .framebuffer .width) (context .color) (pixelsOf (u8g2 (now (font .entry)))) (drawnAnswer (u8g2 (now (font .entry))) (pen .«ignore_unknown_chars»)) (pen .origin) dimensions ch (now (buffer .entry)) ⌝ }
 {
     if ch == NEWLINE {
-        return DimensionsResult::Ok(add_newline(dimensions, line_height));
+        return DimensionsResult::Ok(add_newline(dimensions, pen.line_height));
     }
-    let answer = retrieve_answer(font, head, ch, ignore_unknown_chars);
+    let origin = pen.origin;
+    let answer = retrieve_answer(font, head, ch, pen.ignore_unknown_chars);
     draw_answer(
         font,
         head,
         answer,
         dimensions,
         origin,
-        color,
+        context,
         &mut buffer[..],
-        width,
-        height,
     );
     add_answer(dimensions, origin, answer)
 }
@@ -139,17 +141,13 @@ pub fn draw_text(
     font: &[u8],
     head: FontReader,
     text: &[u8],
-    origin: Point,
-    line_height: u32,
-    ignore_unknown_chars: bool,
-    color: FontColor,
+    pen: Pen,
+    context: Context,
     buffer: &mut [u8],
-    width: usize,
-    height: usize,
 ) -> DimensionsResult
-    requires { ⌜ Opened (now font) head × (Checked (now text) origin «line_height» × BufferFits (length (now buffer)) width height) ⌝ }
-    ensures counted { λ r. ⌜ dimensionsOutcome r ≡ measureFrom (drawnAnswer (u8g2 (now (font .entry))) «ignore_unknown_chars») «line_height» origin start (characters (now (text .entry))) ⌝ }
-    ensures shown { λ r. ⌜ now (buffer .exit) ≡ drawFrom width color (pixelsOf (u8g2 (now (font .entry)))) (drawnAnswer (u8g2 (now (font .entry))) «ignore_unknown_chars») «line_height» origin start (now (buffer .entry)) (characters (now (text .entry))) ⌝ }
+    requires { ⌜ Opened (now font) head × (Checked (now text) (pen .origin) (pen .«line_height») × Fits (length (now buffer)) context) ⌝ }
+    ensures counted { λ r. ⌜ dimensionsOutcome r ≡ countedWith (now (font .entry)) (now (text .entry)) pen ⌝ }
+    ensures shown { λ r. ⌜ now (buffer .exit) ≡ drawnWith (now (font .entry)) (now (text .entry)) pen context (now (buffer .entry)) ⌝ }
 {
     let mut dimensions = RenderedDimensions {
         advance: Point { x: 0, y: 0 },
@@ -161,19 +159,7 @@ pub fn draw_text(
         let NextChar::Char(ch, len) = next else {
             return DimensionsResult::Err(Error::TextEncoding);
         };
-        let drawn = draw_char(
-            font,
-            head,
-            ch,
-            dimensions,
-            origin,
-            line_height,
-            ignore_unknown_chars,
-            color,
-            &mut buffer[..],
-            width,
-            height,
-        );
+        let drawn = draw_char(font, head, ch, dimensions, pen, context, &mut buffer[..]);
         let DimensionsResult::Ok(sum) = drawn else {
             return drawn;
         };
@@ -183,55 +169,59 @@ pub fn draw_text(
     DimensionsResult::Ok(dimensions)
 }
 
-// Draws the text at the position on a framebuffer of that width and height, or refuses to. A call that is refused before the
-// first letter leaves the framebuffer as it was.
+// What drawing a checked text answers: it is drawn on a framebuffer without rows, which shows nothing of it.
+pub fn get_drawn_dimensions(
+    font: &[u8],
+    head: FontReader,
+    text: &[u8],
+    pen: Pen,
+) -> DimensionsResult
+    requires { ⌜ Opened (now font) head × Checked (now text) (pen .origin) (pen .«line_height») ⌝ }
+    ensures { λ r. ⌜ dimensionsOutcome r ≡ countedWith (now (font .entry)) (now (text .entry)) pen ⌝ }
+{
+    let mut pixels = [0u8; 1];
+    let context = Context {
+        color: FontColor::Transparent(0),
+        framebuffer: Framebuffer {
+            width: 1,
+            height: 0,
+        },
+    };
+    draw_text(font, head, text, pen, context, &mut pixels[..0])
+}
+
+// Draws the text where it is placed on a framebuffer of that size, or refuses to. A call that is refused before the first letter
+// leaves the framebuffer as it was.
 pub fn render(
     font: &[u8],
     text: &[u8],
-    position: Point,
-    style: FontStyle,
-    line_height: u32,
-    ignore_unknown_chars: bool,
-    width: usize,
-    height: usize,
+    placement: Placement,
+    color: FontColor,
+    framebuffer: Framebuffer,
     buffer: &mut [u8],
 ) -> DimensionsResult
-    ensures answered { λ r. ⌜ dimensionsOutcome r ≡ draw (u8g2 (now (font .entry))) (plain (now (text .entry)) position (style .«vertical_pos») «line_height» «ignore_unknown_chars») (style .color) (sized width height) (now (buffer .entry)) ⌝ }
-    ensures shown { λ r. ⌜ now (buffer .exit) ≡ drawBuffer (u8g2 (now (font .entry))) (plain (now (text .entry)) position (style .«vertical_pos») «line_height» «ignore_unknown_chars») (style .color) (sized width height) (now (buffer .entry)) ⌝ }
+    ensures answered { λ r. ⌜ dimensionsOutcome r ≡ draw (u8g2 (now (font .entry))) (plain (now (text .entry)) placement) color framebuffer (now (buffer .entry)) ⌝ }
+    ensures shown { λ r. ⌜ now (buffer .exit) ≡ drawBuffer (u8g2 (now (font .entry))) (plain (now (text .entry)) placement) color framebuffer (now (buffer .entry)) ⌝ }
 {
     match new_from_raw_data(font) {
         FontReaderResult::Err(error) => DimensionsResult::Err(error),
         FontReaderResult::Ok(head) => {
-            if has_bad_size(width, height, buffer.len()) {
+            if has_bad_size(framebuffer, &buffer[..]) {
                 return DimensionsResult::Err(Error::FramebufferSize);
             }
-            let vertical_pos = style.vertical_pos;
-            match checked_origin(
-                head.ascent,
-                head.descent,
-                text,
-                position,
-                vertical_pos,
-                line_height,
-            ) {
+            match checked_origin(head.ascent, head.descent, text, placement) {
                 OriginResult::Err(error) => DimensionsResult::Err(error),
                 OriginResult::Ok(origin) => {
-                    let color = style.color;
                     if has_bad_color(color, head.supports_background_color) {
                         return DimensionsResult::Err(Error::BackgroundColorNotSupported);
                     }
-                    draw_text(
-                        font,
-                        head,
-                        text,
+                    let pen = Pen {
                         origin,
-                        line_height,
-                        ignore_unknown_chars,
-                        color,
-                        buffer,
-                        width,
-                        height,
-                    )
+                        line_height: placement.line_height,
+                        ignore_unknown_chars: placement.ignore_unknown_chars,
+                    };
+                    let context = Context { color, framebuffer };
+                    draw_text(font, head, text, pen, context, buffer)
                 }
             }
         }

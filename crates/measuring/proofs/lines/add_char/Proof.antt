@@ -10,7 +10,7 @@ use Rattle.measuring.proofs.lines.add_char.Statement.{statement}
 use Rattle.measuring.proofs.lines.add_char.Tie as tie
 
 returns : tie.Need-returns
-returns c = simp (c .add-newline .ensures, eq-eqb _ _ (c .before .if1 .taken))
+returns c = simp (c .add-newline .ensures, eq-eqb _ _ (c .before .before .if1 .taken))
 
 add-answer-requires : tie.Need-add-answer-requires
 add-answer-requires c κs = answer-room (c .before .before .before .before .pre .1 .0)
@@ -21,7 +21,7 @@ module _ (c : tie.After-add-answer) where
   entry = c .before .before .before .before .before
 
   added : dimensionsOutcome (c .add-answer .result) ≡ answerStep (point (pos 0) (pos 0)) (entry .args .state .line)
-      (measuredAnswer (u8g2 (entry .args .font .now)) (entry .args .ignore-unknown-chars) (entry .args .ch))
+      (measuredAnswer (u8g2 (entry .args .font .now)) (entry .args .pen .«ignore_unknown_chars») (entry .args .ch))
   added = simp (c .before .before .try-retrieve-glyph-data .ensures) at (c .add-answer .ensures)
 
 returns-2 : tie.Need-returns-2

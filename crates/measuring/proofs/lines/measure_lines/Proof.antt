@@ -15,11 +15,11 @@ use Rattle.measuring.proofs.lines.measure_lines.Statement.{
 use Rattle.measuring.proofs.lines.measure_lines.Tie as tie
 
 abbrev Inv-loop : tie.InvT-loop
-Inv-loop font head text horizontal-align origin line-height ignore-unknown-chars state₀ at₀ state at =
-    Aligned (measuredAnswer (u8g2 font) ignore-unknown-chars) horizontal-align line-height origin text (asState state) at
+Inv-loop font head text horizontal-align pen state₀ at₀ state at =
+    Aligned (measuredAnswer (u8g2 font) (pen .«ignore_unknown_chars»)) horizontal-align (pen .«line_height») (pen .origin) text (asState state) at
 
 abbrev μ-loop : tie.MeasureT-loop
-μ-loop font head text horizontal-align origin line-height ignore-unknown-chars state₀ at₀ state at = length text - at
+μ-loop font head text horizontal-align pen state₀ at₀ state at = length text - at
 
 -- the character that was read
 first : (c : tie.After-known-told Inv-loop μ-loop)
@@ -77,13 +77,13 @@ loop-again c =
     (sym (c .before .before .before .add-char .ensures) ∙ ap stateOutcome (c .before .added2 .given .1))
 
 end-text-requires : tie.Need-end-text-requires Inv-loop μ-loop
-end-text-requires c κs = aligned-room (c .before .before .before .before .before .pre .1) (c .before .loop .inv)
+end-text-requires c κs = let l = c .before .before in aligned-room (l .before .before .before .before .pre .1) (l .loop .inv)
 
 returns-3 : tie.Need-returns-3 Inv-loop μ-loop
 returns-3 c =
-    let l = c .before .before in
+    let l = c .before .before .before in
     ap success (c .end-text .ensures)
-    ∙ aligned-end (l .before .before .before .before .pre .1) (l .loop .inv) (c .before .loop-test .left)
+    ∙ aligned-end (l .before .before .before .before .pre .1) (l .loop .inv) (c .before .before .loop-test .left)
 
 pub measure-lines-spec : {M : Type 1} → statement M
 measure-lines-spec =

@@ -6,15 +6,16 @@ use Rattle.renderer.proofs.render.draw_answer.Tie as tie
 
 render-glyph-requires : tie.Need-render-glyph-requires
 render-glyph-requires c κs =
-    let s = c .before .before .before .before .before .before .before in
+    let k = c .before .before in
+    let s = k .before .before .before .before .before .before in
     let d = s .args .dimensions .advance in (
-      s .pre .0 _ (ap asAnswer (c .before .before .before .answer .given .1)),
+      s .pre .0 _ (ap asAnswer (k .before .before .answer .given .1)),
       (
         record {
           x = s .args .origin .x +ℤ d .x;
           y = s .args .origin .y +ℤ d .y;
-          is = c .before .get-next-bounding-box .ensures .0;
-          reach = c .before .get-next-bounding-box .ensures .1;
+          is = k .get-next-bounding-box .ensures .0;
+          reach = k .get-next-bounding-box .ensures .1;
         },
         s .pre .1 .1,
       ),
@@ -24,7 +25,9 @@ enum-told : tie.Need-enum-told
 enum-told c = search needs
 
 returns : tie.Need-returns
-returns c = c .before .before .render-glyph .ensures ∙ simp (c .before .before .before .before .get-next-bounding-box .ensures .0, c .before .before .before .before .before .before .answer .given .1)
+returns c =
+    let k = c .before .before .before .before .before in
+    c .before .before .render-glyph .ensures ∙ simp (k .get-next-bounding-box .ensures .0, k .before .before .answer .given .1)
 
 returns-2 : tie.Need-returns-2
 returns-2 c = simp (c .enum-told .given .1)

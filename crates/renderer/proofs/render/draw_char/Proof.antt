@@ -9,15 +9,15 @@ returns c = (simp (c .add-newline .ensures, eq-eqb _ _ (c .before .if1 .taken)),
 
 draw-answer-requires : tie.Need-draw-answer-requires
 draw-answer-requires c κs =
-    let s = c .before .before .before .before .before in (
-      λ g e. runs-checked (s .pre .0) (s .args .ignore-unknown-chars) (s .args .ch) g (sym (c .before .retrieve-answer .ensures) ∙ e),
+    let s = c .before .before .before .before .before .before in (
+      λ g e. runs-checked (s .pre .0) (s .args .pen .«ignore_unknown_chars») (s .args .ch) g (sym (c .before .retrieve-answer .ensures) ∙ e),
       (s .pre .1 .0, s .pre .1 .1 .1),
     )
 
 returns-2 : tie.Need-returns-2
 returns-2 c =
     let looked = c .before .before .before .before .before .retrieve-answer .ensures in
-    let other = ne-eqb _ _ (c .before .before .before .before .before .before .if1 .left) in
+    let other = ne-eqb _ _ (c .before .before .before .before .before .before .before .if1 .left) in
     (simp (c .add-answer .ensures, looked, other), c .before .before .before .draw-answer .ensures ∙ simp (looked, other))
 
 pub draw-char-spec : {M : Type 1} → statement M

@@ -5,18 +5,19 @@ use Rattle.definitions.specs.Utf8.{character, firstCharacter}
 use Rattle.definitions.specs.Font.{u8g2, drawnAnswer, pixelsOf}
 use Rattle.definitions.specs.Calls.{dimensionsOutcome}
 use Rattle.definitions.proofs.Utf8Laws.{Position, position, none-malformed}
-use Rattle.framebuffer.specs.Areas.{BufferFits}
+use Rattle.renderer.specs.Texts.{Fits}
 use Rattle.layout.proofs.MeasureLaws.{measured-room, measured-end, measured-stops}
 use Rattle.renderer.proofs.RenderLaws.{drawn-small, DrawnTo, drawn-start, drawn-end, drawn-next, drawn-stops}
 use Rattle.renderer.proofs.render.draw_text.Statement.{statement}
 use Rattle.renderer.proofs.render.draw_text.Tie as tie
 
 abbrev Inv-loop : tie.InvT-loop
-Inv-loop font head text origin line-height ignore-unknown-chars color buffer₀ width height dimensions₀ at₀ buffer dimensions at =
-    DrawnTo width color (pixelsOf (u8g2 font)) (drawnAnswer (u8g2 font) ignore-unknown-chars) line-height origin text buffer₀ buffer dimensions at
+Inv-loop font head text pen context buffer₀ dimensions₀ at₀ buffer dimensions at =
+    DrawnTo (context .framebuffer .width) (context .color) (pixelsOf (u8g2 font)) (drawnAnswer (u8g2 font) (pen .«ignore_unknown_chars»))
+    (pen .«line_height») (pen .origin) text buffer₀ buffer dimensions at
 
 abbrev μ-loop : tie.MeasureT-loop
-μ-loop font head text origin line-height ignore-unknown-chars color buffer₀ width height dimensions₀ at₀ buffer dimensions at =
+μ-loop font head text pen context buffer₀ dimensions₀ at₀ buffer dimensions at =
     length text - at
 
 -- the character that was read
@@ -53,7 +54,7 @@ draw-char-requires c κs =
       s .pre .0,
       (
         measured-room (s .pre .1 .0) (l .loop .inv .reached),
-        (s .pre .1 .0 .line, subst (λ (n : ℕ). BufferFits n (s .args .width) (s .args .height)) (sym (l .loop .inv .kept)) (s .pre .1 .1)),
+        (s .pre .1 .0 .line, subst (λ (n : ℕ). Fits n (s .args .context)) (sym (l .loop .inv .kept)) (s .pre .1 .1)),
       ),
     )
 

@@ -3,7 +3,7 @@ use Rattle.integers.proofs.Prelude.{_≡_, sym, ap, _∙_, false, w8, SFits, to
 use Rattle.definitions.specs.Vocabulary.{FontReader}
 use Rattle.definitions.specs.Refusals.{success}
 use Rattle.definitions.specs.Font.{u8g2}
-use Rattle.definitions.specs.Framebuffer.{sized, framebufferCause}
+use Rattle.definitions.specs.Framebuffer.{framebufferCause}
 use Rattle.definitions.specs.Limits.{backgroundOff, backgroundCause}
 use Rattle.definitions.specs.Calls.{openFont, Request, plain, fontReaderOutcome}
 use Rattle.definitions.proofs.OpenedLaws.{opened}
@@ -21,7 +21,7 @@ module _ (c : tie.After-known-told2) where
   entry = c .before .before .before .before .before .before .before
 
   abbrev asked : Request
-  asked = let a = entry .args in plain (a .text .now) (a .position) (a .style .«vertical_pos») (a .line-height) (a .ignore-unknown-chars)
+  asked = let a = entry .args in plain (a .text .now) (a .placement)
 
   abbrev head : FontReader
   head = c .before .head .given .0 .0
@@ -37,7 +37,7 @@ module _ (c : tie.After-known-told2) where
 
 -- .. the framebuffer has its size
 module _ (c : tie.Else1) where
-  size-in : (let a = entry (c .before .before) .args in framebufferCause (sized (a .width) (a .height)) (a .buffer .now) .applies) ≡ false
+  size-in : (let a = entry (c .before .before .before) .args in framebufferCause (a .framebuffer) (a .buffer .now) .applies) ≡ false
   size-in = sym (c .before .has-bad-size .ensures) ∙ c .if1 .left
 
 -- .. and the text and its place passed
@@ -46,28 +46,28 @@ module _ (c : tie.After-known-told4) where
   sized-at = c .before .before .before .before .before .before
 
   abbrev font-known : tie.After-known-told2
-  font-known = sized-at .before .before
+  font-known = sized-at .before .before .before
 
   passes : tested (entry font-known .args .font .now) (opens font-known) (asked font-known) ≡ success (c .before .origin .given .0 .0)
   passes = sym (simp (toZ-ofZ, ascent-fits font-known, descent-fits font-known) at (c .before .before .before .checked-origin .ensures)) ∙ ap originOutcome (c .before .origin .given .1)
 
   -- the answer to the colour is the cause's
-  color-tested : let a = entry font-known .args in backgroundCause (a .style .color) (u8g2 (a .font .now) .background) .applies
-      ≡ backgroundOff (a .style .color) (head font-known .«supports_background_color»)
-  color-tested = sym (color-is (opened _ (head font-known) (opens font-known)) (entry font-known .args .style .color))
+  color-tested : let a = entry font-known .args in backgroundCause (a .color) (u8g2 (a .font .now) .background) .applies
+      ≡ backgroundOff (a .color) (head font-known .«supports_background_color»)
+  color-tested = sym (color-is (opened _ (head font-known) (opens font-known)) (entry font-known .args .color))
 
 returns : tie.Need-returns
 returns c =
-    let k = c .before .before in
+    let k = c .before .before .before in
     let a = entry k .args in
-    size-refused (a .font .now) (asked k) (a .style .color) (sized (a .width) (a .height)) (a .buffer .now) (opens k) (sym (c .before .has-bad-size .ensures) ∙ c .if1 .taken)
+    size-refused (a .font .now) (asked k) (a .color) (a .framebuffer) (a .buffer .now) (opens k) (sym (c .before .has-bad-size .ensures) ∙ c .if1 .taken)
 
 returns-2 : tie.Need-returns-2
 returns-2 c =
     let p = c .before .before in
     let k = font-known p in
     let a = entry k .args in
-    color-refused (a .font .now) (asked k) (a .style .color) (sized (a .width) (a .height)) (a .buffer .now) (opens k) (size-in (sized-at p)) (passes p)
+    color-refused (a .font .now) (asked k) (a .color) (a .framebuffer) (a .buffer .now) (opens k) (size-in (sized-at p)) (passes p)
     (color-tested p ∙ sym (c .before .has-bad-color .ensures) ∙ c .if2 .taken)
 
 draw-text-requires : tie.Need-draw-text-requires
@@ -76,21 +76,20 @@ draw-text-requires c κs =
     let k = font-known p in
     let a = entry k .args in (
       opened _ (head k) (opens k),
-      (request-checked _ (opens k) (asked k) (ascent-fits k) (descent-fits k) (passes p), size-fits (a .width) (a .height) _ (size-in (sized-at p))),
+      (request-checked _ (opens k) (asked k) (ascent-fits k) (descent-fits k) (passes p), size-fits (a .framebuffer) (a .buffer .now) (size-in (sized-at p))),
     )
 
 returns-3 : tie.Need-returns-3
 returns-3 c =
     let a = c .before .before .before .before .before .before .before .args in
-    font-refused (a .font .now) (plain (a .text .now) (a .position) (a .style .«vertical_pos») (a .line-height) (a .ignore-unknown-chars))
-    (a .style .color) (sized (a .width) (a .height)) (a .buffer .now) (sym (c .before .before .before .new-from-raw-data .ensures) ∙ ap fontReaderOutcome (c .before .error .given .1))
+    font-refused (a .font .now) (plain (a .text .now) (a .placement)) (a .color) (a .framebuffer) (a .buffer .now) (sym (c .before .before .before .new-from-raw-data .ensures) ∙ ap fontReaderOutcome (c .before .error .given .1))
 
 returns-4 : tie.Need-returns-4
 returns-4 c =
     let e = c .before .before .before .before .before .before in
-    let k = e .before .before in
+    let k = e .before .before .before in
     let a = entry k .args in
-    position-refused (a .font .now) (asked k) (a .style .color) (sized (a .width) (a .height)) (a .buffer .now) (opens k) (size-in e)
+    position-refused (a .font .now) (asked k) (a .color) (a .framebuffer) (a .buffer .now) (opens k) (size-in e)
     (sym (simp (toZ-ofZ, ascent-fits k, descent-fits k) at (c .before .before .before .checked-origin .ensures)) ∙ ap originOutcome (c .before .error2 .given .1))
 
 returns-5 : tie.Need-returns-5
@@ -98,13 +97,13 @@ returns-5 c =
     let p = c .before .before .before .before .before .before in
     let k = font-known p in
     let a = entry k .args in
-    let whole = drawn-whole (a .font .now) (asked k) (a .style .color) (sized (a .width) (a .height)) (a .buffer .now) (opens k)
+    let whole = drawn-whole (a .font .now) (asked k) (a .color) (a .framebuffer) (a .buffer .now) (opens k)
     (size-in (sized-at p)) (passes p) (color-tested p ∙ sym (c .before .before .before .before .before .has-bad-color .ensures) ∙ c .before .before .before .before .if2 .left) in
     (c .before .before .draw-text .ensures .0 ∙ whole .0, c .before .before .draw-text .ensures .1 ∙ whole .1)
 
 pub render-spec : {M : Type 1} → statement M
 render-spec =
     tie.close
-    (tie.spec (λ c κs. search needs) (λ c. search needs) (λ c. search needs) (λ c κs. search needs) returns (λ c κs. search needs)
-    (λ c. search needs) (λ c. search needs) (λ c κs. search needs) returns-2 draw-text-requires returns-3 returns-4
-    (λ c. search needs) returns-5)
+    (tie.spec (λ c κs. search needs) (λ c. search needs) (λ c. search needs) (λ c κs. search needs) (λ c. search needs) returns
+    (λ c κs. search needs) (λ c. search needs) (λ c. search needs) (λ c κs. search needs) (λ c. search needs) returns-2
+    draw-text-requires returns-3 (λ c. search needs) returns-4 (λ c. search needs) returns-5)
