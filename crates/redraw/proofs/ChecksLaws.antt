@@ -9,17 +9,18 @@ use Rattle.definitions.specs.Limits.{textCause, positionCause, backgroundCause}
 use Rattle.definitions.specs.Font.{u8g2}
 use Rattle.definitions.specs.Calls.{openFont}
 use Rattle.definitions.specs.Agreement.{Ground, width, height}
-use Rattle.redraw.specs.Drawing.{Drawing, asks}
+use Rattle.redraw.specs.Drawing.{Drawing, asks, withText}
 use Rattle.definitions.proofs.OpenedLaws.{passes-font, opened, opened-limits}
 use Rattle.definitions.proofs.RefusalLaws.{succeeded, each-off}
 use Rattle.definitions.proofs.ComesLaws.{Comes, comes-none, comes-off, comes-on, comes-passed, comes-stopped}
 use Rattle.framebuffer.specs.Areas.{BufferFits}
+use Rattle.checks.specs.declared.origin.Pen.{Pen}
 use Rattle.checks.specs.Origins.{originBy, checkedOrigin, Checked}
 use Rattle.checks.proofs.OriginLaws.{text-limits, position-limits, origin-checked, origin-is}
 use Rattle.renderer.proofs.SizeLaws.{size-fits}
 use Rattle.redraw.specs.declared.step.Step.{Step}
 use Rattle.redraw.specs.Redraw.{redrawCauses}
-use Rattle.redraw.specs.Checks.{originOf, stepOf, checkedStep}
+use Rattle.redraw.specs.Checks.{originOf, penOf, stepOf, checkedStep}
 
 -- ---- test by test
 
@@ -30,8 +31,11 @@ module _ (font old : List ℕ) (new : Drawing) (p : Ground) where
       ∷ textCause old
       ∷ textCause (new .text)
       ∷ positionCause (new .position) (new .lineHeight)
-      ∷ backgroundCause (new .style .color) (u8g2 font .background)
+      ∷ backgroundCause (new .color) (u8g2 font .background)
       ∷ []
+
+  abbrev penAt : Point → Pen
+  penAt o = record { origin = o; «line_height» = new .lineHeight; «ignore_unknown_chars» = false }
 
   -- what causes leave of the step
   abbrev Leave : List Cause → Outcome Step → Type 0
@@ -46,14 +50,21 @@ module _ (font old : List ℕ) (new : Drawing) (p : Ground) where
 
   module _ {head : FontReader} (opens : openFont font ≡ success head) where
     abbrev place : List ℕ → Outcome Point
-    place text = checkedOrigin (head .ascent) (head .descent) text (new .position) (new .style .«vertical_pos») (new .lineHeight)
+    place text = checkedOrigin (head .ascent) (head .descent) (asks (withText text new))
+
+    -- where a text would begin, by the header that was read
+    abbrev begins : List ℕ → Point
+    begins text = originBy (head .ascent) (head .descent) (asks (withText text new))
+
+    abbrev placeCauses : List Cause
+    placeCauses = textCause (new .text) ∷ positionCause (new .position) (new .lineHeight) ∷ []
 
     pub size-refused : framebufferCause (p .framebuffer) (p .before) .applies ≡ true → refused 3 0 ≡ checkedStep font old new p
     size-refused e = as-checked (comes-passed (fontCauses font) (passes-font font opens) (comes-on (framebufferCause (p .framebuffer) (p .before)) _ e))
 
     module _ (size : framebufferCause (p .framebuffer) (p .before) .applies ≡ false) where
       after-size : {answer : Outcome Step} → Leave
-          (textCause old ∷ textCause (new .text) ∷ positionCause (new .position) (new .lineHeight) ∷ backgroundCause (new .style .color) (u8g2 font .background) ∷ []) answer
+          (textCause old ∷ textCause (new .text) ∷ positionCause (new .position) (new .lineHeight) ∷ backgroundCause (new .color) (u8g2 font .background) ∷ []) answer
           → answer ≡ checkedStep font old new p
       after-size k = as-checked (comes-passed (fontCauses font) (passes-font font opens) (comes-off (framebufferCause (p .framebuffer) (p .before)) size k))
 
@@ -65,32 +76,27 @@ module _ (font old : List ℕ) (new : Drawing) (p : Ground) where
         new-refused e =
             after-size
             (comes-off (textCause old) fine
-            (comes-stopped (originBy (head .ascent) (head .descent) (new .text) (new .position) (new .style .«vertical_pos») (new .lineHeight))
-            (textCause (new .text) ∷ positionCause (new .position) (new .lineHeight) ∷ []) (backgroundCause (new .style .color) (u8g2 font .background) ∷ []) e))
+            (comes-stopped (begins (new .text)) placeCauses (backgroundCause (new .color) (u8g2 font .background) ∷ []) e))
 
         module _ {o : Point} (passes : place (new .text) ≡ success o) where
-          after-place : {answer : Outcome Step} → Leave (backgroundCause (new .style .color) (u8g2 font .background) ∷ []) answer → answer ≡ checkedStep font old new p
+          after-place : {answer : Outcome Step} → Leave (backgroundCause (new .color) (u8g2 font .background) ∷ []) answer → answer ≡ checkedStep font old new p
           after-place k =
               after-size
               (comes-off (textCause old) fine
-              (comes-passed (textCause (new .text) ∷ positionCause (new .position) (new .lineHeight) ∷ [])
-              (succeeded (success (originBy (head .ascent) (head .descent) (new .text) (new .position) (new .style .«vertical_pos»)
-              (new .lineHeight))) o (textCause (new .text) ∷ positionCause (new .position) (new .lineHeight) ∷ []) passes .0)
-              k))
+              (comes-passed placeCauses (succeeded (success (begins (new .text))) o placeCauses passes .0) k))
 
-          pub color-refused : backgroundCause (new .style .color) (u8g2 font .background) .applies ≡ true → refused 6 0 ≡ checkedStep font old new p
-          color-refused e = after-place (comes-on (backgroundCause (new .style .color) (u8g2 font .background)) [] e)
+          pub color-refused : backgroundCause (new .color) (u8g2 font .background) .applies ≡ true → refused 6 0 ≡ checkedStep font old new p
+          color-refused e = after-place (comes-on (backgroundCause (new .color) (u8g2 font .background)) [] e)
 
-          pub all-passed : backgroundCause (new .style .color) (u8g2 font .background) .applies ≡ false
-              → success record { head = head; «old_origin» = originBy (head .ascent) (head .descent) old (new .position) (new .style .«vertical_pos») (new .lineHeight); «new_origin» = o }
+          pub all-passed : backgroundCause (new .color) (u8g2 font .background) .applies ≡ false
+              → success record { head = head; «old_pen» = penAt (begins old); «new_pen» = penAt o }
               ≡ checkedStep font old new p
           all-passed e =
               let read : head ≡ header font = opened font head opens .read in
               let there : originOf font (new .text) new ≡ o = origin-is font opens (asks new) passes in
-              let here : originBy (head .ascent) (head .descent) old (new .position) (new .style .«vertical_pos») (new .lineHeight) ≡ originOf font old new =
-              ap (λ (h : FontReader). originBy (h .ascent) (h .descent) old (new .position) (new .style .«vertical_pos») (new .lineHeight)) read in
-              rw (here, ← there) (ap (λ (h : FontReader). success record { head = h; «old_origin» = originOf font old new; «new_origin» = originOf font (new .text) new }) read)
-              ∙ after-place (comes-off (backgroundCause (new .style .color) (u8g2 font .background)) e comes-none)
+              let here : begins old ≡ originOf font old new = ap (λ (h : FontReader). originBy (h .ascent) (h .descent) (asks (withText old new))) read in
+              rw (here, ← there) (ap (λ (h : FontReader). success record { head = h; «old_pen» = penOf font old new; «new_pen» = penOf font (new .text) new }) read)
+              ∙ after-place (comes-off (backgroundCause (new .color) (u8g2 font .background)) e comes-none)
 
 -- ---- a step that passes them
 
@@ -98,10 +104,10 @@ pub record Ready (font old : List ℕ) (new : Drawing) (p : Ground) (s : Step) :
   pub unrefused : anyApplies (redrawCauses font old new p) ≡ false
   pub opens : Opened font (s .head)
   pub read : s .head ≡ header font
-  pub old-at : s .«old_origin» ≡ originOf font old new
-  pub new-at : s .«new_origin» ≡ originOf font (new .text) new
-  pub old-checked : Checked old (s .«old_origin») (new .lineHeight)
-  pub new-checked : Checked (new .text) (s .«new_origin») (new .lineHeight)
+  pub old-at : s .«old_pen» ≡ penOf font old new
+  pub new-at : s .«new_pen» ≡ penOf font (new .text) new
+  pub old-checked : Checked old (s .«old_pen» .origin) (s .«old_pen» .«line_height»)
+  pub new-checked : Checked (new .text) (s .«new_pen» .origin) (s .«new_pen» .«line_height»)
   pub fits : BufferFits (length (p .before)) (width p) (height p)
 
 pub ready : (font old : List ℕ) (new : Drawing) (p : Ground) (s : Step) → checkedStep font old new p ≡ success s
@@ -119,11 +125,11 @@ ready font old new p s e small =
       unrefused = h .0;
       opens = subst (λ (h : FontReader). Opened font h) (sym read) (opened-limits font (o .0) (o .1 .0));
       read = read;
-      old-at = sym (ap (λ (s : Step). s .«old_origin») same);
-      new-at = sym (ap (λ (s : Step). s .«new_origin») same);
-      old-checked = subst (λ (s : Step). Checked old (s .«old_origin») (new .lineHeight)) same
-          (origin-checked _ _ old (new .position) (new .style .«vertical_pos») (new .lineHeight) up down (text-limits old (o .1 .1 .1 .0)) place);
-      new-checked = subst (λ (s : Step). Checked (new .text) (s .«new_origin») (new .lineHeight)) same
-          (origin-checked _ _ (new .text) (new .position) (new .style .«vertical_pos») (new .lineHeight) up down (text-limits (new .text) (o .1 .1 .1 .1 .0)) place);
-      fits = size-fits (width p) (height p) _ (o .1 .1 .0);
+      old-at = sym (ap (λ (s : Step). s .«old_pen») same);
+      new-at = sym (ap (λ (s : Step). s .«new_pen») same);
+      old-checked = subst (λ (s : Step). Checked old (s .«old_pen» .origin) (s .«old_pen» .«line_height»)) same
+          (origin-checked _ _ (asks (withText old new)) up down (text-limits old (o .1 .1 .1 .0)) place);
+      new-checked = subst (λ (s : Step). Checked (new .text) (s .«new_pen» .origin) (s .«new_pen» .«line_height»)) same
+          (origin-checked _ _ (asks new) up down (text-limits (new .text) (o .1 .1 .1 .1 .0)) place);
+      fits = size-fits (p .framebuffer) (p .before) (o .1 .1 .0);
     }

@@ -4,7 +4,7 @@ use Rattle.integers.proofs.Prelude.{_≡_, refl, sym, ap, subst, _∙_, Bool, t
 use Rattle.integers.proofs.Prelude.{_≤_, _<_, arith, eqb, ltb, pos, length, eqb-false, ne-eqb}
 use Rattle.integers.proofs.Choices.{impossible}
 use Rattle.integers.specs.Integers.{pick}
-use Rattle.definitions.specs.Vocabulary.{BoundingBox, None, Some, Point, RenderedDimensions}
+use Rattle.definitions.specs.Vocabulary.{Framebuffer, BoundingBox, None, Some, Point, RenderedDimensions}
 use Rattle.definitions.specs.Refusals.{Outcome, success, refused, Cause, unlessRefused, anyApplies}
 use Rattle.definitions.specs.Header.{fontCauses}
 use Rattle.definitions.specs.Geometry.{InsideBox}
@@ -15,8 +15,8 @@ use Rattle.definitions.specs.Text.{joinAll, point, dimensions}
 use Rattle.definitions.specs.TextSteps.{measureFrom, drawFrom, start}
 use Rattle.definitions.specs.Limits.{textCause, positionCause, backgroundCause}
 use Rattle.definitions.specs.Calls.{characters, origin, drawCauses, drawnText, draw, drawBuffer}
-use Rattle.definitions.specs.Agreement.{Ground, limits, WithinLimits, pixel, KeptOutside, width, height}
-use Rattle.redraw.specs.Drawing.{Drawing, asks, groundOf, drawn, after, measured}
+use Rattle.definitions.specs.Agreement.{Ground, on, limits, WithinLimits, pixel, KeptOutside, width, height}
+use Rattle.redraw.specs.Drawing.{Drawing, asks, withText, drawn, after, measured}
 use Rattle.definitions.proofs.FramebufferLaws.{length-shown, shown-at, same-pixels}
 use Rattle.definitions.proofs.PictureLaws.{covers-inside, inside-covers}
 use Rattle.definitions.proofs.RefusalLaws.{or-false, none-applies, succeeded, NoneApplies, each-off, all-off}
@@ -26,7 +26,7 @@ use Rattle.definitions.proofs.LetterRefusals.{Late, late, late-drawn}
 use Rattle.definitions.proofs.Agreement.{alone, size}
 use Rattle.framebuffer.specs.Areas.{fillPicture}
 use Rattle.framebuffer.proofs.RowLaws.{row-of-pixel}
-use Rattle.redraw.specs.Redraw.{wholeOr, readingOn, AllOf, clearedBy, redrawCauses, withText, cleared, redrawn, redrawnBuffer, taken}
+use Rattle.redraw.specs.Redraw.{wholeOr, readingOn, AllOf, clearedBy, redrawCauses, cleared, redrawn, redrawnBuffer, taken}
 use Rattle.redraw.specs.Checks.{originOf, stepOf, checkedStep}
 
 -- the framebuffer keeps its length
@@ -38,15 +38,15 @@ pub length-after : (font : List ℕ) (r : Drawing) (p : Ground) → length (afte
 unfolding drawBuffer
 length-after font r p =
     length-by
-    (anyApplies (drawCauses (u8g2 font) (asks r) (r .style .color) (p .framebuffer) (p .before)))
+    (anyApplies (drawCauses (u8g2 font) (asks r) (r .color) (p .framebuffer) (p .before)))
     (width p)
-    (textPicture (r .style .color) (pixelsOf (u8g2 font)) (drawnText (u8g2 font) (asks r) .glyphs))
+    (textPicture (r .color) (pixelsOf (u8g2 font)) (drawnText (u8g2 font) (asks r) .glyphs))
     (p .before)
 
 module _ (font : List ℕ) (r : Drawing) (p : Ground) (d : RenderedDimensions) (within : WithinLimits (u8g2 font) (asks r) p)
     (succeeded : drawn font r p ≡ success d) where
   kept : KeptOutside p (after font r p) d
-  kept = alone (u8g2 font) (asks r) refl (r .style .color) p d within succeeded .first-kept
+  kept = alone (u8g2 font) (asks r) refl (r .color) p d within succeeded .first-kept
 
   module _ (color : ℕ) (ground : AllOf color p (d .«bounding_box»)) where
     -- inside the box the fill puts the colour, which was there; outside it keeps what the drawing kept
@@ -83,28 +83,27 @@ unfolding draw
 within-limits font r p d e =
     let h =
     succeeded (dimensions (drawnText (u8g2 font) (asks r))) d
-    (drawCauses (u8g2 font) (asks r) (r .style .color) (p .framebuffer) (p .before)) e
+    (drawCauses (u8g2 font) (asks r) (r .color) (p .framebuffer) (p .before)) e
     in
-    let o = each-off (drawCauses (u8g2 font) (asks r) (r .style .color) (p .framebuffer) (p .before)) (h .0) in
+    let o = each-off (drawCauses (u8g2 font) (asks r) (r .color) (p .framebuffer) (p .before)) (h .0) in
     all-off (limits (u8g2 font) (asks r) p) (o .0, (o .1 .0, (o .1 .1 .0, (o .1 .1 .1 .0, (o .1 .1 .1 .1 .0, tt)))))
 
 -- A drawing that succeeds is measured alike.
 pub drawn-measured : (font : List ℕ) (r : Drawing) (p : Ground) (d : RenderedDimensions) → drawn font r p ≡ success d → measured font r ≡ success d
-drawn-measured font r p d e = alone (u8g2 font) (asks r) refl (r .style .color) p d (within-limits font r p d e) e .first-measures
+drawn-measured font r p d e = alone (u8g2 font) (asks r) refl (r .color) p d (within-limits font r p d e) e .first-measures
 
 -- What drawing answers depends on the framebuffer's length, and not on what it holds.
-pub same-answer : (font : List ℕ) (r : Drawing) (width height : ℕ) (a b : List ℕ) → length a ≡ length b
-    → drawn font r (groundOf width height a) ≡ drawn font r (groundOf width height b)
+pub same-answer : (font : List ℕ) (r : Drawing) (p : Framebuffer) (a b : List ℕ) → length a ≡ length b → drawn font r (on p a) ≡ drawn font r (on p b)
 unfolding draw
-same-answer font r width height a b l =
+same-answer font r p a b l =
     ap
     (λ (n : ℕ).
     unlessRefused
     (fontCauses font
-    ++ record { number = 3; applies = sideOff width || sideOff height || not (eqb n (width * height)) }
+    ++ record { number = 3; applies = sideOff (p .width) || sideOff (p .height) || not (eqb n (p .width * p .height)) }
     ∷ textCause (r .text)
     ∷ positionCause (r .position) (r .lineHeight)
-    ∷ backgroundCause (r .style .color) (u8g2 font .background)
+    ∷ backgroundCause (r .color) (u8g2 font .background)
     ∷ [])
     (dimensions (drawnText (u8g2 font) (asks r))))
     l
@@ -164,7 +163,7 @@ late-taken (refused n c) (late h) = by h
 module _ (font : List ℕ) (r : Drawing) (p : Ground) where
   -- the causes of drawing
   abbrev pub causesOf : List Cause
-  causesOf = drawCauses (u8g2 font) (asks r) (r .style .color) (p .framebuffer) (p .before)
+  causesOf = drawCauses (u8g2 font) (asks r) (r .color) (p .framebuffer) (p .before)
 
   -- a drawing by whether one of its causes applies
   pub drawn-early : anyApplies causesOf ≡ true → taken (drawn font r p) ≡ false
@@ -201,10 +200,10 @@ module _ (font : List ℕ) (r : Drawing) (p : Ground) where
         measure-from (drawnAnswer (u8g2 font) false) (r .lineHeight) at (characters (r .text)) start
         ∙ sym (none-applies (dimensions (drawnText (u8g2 font) (asks r))) causesOf unrefused)
 
-    pub bytes-by-letters : drawFrom (width p) (r .style .color) (pixelsOf (u8g2 font)) (drawnAnswer (u8g2 font) false) (r .lineHeight) at start (p .before) (characters (r .text)) ≡ after font r p
+    pub bytes-by-letters : drawFrom (width p) (r .color) (pixelsOf (u8g2 font)) (drawnAnswer (u8g2 font) false) (r .lineHeight) at start (p .before) (characters (r .text)) ≡ after font r p
     unfolding drawBuffer
     bytes-by-letters =
-        draw-from (width p) (r .style .color) (pixelsOf (u8g2 font)) (drawnAnswer (u8g2 font) false) (r .lineHeight) at (characters (r .text)) start (p .before)
+        draw-from (width p) (r .color) (pixelsOf (u8g2 font)) (drawnAnswer (u8g2 font) false) (r .lineHeight) at (characters (r .text)) start (p .before)
         ∙ rw unrefused
 
 -- ---- the step, as the code goes
@@ -236,7 +235,7 @@ module _ (font old : List ℕ) (new : Drawing) (background : ℕ) (p : Ground) w
     new-off = all-off (causesOf font new p) (off .0, (off .1 .0, (off .1 .1 .0, off .1 .1 .1 .1)))
 
     abbrev bare : Ground
-    bare = groundOf (width p) (height p) (clearedBy (width p) background (toFill (drawn font (withText old new) p)) (p .before))
+    bare = on (p .framebuffer) (clearedBy (width p) background (toFill (drawn font (withText old new) p)) (p .before))
 
     bare-off : anyApplies (causesOf font new bare) ≡ false
     bare-off =
@@ -248,7 +247,7 @@ module _ (font old : List ℕ) (new : Drawing) (background : ℕ) (p : Ground) w
     letters text = measureFrom (drawnAnswer (u8g2 font) false) (new .lineHeight) (originOf font text new) start (characters text)
 
     abbrev lettersOn : List ℕ → List ℕ
-    lettersOn bytes = drawFrom (width p) (new .style .color) (pixelsOf (u8g2 font)) (drawnAnswer (u8g2 font) false) (new .lineHeight)
+    lettersOn bytes = drawFrom (width p) (new .color) (pixelsOf (u8g2 font)) (drawnAnswer (u8g2 font) false) (new .lineHeight)
         (originOf font (new .text) new) start bytes (characters (new .text))
 
     pub answers : {answer : Outcome RenderedDimensions} → answer ≡ letters (new .text) → answer ≡ redrawn font old new p

@@ -7,21 +7,21 @@ use Rattle.definitions.specs.Refusals.{Outcome, success, refused, unlessRefused
 use Rattle.definitions.specs.Header.{fontCauses}
 use Rattle.definitions.specs.Utf8.{decodeFrom}
 use Rattle.definitions.specs.Picture.{keep, textPicture}
-use Rattle.definitions.specs.Framebuffer.{shown, sized, framebufferCause, sideOff}
+use Rattle.definitions.specs.Framebuffer.{shown, framebufferCause, sideOff}
 use Rattle.definitions.specs.Text.{joinAll, point, letters, lines, lineByLine, dimensions}
 use Rattle.definitions.specs.Limits.{textCause, positionCause, backgroundOff, backgroundCause}
 use Rattle.definitions.specs.Font.{u8g2}
-use Rattle.definitions.specs.Calls.{plain, drawnText, draw, drawBuffer}
+use Rattle.definitions.specs.Calls.{placed, plain, drawnText, draw, drawBuffer}
 use Rattle.redraw.specs.Drawing.{Drawing, drawn, after}
 use Rattle.definitions.proofs.FramebufferLaws.{shown-blank}
 use Rattle.definitions.proofs.RefusalLaws.{succeeded, each-off}
 use Rattle.redraw.specs.Redraw.{wholeOr, readingOn, AllOf, clearedBy, redrawCauses, redrawn, redrawnBuffer, taken}
-use Rattle.redraw.specs.Steps.{Field, Reading, asked, on, Screen, readingOf, bare, stepAnswer, step, steps, answers, alone, lastTaken, showing, ClearFor, ClearForAll, LeavesReading}
+use Rattle.redraw.specs.Steps.{Setting, Reading, asked, on, Screen, readingOf, bare, stepAnswer, step, steps, answers, alone, lastTaken, showing, ClearFor, ClearForAll, LeavesReading}
 use Rattle.redraw.proofs.RedrawLaws.{length-after, within-limits, same-answer, some-width, fill-restores, length-cleared}
 use Rattle.redraw.proofs.RedrawLaws.{refused-early, causesOf, drawn-early, drawn-late, same-causes, redrawn-is}
 
 -- What drawing answers does not depend on the colours, if the font allows them.
-same-color : (f : Field) (bytes text : List ℕ) (c d : FontColor) → backgroundOff c (u8g2 (f .font) .background) ≡ false → backgroundOff d (u8g2 (f .font) .background) ≡ false
+same-color : (f : Setting) (bytes text : List ℕ) (c d : FontColor) → backgroundOff c (u8g2 (f .font) .background) ≡ false → backgroundOff d (u8g2 (f .font) .background) ≡ false
     → alone f bytes record { text = text; color = c } ≡ alone f bytes record { text = text; color = d }
 unfolding draw
 same-color f bytes text c d allows also =
@@ -29,17 +29,17 @@ same-color f bytes text c d allows also =
     (λ (b : Bool).
     unlessRefused
     (fontCauses (f .font)
-    ++ framebufferCause (sized (f .width) (f .height)) bytes
+    ++ framebufferCause (f .framebuffer) bytes
     ∷ textCause text
     ∷ positionCause (f .position) (f .lineHeight)
     ∷ record { number = 6; applies = b }
     ∷ [])
-    (dimensions (drawnText (u8g2 (f .font)) (plain text (f .position) (f .anchor) (f .lineHeight) false))))
+    (dimensions (drawnText (u8g2 (f .font)) (plain text (placed (f .position) (f .anchor) (f .lineHeight) false)))))
     (allows ∙ sym also)
 
 -- ---- what every step keeps
 
-module _ (f : Field) (ground : List ℕ) where
+module _ (f : Setting) (ground : List ℕ) where
   -- The screen has the ground's length, and what is to be cleared is a text in a colour that the font allows.
   pub record Sized (s : Screen) : Type 0 where
     pub as-long : length (s .bytes) ≡ length ground
@@ -57,7 +57,7 @@ module _ (f : Field) (ground : List ℕ) where
         (λ (n : ℕ).
         anyApplies
         (fontCauses (f .font)
-        ++ record { number = 3; applies = sideOff (f .width) || sideOff (f .height) || not (eqb n (f .width * f .height)) }
+        ++ record { number = 3; applies = sideOff (f .framebuffer .width) || sideOff (f .framebuffer .height) || not (eqb n (f .framebuffer .width * f .framebuffer .height)) }
         ∷ textCause (r .text)
         ∷ positionCause (f .position) (f .lineHeight)
         ∷ backgroundCause (r .color) (u8g2 (f .font) .background)
@@ -68,7 +68,7 @@ module _ (f : Field) (ground : List ℕ) where
     pub answers-alone : stepAnswer f s r ≡ alone f ground r
     answers-alone =
         redrawn-is (f .font) (asked f r) (on f (s .bytes)) (s .old .text) (z .fine)
-        ∙ same-answer (f .font) (asked f r) (f .width) (f .height) (s .bytes) ground (z .as-long)
+        ∙ same-answer (f .font) (asked f r) (f .framebuffer) (s .bytes) ground (z .as-long)
 
     -- What follows a step that took the reading if drawing it alone is not refused by a cause.
     pub sized-next : {t : Screen} → t .old ≡ pick (taken (alone f ground r)) r (s .old) → length (t .bytes) ≡ length (s .bytes) → Sized t
@@ -109,10 +109,10 @@ module _ (f : Field) (ground : List ℕ) where
       old-alone : alone f (s .bytes) record { text = s .old .text; color = r .color } ≡ alone f ground (s .old)
       old-alone =
           let allows = each-off (causesOf (f .font) (asked f r) (on f ground)) k .1 .1 .1 .1 .1 .0 in
-          same-answer (f .font) (asked f record { text = s .old .text; color = r .color }) (f .width) (f .height) (s .bytes) ground (z .as-long)
+          same-answer (f .font) (asked f record { text = s .old .text; color = r .color }) (f .framebuffer) (s .bytes) ground (z .as-long)
           ∙ same-color f ground (s .old .text) (r .color) (s .old .color) allows (z .allowed)
 
-      pub taken-step : step f s r ≡ record { old = r; bytes = readingOn (f .font) (asked f r) (on f (clearedBy (f .width) (f .background) (alone f ground (s .old)) (s .bytes))) }
+      pub taken-step : step f s r ≡ record { old = r; bytes = readingOn (f .font) (asked f r) (on f (clearedBy (f .framebuffer .width) (f .background) (alone f ground (s .old)) (s .bytes))) }
       unfolding redrawnBuffer
       taken-step =
           let late : taken (stepAnswer f s r) ≡ true = ap taken answers-alone ∙ drawn-late (f .font) (asked f r) (on f ground) k in
@@ -131,7 +131,7 @@ module _ (f : Field) (ground : List ℕ) where
 
     -- filling the box of a reading that draws brings the ground back; where it does not draw, the ground is there
     restored : (o : Outcome RenderedDimensions) → alone f ground (s .old) ≡ o
-        → clearedBy (f .width) (f .background) o (wholeOr o (after (f .font) old (on f ground)) ground) ≡ ground
+        → clearedBy (f .framebuffer .width) (f .background) o (wholeOr o (after (f .font) old (on f ground)) ground) ≡ ground
     restored (success d) e =
         let within = within-limits (f .font) old (on f ground) d e in
         fill-restores (f .font) old (on f ground) d within e (f .background) (h .clear d e) (some-width (f .font) old (on f ground) within)
@@ -144,7 +144,7 @@ module _ (f : Field) (ground : List ℕ) where
         by : (b : Bool) → anyApplies (causesOf (f .font) (asked f r) (on f ground)) ≡ b → step f s r ≡ pick (taken (alone f ground r)) (showing f ground r) s
         by true k = refused-step z r k ∙ rw (drawn-early (f .font) (asked f r) (on f ground) k)
         by false k =
-            let back = ap (clearedBy (f .width) (f .background) (alone f ground (s .old))) (h .is) ∙ restored (alone f ground (s .old)) refl in
+            let back = ap (clearedBy (f .framebuffer .width) (f .background) (alone f ground (s .old))) (h .is) ∙ restored (alone f ground (s .old)) refl in
             taken-step z r k
             ∙ ap (λ (bytes : List ℕ). record { old = r; bytes = readingOn (f .font) (asked f r) (on f bytes) }) back
             ∙ rw (drawn-late (f .font) (asked f r) (on f ground) k)
@@ -166,9 +166,9 @@ module _ (f : Field) (ground : List ℕ) where
 
   -- whatever is filled, and whether a cause applies or not
   pub length-left : (r : Reading) (bytes : List ℕ) (b : Bool) (o : Outcome RenderedDimensions)
-      → length (pick b bytes (readingOn (f .font) (asked f r) (on f (clearedBy (f .width) (f .background) o bytes)))) ≡ length bytes
+      → length (pick b bytes (readingOn (f .font) (asked f r) (on f (clearedBy (f .framebuffer .width) (f .background) o bytes)))) ≡ length bytes
   length-left r bytes true o = refl
-  length-left r bytes false o = length-reading r (clearedBy (f .width) (f .background) o bytes) ∙ length-cleared (f .width) (f .background) o bytes
+  length-left r bytes false o = length-reading r (clearedBy (f .framebuffer .width) (f .background) o bytes) ∙ length-cleared (f .framebuffer .width) (f .background) o bytes
 
   pub length-step : (s : Screen) (r : Reading) → length (step f s r .bytes) ≡ length (s .bytes)
   unfolding redrawnBuffer
@@ -192,9 +192,9 @@ module _ (f : Field) (ground : List ℕ) where
   unfolding drawBuffer letters lines lineByLine decodeFrom textPicture
   bare-drawn color = by (anyApplies (causesOf (f .font) (asked f (readingOf [] color)) (on f ground)))
     where
-      by : (b : Bool) → pick b ground (shown (f .width) (λ column row. keep) ground) ≡ ground
+      by : (b : Bool) → pick b ground (shown (f .framebuffer .width) (λ column row. keep) ground) ≡ ground
       by true = refl
-      by false = shown-blank (f .width) ground
+      by false = shown-blank (f .framebuffer .width) ground
 
   pub nothing-shown : (color : FontColor) → readingOn (f .font) (asked f (readingOf [] color)) (on f ground) ≡ ground
   nothing-shown color = whole (alone f ground (readingOf [] color))
@@ -232,7 +232,7 @@ module _ (f : Field) (ground : List ℕ) where
 
 -- ---- one step, from what the code leaves
 
-module _ (f : Field) (old : List ℕ) (r : Reading) {entry exit : List ℕ} {answer : Outcome RenderedDimensions}
+module _ (f : Setting) (old : List ℕ) (r : Reading) {entry exit : List ℕ} {answer : Outcome RenderedDimensions}
     (answered : answer ≡ redrawn (f .font) old (asked f r) (on f entry))
     (shown : exit ≡ redrawnBuffer (f .font) old (asked f r) (f .background) (on f entry)) where
   pub leaves-reading : LeavesReading f old r entry answer exit

@@ -2,34 +2,55 @@
 use mathlib.Core.Bool.{false}
 use mathlib.Core.List.{List}
 use Prim.Native.Nat.{ℕ}
-use Rattle.definitions.specs.Vocabulary.{Point, RenderedDimensions, FontStyle}
+use Rattle.definitions.specs.Vocabulary.{Point, RenderedDimensions, FontColor, VerticalPosition}
 use Rattle.definitions.specs.Refusals.{Outcome}
 use Rattle.definitions.specs.Font.{u8g2}
-use Rattle.definitions.specs.Framebuffer.{sized}
-use Rattle.definitions.specs.Calls.{Request, plain, measure, draw, drawBuffer}
+use Rattle.definitions.specs.Calls.{Request, placed, plain, measure, draw, drawBuffer}
 use Rattle.definitions.specs.Agreement.{Ground, on}
+use Rattle.renderer.specs.declared.render.Context.{Context}
+use Rattle.renderer.specs.Texts.{Fits}
+use Rattle.redraw.specs.declared.place.Place.{Place}
 
 pub record Drawing : Type 0 where
   pub text : List ℕ
   pub position : Point
-  pub style : FontStyle
+  pub anchor : VerticalPosition
+  pub color : FontColor
   pub lineHeight : ℕ
 
-abbrev pub drawing : List ℕ → Point → FontStyle → ℕ → Drawing
-drawing text position style lineHeight = record { text = text; position = position; style = style; lineHeight = lineHeight }
-
 abbrev pub asks : Drawing → Request
-asks d = plain (d .text) (d .position) (d .style .«vertical_pos») (d .lineHeight) false
+asks d = plain (d .text) (placed (d .position) (d .anchor) (d .lineHeight) false)
 
-abbrev pub groundOf : ℕ → ℕ → List ℕ → Ground
-groundOf width height bytes = on (sized width height) bytes
+-- another text in the same place and colour
+abbrev pub withText : List ℕ → Drawing → Drawing
+withText text d = record { text = text; position = d .position; anchor = d .anchor; color = d .color; lineHeight = d .lineHeight }
+
+-- how a text is drawn at a place, and on what
+abbrev pub asked : Place → List ℕ → Drawing
+asked place text = record {
+  text = text;
+  position = place .position;
+  anchor = place .«vertical_pos»;
+  color = place .color;
+  lineHeight = place .«line_height»;
+}
+
+abbrev pub groundOf : Place → List ℕ → Ground
+groundOf place bytes = on (place .framebuffer) bytes
+
+abbrev pub contextOf : Place → Context
+contextOf place = record { color = place .color; framebuffer = place .framebuffer }
+
+-- A buffer of so many bytes is the place's framebuffer.
+abbrev pub FitsPlace : ℕ → Place → Type 0
+FitsPlace bytes place = Fits bytes (contextOf place)
 
 -- what drawing answers and leaves, and what measuring answers
 abbrev pub drawn : List ℕ → Drawing → Ground → Outcome RenderedDimensions
-drawn font d p = draw (u8g2 font) (asks d) (d .style .color) (p .framebuffer) (p .before)
+drawn font d p = draw (u8g2 font) (asks d) (d .color) (p .framebuffer) (p .before)
 
 abbrev pub after : List ℕ → Drawing → Ground → List ℕ
-after font d p = drawBuffer (u8g2 font) (asks d) (d .style .color) (p .framebuffer) (p .before)
+after font d p = drawBuffer (u8g2 font) (asks d) (d .color) (p .framebuffer) (p .before)
 
 abbrev pub measured : List ℕ → Drawing → Outcome RenderedDimensions
 measured font d = measure (u8g2 font) (asks d)

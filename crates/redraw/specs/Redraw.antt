@@ -15,7 +15,7 @@ use Rattle.definitions.specs.Font.{u8g2}
 use Rattle.definitions.specs.Limits.{textCause, positionCause, backgroundCause}
 use Rattle.definitions.specs.Agreement.{Ground, on, pixel, width, height}
 use Rattle.framebuffer.specs.Areas.{fillPicture}
-use Rattle.redraw.specs.Drawing.{Drawing, drawing, drawn, after}
+use Rattle.redraw.specs.Drawing.{Drawing, withText, drawn, after}
 
 -- ---- a reading on a ground
 
@@ -52,12 +52,8 @@ redrawCauses font old new p =
     ∷ textCause old
     ∷ textCause (new .text)
     ∷ positionCause (new .position) (new .lineHeight)
-    ∷ backgroundCause (new .style .color) (u8g2 font .background)
+    ∷ backgroundCause (new .color) (u8g2 font .background)
     ∷ []
-
--- the old reading stands where the new one will
-abbrev pub withText : List ℕ → Drawing → Drawing
-withText text r = drawing text (r .position) (r .style) (r .lineHeight)
 
 -- the framebuffer with the old reading cleared
 abbrev pub cleared : List ℕ → Drawing → ℕ → Ground → Ground
@@ -68,7 +64,7 @@ cleared font old background p =
 unfoldable pub redrawn : List ℕ → List ℕ → Drawing → Ground → Outcome RenderedDimensions
 redrawn font old new p = unlessRefused (redrawCauses font old new p) (drawn font new p)
 
--- .. and what the framebuffer then holds: the new reading on the framebuffer with the old one cleared. Refused by a cause, the step
+-- .. and what the framebuffer then holds: the new reading on the framebuffer with the old one, which stands in the same place, cleared. Refused by a cause, the step
 -- leaves it as it was.
 unfoldable pub redrawnBuffer : List ℕ → List ℕ → Drawing → ℕ → Ground → List ℕ
 redrawnBuffer font old new background p =

@@ -4,33 +4,33 @@ use mathlib.Core.Bool.{false}
 use mathlib.Core.List.{List, [], _∷_}
 use Prim.Native.Nat.{ℕ}
 use Rattle.integers.specs.Integers.{pick}
-use Rattle.definitions.specs.Vocabulary.{Point, RenderedDimensions, FontColor, Transparent, VerticalPosition}
+use Rattle.definitions.specs.Vocabulary.{Framebuffer, Point, RenderedDimensions, FontColor, Transparent, VerticalPosition}
 use Rattle.definitions.specs.Refusals.{Outcome, success}
 use Rattle.definitions.specs.Font.{u8g2}
 use Rattle.definitions.specs.Limits.{backgroundOff}
 use Rattle.definitions.specs.Agreement.{Ground}
-use Rattle.redraw.specs.Drawing.{Drawing, drawing, groundOf, drawn}
+use Rattle.definitions.specs.Agreement as agreement
+use Rattle.redraw.specs.Drawing.{Drawing, drawn}
+use Rattle.redraw.specs.declared.place.Place.{Place}
 use Rattle.redraw.specs.Redraw.{readingOn, AllOf, redrawn, redrawnBuffer, taken}
 
 -- What stays the same from step to step.
-pub record Field : Type 0 where
+pub record Setting : Type 0 where
   pub font : List ℕ
   pub position : Point
   pub anchor : VerticalPosition
   pub lineHeight : ℕ
   pub background : ℕ
-  pub width : ℕ
-  pub height : ℕ
+  pub framebuffer : Framebuffer
 
-abbrev pub fieldOf : List ℕ → Point → VerticalPosition → ℕ → ℕ → ℕ → ℕ → Field
-fieldOf font position anchor lineHeight background width height = record {
+abbrev pub settingOf : List ℕ → Place → Setting
+settingOf font place = record {
   font = font;
-  position = position;
-  anchor = anchor;
-  lineHeight = lineHeight;
-  background = background;
-  width = width;
-  height = height;
+  position = place .position;
+  anchor = place .«vertical_pos»;
+  lineHeight = place .«line_height»;
+  background = place .background;
+  framebuffer = place .framebuffer;
 }
 
 -- What may change.
@@ -41,11 +41,11 @@ pub record Reading : Type 0 where
 abbrev pub readingOf : List ℕ → FontColor → Reading
 readingOf text color = record { text = text; color = color }
 
-abbrev pub asked : Field → Reading → Drawing
-asked f r = drawing (r .text) (f .position) record { color = r .color; «vertical_pos» = f .anchor } (f .lineHeight)
+abbrev pub asked : Setting → Reading → Drawing
+asked f r = record { text = r .text; position = f .position; anchor = f .anchor; color = r .color; lineHeight = f .lineHeight }
 
-abbrev pub on : Field → List ℕ → Ground
-on f bytes = groundOf (f .width) (f .height) bytes
+abbrev pub on : Setting → List ℕ → Ground
+on f bytes = agreement.on (f .framebuffer) bytes
 
 -- The screen, and the reading that the next step is to clear.
 pub record Screen : Type 0 where
@@ -57,51 +57,51 @@ abbrev pub bare : List ℕ → Screen
 bare ground = record { old = record { text = []; color = Transparent 0 }; bytes = ground }
 
 -- What a step answers, and the screen after it. The next step is to clear the new reading if this one was taken.
-abbrev pub stepAnswer : Field → Screen → Reading → Outcome RenderedDimensions
+abbrev pub stepAnswer : Setting → Screen → Reading → Outcome RenderedDimensions
 stepAnswer f s new = redrawn (f .font) (s .old .text) (asked f new) (on f (s .bytes))
 
-abbrev pub step : Field → Screen → Reading → Screen
+abbrev pub step : Setting → Screen → Reading → Screen
 step f s new = record {
   old = pick (taken (stepAnswer f s new)) new (s .old);
   bytes = redrawnBuffer (f .font) (s .old .text) (asked f new) (f .background) (on f (s .bytes));
 }
 
 -- the screen after a list of steps, and what each of them answered
-unfoldable pub steps : Field → Screen → List Reading → Screen
+unfoldable pub steps : Setting → Screen → List Reading → Screen
 steps f s [] = s
 steps f s (r ∷ rs) = steps f (step f s r) rs
 
-unfoldable pub answers : Field → Screen → List Reading → List (Outcome RenderedDimensions)
+unfoldable pub answers : Setting → Screen → List Reading → List (Outcome RenderedDimensions)
 answers f s [] = []
 answers f s (r ∷ rs) = stepAnswer f s r ∷ answers f (step f s r) rs
 
 -- ---- what the screen is to show
 
 -- what a reading drawn alone on the ground answers
-abbrev pub alone : Field → List ℕ → Reading → Outcome RenderedDimensions
+abbrev pub alone : Setting → List ℕ → Reading → Outcome RenderedDimensions
 alone f ground r = drawn (f .font) (asked f r) (on f ground)
 
 -- the last reading that none of the causes 1 to 6 refuses, or `old` where there is none
-unfoldable pub lastTaken : Field → List ℕ → Reading → List Reading → Reading
+unfoldable pub lastTaken : Setting → List ℕ → Reading → List Reading → Reading
 lastTaken f ground old [] = old
 lastTaken f ground old (r ∷ rs) = lastTaken f ground (pick (taken (alone f ground r)) r old) rs
 
 -- The screen shows a reading on the ground, whole or not at all.
-abbrev pub showing : Field → List ℕ → Reading → Screen
+abbrev pub showing : Setting → List ℕ → Reading → Screen
 showing f ground r = record { old = r; bytes = readingOn (f .font) (asked f r) (on f ground) }
 
 -- Where a reading stands, the ground is background ..
-abbrev pub ClearFor : Field → List ℕ → Reading → Type 0
+abbrev pub ClearFor : Setting → List ℕ → Reading → Type 0
 ClearFor f ground r = (d : RenderedDimensions) → alone f ground r ≡ success d → AllOf (f .background) (on f ground) (d .«bounding_box»)
 
 -- .. and so it is for each of them.
-abbrev pub ClearForAll : Field → List ℕ → List Reading → Type 0
+abbrev pub ClearForAll : Setting → List ℕ → List Reading → Type 0
 ClearForAll f ground [] = Unit {0}
 ClearForAll f ground (r ∷ rs) = ClearFor f ground r × ClearForAll f ground rs
 
 -- One step, from `entry` to `exit`: if `entry` shows the old text on a ground, in a colour that the font allows, and the ground is
 -- background in its box, `exit` is what the new reading shows on that ground. A step that was not taken leaves the screen as it was.
-abbrev pub LeavesReading : Field → List ℕ → Reading → List ℕ → Outcome RenderedDimensions → List ℕ → Type 0
+abbrev pub LeavesReading : Setting → List ℕ → Reading → List ℕ → Outcome RenderedDimensions → List ℕ → Type 0
 LeavesReading f old new entry answer exit =
     (ground : List ℕ) (color : FontColor) → backgroundOff color (u8g2 (f .font) .background) ≡ false → ClearFor f ground (readingOf old color)
     → entry ≡ readingOn (f .font) (asked f (readingOf old color)) (on f ground)

@@ -1,3 +1,4 @@
 // A reading drawn over the one before: what the gauge does.
+pub mod place;
 pub mod reading;
 pub mod step;

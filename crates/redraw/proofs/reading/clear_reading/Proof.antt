@@ -12,7 +12,8 @@ returns c = let e = sym (c .before .before .get-drawn-dimensions .ensures) ∙ a
 
 returns-2 : tie.Need-returns-2
 returns-2 c =
-    let e = sym (c .before .before .before .before .before .before .before .get-drawn-dimensions .ensures) ∙ ap dimensionsOutcome (c .before .before .before .before .before .drawn .given .1) in
+    let k = c .before .before .before .before .before .before in
+    let e = sym (k .before .before .get-drawn-dimensions .ensures) ∙ ap dimensionsOutcome (k .drawn .given .1) in
     rw e (c .before .before .fill-box .ensures)
 
 pub clear-reading-spec : {M : Type 1} → statement M

@@ -4,12 +4,11 @@ use Rattle.integers.proofs.Prelude.{_≡_, sym, ap, subst, _∙_, ℕ, arith, n
 use Rattle.definitions.specs.Refusals.{success}
 use Rattle.definitions.specs.Calls.{dimensionsOutcome}
 use Rattle.definitions.specs.Agreement.{Ground}
-use Rattle.redraw.specs.Drawing.{Drawing, drawing, groundOf}
-use Rattle.framebuffer.specs.Areas.{BufferFits}
+use Rattle.redraw.specs.Drawing.{Drawing, asked, groundOf, FitsPlace}
 use Rattle.redraw.specs.declared.step.Step.{Step}
 use Rattle.redraw.specs.Checks.{checkedStep, stepOutcome}
 use Rattle.redraw.specs.Redraw.{redrawnBuffer}
-use Rattle.redraw.specs.Steps.{Field, fieldOf, Reading, readingOf}
+use Rattle.redraw.specs.Steps.{Setting, settingOf, Reading, readingOf}
 use Rattle.redraw.proofs.ChecksLaws.{Ready, ready}
 use Rattle.redraw.proofs.RedrawLaws.{stops, stays, answers, leaves}
 use Rattle.redraw.proofs.StepsLaws.{leaves-reading}
@@ -19,16 +18,16 @@ use Rattle.redraw.proofs.reading.redraw.Tie as tie
 -- what the call was given
 module _ (s : tie.Start) where
   abbrev new : Drawing
-  new = drawing (s .args .new-text .now) (s .args .position) (s .args .style) (s .args .line-height)
+  new = asked (s .args .place) (s .args .new-text .now)
 
   abbrev screen : Ground
-  screen = groundOf (s .args .width) (s .args .height) (s .args .buffer .now)
+  screen = groundOf (s .args .place) (s .args .buffer .now)
 
-  abbrev field : Field
-  field = fieldOf (s .args .font .now) (s .args .position) (s .args .style .«vertical_pos») (s .args .line-height) (s .args .background) (s .args .width) (s .args .height)
+  abbrev setting : Setting
+  setting = settingOf (s .args .font .now) (s .args .place)
 
   abbrev reading : Reading
-  reading = readingOf (s .args .new-text .now) (s .args .style .color)
+  reading = readingOf (s .args .new-text .now) (s .args .place .color)
 
 -- the tests passed
 module _ (c : tie.After-known-told2) where
@@ -36,10 +35,10 @@ module _ (c : tie.After-known-told2) where
   entry = c .before .before .before .before .before .before .before .before .before
 
   abbrev step : Step
-  step = c .before .checked2 .given .0 .0
+  step = c .before .step .given .0 .0
 
   passes : checkedStep (entry .args .font .now) (entry .args .old-text .now) (new entry) (screen entry) ≡ success step
-  passes = sym (c .before .before .before .check-step .ensures) ∙ ap stepOutcome (c .before .checked2 .given .1)
+  passes = sym (c .before .before .before .check-step .ensures) ∙ ap stepOutcome (c .before .step .given .1)
 
   is-ready : Ready (entry .args .font .now) (entry .args .old-text .now) (new entry) (screen entry) step
   is-ready = ready _ _ (new entry) (screen entry) step passes (λ i. omega (arith, c .before .before .before .before .before .before .before .before .shared-slice-known .given i))
@@ -52,16 +51,16 @@ draw-reading-requires c κs =
     let k = c .before .before .before .before .before .before .before .before in
     let r = is-ready k in
     let a = entry k .args in
-    (r .opens, (r .new-checked, subst (λ (n : ℕ). BufferFits n (a .width) (a .height)) (sym (c .before .before .buffer .given)) (r .fits)))
+    (r .opens, (r .new-checked, subst (λ (n : ℕ). FitsPlace n (a .place)) (sym (c .before .before .buffer .given)) (r .fits)))
 
 returns : tie.Need-returns
 returns c =
     let s = c .before .before .before .before .before .before .before .before .before in
     let a = s .args in
-    let e = sym (c .before .before .before .check-step .ensures) ∙ ap stepOutcome (c .before .checked .given .1) in
-    let answered = stops (a .font .now) (a .old-text .now) (new s) (a .background) (screen s) e in
-    let shown = stays (a .font .now) (a .old-text .now) (new s) (a .background) (screen s) e in
-    (answered, (shown, leaves-reading (field s) (a .old-text .now) (reading s) answered shown))
+    let e = sym (c .before .before .before .check-step .ensures) ∙ ap stepOutcome (c .before .error .given .1) in
+    let answered = stops (a .font .now) (a .old-text .now) (new s) (a .place .background) (screen s) e in
+    let shown = stays (a .font .now) (a .old-text .now) (new s) (a .place .background) (screen s) e in
+    (answered, (shown, leaves-reading (setting s) (a .old-text .now) (reading s) answered shown))
 
 returns-2 : tie.Need-returns-2
 unfolding redrawnBuffer
@@ -71,10 +70,10 @@ returns-2 c =
     let r = is-ready k in
     let s = entry k in
     let a = s .args in
-    let answered = answers (a .font .now) (a .old-text .now) (new s) (a .background) (screen s) (λ o. o) (r .unrefused) (rw (r .new-at) at (d .0)) in
+    let answered = answers (a .font .now) (a .old-text .now) (new s) (a .place .background) (screen s) (λ o. o) (r .unrefused) (rw (r .new-at) at (d .0)) in
     let between = simp (r .old-at, r .new-at) at (c .before .before .before .before .before .before .clear-reading .ensures) in
-    let shown = leaves (a .font .now) (a .old-text .now) (new s) (a .background) (screen s) (λ o. o) (r .unrefused) between (rw (r .new-at) at (d .1)) in
-    (answered, (shown, leaves-reading (field s) (a .old-text .now) (reading s) answered shown))
+    let shown = leaves (a .font .now) (a .old-text .now) (new s) (a .place .background) (screen s) (λ o. o) (r .unrefused) between (rw (r .new-at) at (d .1)) in
+    (answered, (shown, leaves-reading (setting s) (a .old-text .now) (reading s) answered shown))
 
 pub redraw-spec : {M : Type 1} → statement M
 redraw-spec =
