@@ -9,16 +9,15 @@ use Rattle.definitions.specs.Picture.{Paint, covers}
 use Rattle.definitions.specs.Framebuffer.{over, shown}
 use Rattle.definitions.specs.Agreement.{pixel}
 use Rattle.framebuffer.specs.Areas.{fillPicture}
-use Rattle.redraw.specs.Drawing.{measured}
+use Rattle.redraw.specs.Drawing.{measured, groundOf}
 use Rattle.redraw.specs.Redraw.{clearedBy}
 use Rattle.definitions.proofs.PictureLaws.{covers-inside}
 use Rattle.definitions.proofs.FramebufferLaws.{length-mapAt, getD-mapAt, length-shown, shown-at}
 use Rattle.framebuffer.proofs.RowLaws.{outside}
 use Rattle.framebuffer.proofs.FillLaws.{fill-inside, fill-outside}
-use Rattle.readings.specs.declared.values.Place.{Place}
-use Rattle.readings.specs.Readings.{reading, framebuffer}
+use Rattle.redraw.specs.declared.place.Place.{Place}
+use Rattle.readings.specs.Readings.{reading, PlaceFits}
 use Rattle.readings.specs.Ground.{rubbishAt, rubbish, clearedTo, ground, ClearTo, RubbishBeside}
-use Rattle.readings.specs.Readings.{PlaceFits}
 
 -- ---- rubbish
 
@@ -38,36 +37,36 @@ all-rubbish l n e each =
 
 -- ---- one box
 
-module _ (place : Place) (fits : PlaceFits (place .width) (place .height)) (bytes : List ℕ) (whole : length bytes ≡ place .width * place .height) where
+module _ (place : Place) (fits : PlaceFits (place .framebuffer .width) (place .framebuffer .height)) (bytes : List ℕ) (whole : length bytes ≡ place .framebuffer .width * place .framebuffer .height) where
   module _ (box : BoundingBox) where
-    pub length-cleared : length (shown (place .width) (fillPicture (place .background) box) bytes) ≡ place .width * place .height
-    length-cleared = length-shown (place .width) (fillPicture (place .background) box) bytes ∙ whole
+    pub length-cleared : length (shown (place .framebuffer .width) (fillPicture (place .background) box) bytes) ≡ place .framebuffer .width * place .framebuffer .height
+    length-cleared = length-shown (place .framebuffer .width) (fillPicture (place .background) box) bytes ∙ whole
 
-    module _ (column row : ℕ) (c : column < place .width) (r : row < place .height) where
-      lies : row * place .width + column < length bytes
-      lies = let below : suc row ≤ place .height = omega arith in omega (arith, whole, mul-le-mul-right (place .width) below, mul-comm (place .width) (place .height))
+    module _ (column row : ℕ) (c : column < place .framebuffer .width) (r : row < place .framebuffer .height) where
+      lies : row * place .framebuffer .width + column < length bytes
+      lies = let below : suc row ≤ place .framebuffer .height = omega arith in omega (arith, whole, mul-le-mul-right (place .framebuffer .width) below, mul-comm (place .framebuffer .width) (place .framebuffer .height))
 
       abbrev after : ℕ
-      after = pixel (framebuffer place bytes) (shown (place .width) (fillPicture (place .background) box) bytes) column row
+      after = pixel (groundOf place bytes) (shown (place .framebuffer .width) (fillPicture (place .background) box) bytes) column row
 
-      cleared-pixel : after ≡ over (fillPicture (place .background) box (pos column) (pos row)) (pixel (framebuffer place bytes) bytes column row)
-      cleared-pixel = shown-at (place .width) (fillPicture (place .background) box) bytes column row c lies
+      cleared-pixel : after ≡ over (fillPicture (place .background) box (pos column) (pos row)) (pixel (groundOf place bytes) bytes column row)
+      cleared-pixel = shown-at (place .framebuffer .width) (fillPicture (place .background) box) bytes column row c lies
 
-  module _ (column row : ℕ) (c : column < place .width) (r : row < place .height) where
+  module _ (column row : ℕ) (c : column < place .framebuffer .width) (r : row < place .framebuffer .height) where
     in-box : (box : BoundingBox) → InsideBox (pos column) (pos row) box → after box column row c r ≡ place .background
     in-box None i = absurd i
     in-box (Some b) i =
         cleared-pixel (Some b) column row c r
-        ∙ ap (λ (x : Paint). over x (pixel (framebuffer place bytes) bytes column row)) (fill-inside (place .background) b (pos column) (pos row) i)
+        ∙ ap (λ (x : Paint). over x (pixel (groundOf place bytes) bytes column row)) (fill-inside (place .background) b (pos column) (pos row) i)
 
-    beside : (box : BoundingBox) → (InsideBox (pos column) (pos row) box → ⊥) → after box column row c r ≡ pixel (framebuffer place bytes) bytes column row
+    beside : (box : BoundingBox) → (InsideBox (pos column) (pos row) box → ⊥) → after box column row c r ≡ pixel (groundOf place bytes) bytes column row
     beside None i = cleared-pixel None column row c r
     beside (Some b) i =
         cleared-pixel (Some b) column row c r
-        ∙ ap (λ (x : Paint). over x (pixel (framebuffer place bytes) bytes column row)) (fill-outside (place .background) b (pos column) (pos row) i)
+        ∙ ap (λ (x : Paint). over x (pixel (groundOf place bytes) bytes column row)) (fill-outside (place .background) b (pos column) (pos row) i)
 
     -- background stays background
-    stays : (box : BoundingBox) → pixel (framebuffer place bytes) bytes column row ≡ place .background → after box column row c r ≡ place .background
+    stays : (box : BoundingBox) → pixel (groundOf place bytes) bytes column row ≡ place .background → after box column row c r ≡ place .background
     stays None e = beside None (λ i. i) ∙ e
     stays (Some b) e = by (covers b (pos column) (pos row)) refl
       where
@@ -83,17 +82,17 @@ same-box {d} {e} h = let same : d ≡ e = cc in ap (λ (x : RenderedDimensions).
 not-both : {n c : ℕ} {d : RenderedDimensions} → _≡_ {A = Outcome RenderedDimensions} (refused n c) (success d) → ⊥
 not-both e = impossible cc
 
-module _ (font : List ℕ) (place : Place) (fits : PlaceFits (place .width) (place .height)) where
-  length-by : (o : Outcome RenderedDimensions) (bytes : List ℕ) → length bytes ≡ place .width * place .height
-      → length (clearedBy (place .width) (place .background) o bytes) ≡ place .width * place .height
+module _ (font : List ℕ) (place : Place) (fits : PlaceFits (place .framebuffer .width) (place .framebuffer .height)) where
+  length-by : (o : Outcome RenderedDimensions) (bytes : List ℕ) → length bytes ≡ place .framebuffer .width * place .framebuffer .height
+      → length (clearedBy (place .framebuffer .width) (place .background) o bytes) ≡ place .framebuffer .width * place .framebuffer .height
   length-by (success d) bytes l = length-cleared place fits bytes l (d .«bounding_box»)
   length-by (refused n c) bytes l = l
 
-  module _ (n : ℕ) (bytes : List ℕ) (whole : length bytes ≡ place .width * place .height) where
-    clear-next : (o : Outcome RenderedDimensions) → measured font (reading place n) ≡ o → ClearTo n font place bytes → ClearTo (suc n) font place (clearedBy (place .width) (place .background) o bytes)
+  module _ (n : ℕ) (bytes : List ℕ) (whole : length bytes ≡ place .framebuffer .width * place .framebuffer .height) where
+    clear-next : (o : Outcome RenderedDimensions) → measured font (reading place n) ≡ o → ClearTo n font place bytes → ClearTo (suc n) font place (clearedBy (place .framebuffer .width) (place .background) o bytes)
     clear-next (success d) m clear k h e f column row c r i = by (decLt k n)
       where
-        by : Dec (k < n) → pixel (framebuffer place bytes) (shown (place .width) (fillPicture (place .background) (d .«bounding_box»)) bytes) column row ≡ place .background
+        by : Dec (k < n) → pixel (groundOf place bytes) (shown (place .framebuffer .width) (fillPicture (place .background) (d .«bounding_box»)) bytes) column row ≡ place .background
         by (yes p) = stays place fits bytes whole column row c r (d .«bounding_box») (clear k p e f column row c r i)
         by (no p) =
             let last : n ≡ k = omega arith in
@@ -101,23 +100,23 @@ module _ (font : List ℕ) (place : Place) (fits : PlaceFits (place .width) (pla
             in-box place fits bytes whole column row c r (d .«bounding_box») (subst (InsideBox (pos column) (pos row)) (sym box) i)
     clear-next (refused a b) m clear k h e f column row c r i = by (decLt k n)
       where
-        by : Dec (k < n) → pixel (framebuffer place bytes) bytes column row ≡ place .background
+        by : Dec (k < n) → pixel (groundOf place bytes) bytes column row ≡ place .background
         by (yes p) = clear k p e f column row c r i
         by (no p) = let last : n ≡ k = omega arith in absurd (not-both (sym m ∙ ap (λ (j : ℕ). measured font (reading place j)) last ∙ f))
 
     rubbish-next : (o : Outcome RenderedDimensions) → measured font (reading place n) ≡ o → RubbishBeside n font place bytes
-        → RubbishBeside (suc n) font place (clearedBy (place .width) (place .background) o bytes)
+        → RubbishBeside (suc n) font place (clearedBy (place .framebuffer .width) (place .background) o bytes)
     rubbish-next (success d) m stays column row c r out =
         beside place fits bytes whole column row c r (d .«bounding_box») (λ i. out n (omega arith) d m i)
         ∙ stays column row c r (λ k h e f i. out k (omega arith) e f i)
     rubbish-next (refused a b) m stays column row c r out = stays column row c r (λ k h e f i. out k (omega arith) e f i)
 
   abbrev first : ℕ → List ℕ
-  first k = clearedTo font place k (rubbish (place .width * place .height))
+  first k = clearedTo font place k (rubbish (place .framebuffer .width * place .framebuffer .height))
 
-  pub length-first : (k : ℕ) → length (first k) ≡ place .width * place .height
+  pub length-first : (k : ℕ) → length (first k) ≡ place .framebuffer .width * place .framebuffer .height
   unfolding clearedTo
-  length-first zero = length-rubbish (place .width * place .height)
+  length-first zero = length-rubbish (place .framebuffer .width * place .framebuffer .height)
   length-first (suc k) = length-by (measured font (reading place k)) (first k) (length-first k)
 
   pub is-clear : (k : ℕ) → ClearTo k font place (first k)
@@ -128,7 +127,7 @@ module _ (font : List ℕ) (place : Place) (fits : PlaceFits (place .width) (pla
   pub rubbish-stays : (k : ℕ) → RubbishBeside k font place (first k)
   unfolding clearedTo
   rubbish-stays zero = λ column row c r out.
-      rubbish-at (place .width * place .height) (row * place .width + column)
+      rubbish-at (place .framebuffer .width * place .framebuffer .height) (row * place .framebuffer .width + column)
       (omega (arith, lies place fits (first zero) (length-first zero) None column row c r, length-first zero))
   rubbish-stays (suc k) = rubbish-next k (first k) (length-first k) (measured font (reading place k)) refl (rubbish-stays k)
 
@@ -139,15 +138,15 @@ module _ (font : List ℕ) (place : Place) where
   laid-start n bytes e = e ∙ ap rubbish (sym (ap length e ∙ length-rubbish n))
 
   pub laid-next : (n k : ℕ) {bytes next : List ℕ} → bytes ≡ clearedTo font place k (rubbish n)
-      → next ≡ clearedBy (place .width) (place .background) (measured font (reading place k)) bytes
+      → next ≡ clearedBy (place .framebuffer .width) (place .background) (measured font (reading place k)) bytes
       → next ≡ clearedTo font place (k + 1) (rubbish n)
   unfolding clearedTo
   laid-next n k e h =
       let suc-is : suc k ≡ k + 1 = omega arith in
-      h ∙ ap (λ (b : List ℕ). clearedBy (place .width) (place .background) (measured font (reading place k)) b) e ∙ ap (λ (j : ℕ). clearedTo font place j (rubbish n)) suc-is
+      h ∙ ap (λ (b : List ℕ). clearedBy (place .framebuffer .width) (place .background) (measured font (reading place k)) b) e ∙ ap (λ (j : ℕ). clearedTo font place j (rubbish n)) suc-is
 
   -- All readings' boxes are cleared.
-  pub laid : PlaceFits (place .width) (place .height) → (n k : ℕ) (bytes : List ℕ) → n ≡ place .width * place .height → k ≡ 901
+  pub laid : PlaceFits (place .framebuffer .width) (place .framebuffer .height) → (n k : ℕ) (bytes : List ℕ) → n ≡ place .framebuffer .width * place .framebuffer .height → k ≡ 901
       → bytes ≡ clearedTo font place k (rubbish n)
       → (bytes ≡ ground font place) × (ClearTo 901 font place bytes × RubbishBeside 901 font place bytes)
   laid fits n k bytes whole all e =

@@ -9,21 +9,21 @@ use Rattle.definitions.specs.Refusals.{Outcome, success, refused, Cause, anyApp
 use Rattle.definitions.specs.Header.{fontCauses}
 use Rattle.definitions.specs.Utf8.{table, rowOf, firstCharacter, decodeFrom}
 use Rattle.definitions.specs.Font.{u8g2}
-use Rattle.definitions.specs.Framebuffer.{sized, framebufferCause}
+use Rattle.definitions.specs.Framebuffer.{framebufferCause}
 use Rattle.definitions.specs.Limits.{textCause, positionCause, backgroundCause}
 use Rattle.definitions.specs.Calls.{dimensionsOutcome}
 use Rattle.angles.specs.AngleText.{degreesThen, angleText}
-use Rattle.redraw.specs.Drawing.{drawn, after}
+use Rattle.redraw.specs.Drawing.{drawn, after, groundOf}
 use Rattle.buffers.specs.Differences.{differences}
 use Rattle.redraw.specs.Redraw.{wholeOr, readingOn, redrawCauses, redrawn, redrawnBuffer, taken}
-use Rattle.redraw.specs.Steps.{Field, fieldOf, Reading, readingOf, asked, on, Screen as StepScreen, alone, showing, ClearFor}
+use Rattle.redraw.specs.Steps.{Setting, settingOf, Reading, readingOf, asked, on, Screen as StepScreen, alone, showing, ClearFor}
 use Rattle.redraw.proofs.RedrawLaws.{drawn-measured, causesOf, drawn-early, drawn-late}
 use Rattle.buffers.proofs.DifferenceLaws.{none-if-same}
 use Rattle.redraw.proofs.StepsLaws.{Sized, bare-sized, answers-alone, sized-next, length-left, Shown, bare-shown, nothing-shown, step-shows}
 use Rattle.readings.specs.declared.values.Found.{Found}
-use Rattle.readings.specs.declared.values.Place.{Place}
+use Rattle.redraw.specs.declared.place.Place.{Place}
 use Rattle.readings.specs.declared.values.Totals.{Totals}
-use Rattle.readings.specs.Readings.{readingText, reading, framebuffer}
+use Rattle.readings.specs.Readings.{readingText, reading}
 use Rattle.readings.specs.Ground.{ClearTo}
 use Rattle.readings.proofs.NarrowLaws.{faultless}
 use Rattle.readings.specs.Sheet.{toFill, stepBuffer, Screen, screenOf, answerOn, screenAfter, wanted, differing, screenAt, Finds, refusedOne, drawnOne, tallied, Few, totalsTo, refusedTo, Sound}
@@ -62,11 +62,11 @@ fine : (k : ℕ) → k < 901 → textCause (readingText k) .applies ≡ false
 fine = each-to 901 all-fine
 
 module _ (narrow : Bool) (font : List ℕ) (place : Place) (ground : List ℕ) where
-  abbrev field : Field
-  field = fieldOf font (place .position) (place .style .«vertical_pos») (place .«line_height») (place .background) (place .width) (place .height)
+  abbrev setting : Setting
+  setting = settingOf font place
 
   abbrev inColor : ℕ → Reading
-  inColor k = readingOf (readingText k) (place .style .color)
+  inColor k = readingOf (readingText k) (place .color)
 
   -- ---- what is known of a screen, with the fault or without
 
@@ -74,26 +74,26 @@ module _ (narrow : Bool) (font : List ℕ) (place : Place) (ground : List ℕ) w
   record Known (s : Screen) : Type 0 where
     old : Reading
     text-is : old .text ≡ readingText (s .old)
-    sized : Sized field ground record { old = old; bytes = s .bytes }
-    shows : readingOn font (asked field old) (on field ground) ≡ wanted font place ground (s .old)
+    sized : Sized setting ground record { old = old; bytes = s .bytes }
+    shows : readingOn font (asked setting old) (on setting ground) ≡ wanted font place ground (s .old)
 
   unfoldable start-known : Known (screenOf 901 ground)
   start-known = record {
     old = readingOf (readingText 901) (Transparent 0);
     text-is = refl;
-    sized = bare-sized field ground;
-    shows = nothing-shown field ground (Transparent 0) ∙ sym (nothing-shown field ground (place .style .color));
+    sized = bare-sized setting ground;
+    shows = nothing-shown setting ground (Transparent 0) ∙ sym (nothing-shown setting ground (place .color));
   }
 
   module _ {s : Screen} (known : Known s) (k : ℕ) where
     -- Whatever it is drawn over, a reading is answered as alone on the ground.
-    as-alone : answerOn font place s k ≡ drawn font (reading place k) (framebuffer place ground)
+    as-alone : answerOn font place s k ≡ drawn font (reading place k) (groundOf place ground)
     as-alone =
-        ap (λ (t : List ℕ). redrawn font t (reading place k) (framebuffer place (s .bytes))) (sym (known .text-is))
-        ∙ answers-alone field ground (known .sized) (inColor k)
+        ap (λ (t : List ℕ). redrawn font t (reading place k) (groundOf place (s .bytes))) (sym (known .text-is))
+        ∙ answers-alone setting ground (known .sized) (inColor k)
 
     abbrev is-taken : Bool
-    is-taken = taken (alone field ground (inColor k))
+    is-taken = taken (alone setting ground (inColor k))
 
     next-old : screenAfter narrow font place s k .old ≡ pick is-taken k (s .old)
     next-old = ap (λ (o : Outcome RenderedDimensions). pick (taken o) k (s .old)) as-alone
@@ -101,14 +101,14 @@ module _ (narrow : Bool) (font : List ℕ) (place : Place) (ground : List ℕ) w
     next-length : length (screenAfter narrow font place s k .bytes) ≡ length (s .bytes)
     unfolding stepBuffer
     next-length =
-        length-left field ground (inColor k) (s .bytes) (anyApplies (redrawCauses font (readingText (s .old)) (reading place k) (framebuffer place (s .bytes))))
-        (toFill narrow (alone field (s .bytes) (readingOf (readingText (s .old)) (place .style .color))))
+        length-left setting ground (inColor k) (s .bytes) (anyApplies (redrawCauses font (readingText (s .old)) (reading place k) (groundOf place (s .bytes))))
+        (toFill narrow (alone setting (s .bytes) (readingOf (readingText (s .old)) (place .color))))
 
     unfoldable next-known : Known (screenAfter narrow font place s k)
     next-known = record {
       old = pick is-taken (inColor k) (known .old);
       text-is = texts is-taken ∙ sym (ap readingText next-old);
-      sized = sized-next field ground (known .sized) (inColor k) refl next-length;
+      sized = sized-next setting ground (known .sized) (inColor k) refl next-length;
       shows = shown is-taken ∙ sym (ap (wanted font place ground) next-old);
     }
       where
@@ -116,24 +116,24 @@ module _ (narrow : Bool) (font : List ℕ) (place : Place) (ground : List ℕ) w
         texts true = refl
         texts false = known .text-is
 
-        shown : (b : Bool) → readingOn font (asked field (pick b (inColor k) (known .old))) (on field ground) ≡ wanted font place ground (pick b k (s .old))
+        shown : (b : Bool) → readingOn font (asked setting (pick b (inColor k) (known .old))) (on setting ground) ≡ wanted font place ground (pick b k (s .old))
         shown true = refl
         shown false = known .shows
 
     -- Without the fault it shows it.
-    module _ (honest : narrow ≡ false) (clear : ClearFor field ground (inColor k)) (h : Shown field ground record { old = known .old; bytes = s .bytes }) where
-      next-bytes-are : screenAfter narrow font place s k .bytes ≡ pick is-taken (showing field ground (inColor k)) record { old = known .old; bytes = s .bytes } .bytes
+    module _ (honest : narrow ≡ false) (clear : ClearFor setting ground (inColor k)) (h : Shown setting ground record { old = known .old; bytes = s .bytes }) where
+      next-bytes-are : screenAfter narrow font place s k .bytes ≡ pick is-taken (showing setting ground (inColor k)) record { old = known .old; bytes = s .bytes } .bytes
       next-bytes-are =
-          ap (λ (b : Bool). stepBuffer b font (readingText (s .old)) (reading place k) (place .background) (framebuffer place (s .bytes))) honest
-          ∙ faultless font (readingText (s .old)) (reading place k) (place .background) (framebuffer place (s .bytes))
-          ∙ ap (λ (t : List ℕ). redrawnBuffer font t (reading place k) (place .background) (framebuffer place (s .bytes))) (sym (known .text-is))
-          ∙ ap (λ (s : StepScreen). s .bytes) (step-shows field ground (known .sized) h (inColor k))
+          ap (λ (b : Bool). stepBuffer b font (readingText (s .old)) (reading place k) (place .background) (groundOf place (s .bytes))) honest
+          ∙ faultless font (readingText (s .old)) (reading place k) (place .background) (groundOf place (s .bytes))
+          ∙ ap (λ (t : List ℕ). redrawnBuffer font t (reading place k) (place .background) (groundOf place (s .bytes))) (sym (known .text-is))
+          ∙ ap (λ (s : StepScreen). s .bytes) (step-shows setting ground (known .sized) h (inColor k))
 
-      next-shown : Shown field ground record { old = pick is-taken (inColor k) (known .old); bytes = screenAfter narrow font place s k .bytes }
+      next-shown : Shown setting ground record { old = pick is-taken (inColor k) (known .old); bytes = screenAfter narrow font place s k .bytes }
       next-shown = by is-taken next-bytes-are
         where
-          by : (b : Bool) → screenAfter narrow font place s k .bytes ≡ pick b (showing field ground (inColor k)) record { old = known .old; bytes = s .bytes } .bytes
-              → Shown field ground record { old = pick b (inColor k) (known .old); bytes = screenAfter narrow font place s k .bytes }
+          by : (b : Bool) → screenAfter narrow font place s k .bytes ≡ pick b (showing setting ground (inColor k)) record { old = known .old; bytes = s .bytes } .bytes
+              → Shown setting ground record { old = pick b (inColor k) (known .old); bytes = screenAfter narrow font place s k .bytes }
           by true e = record { is = e; clear = clear }
           by false e = record { is = e ∙ h .is; clear = h .clear }
 
@@ -150,7 +150,7 @@ module _ (narrow : Bool) (font : List ℕ) (place : Place) (ground : List ℕ) w
   -- ---- a reading that one of causes 1 to 6 refuses
 
   abbrev causes : ℕ → List Cause
-  causes k = causesOf font (reading place k) (framebuffer place ground)
+  causes k = causesOf font (reading place k) (groundOf place ground)
 
   -- A cause that applies to one reading applies to all.
   same-cause : (j k : ℕ) → j < 901 → k < 901 → anyApplies (causes j) ≡ anyApplies (causes k)
@@ -159,10 +159,10 @@ module _ (narrow : Bool) (font : List ℕ) (place : Place) (ground : List ℕ) w
       (λ (b : Bool).
       anyApplies
       (fontCauses font
-      ++ framebufferCause (sized (place .width) (place .height)) ground
+      ++ framebufferCause (place .framebuffer) ground
       ∷ record { number = 4; applies = b }
       ∷ positionCause (place .position) (place .«line_height»)
-      ∷ backgroundCause (place .style .color) (u8g2 font .background)
+      ∷ backgroundCause (place .color) (u8g2 font .background)
       ∷ []))
       (fine j h ∙ sym (fine k i))
 
@@ -171,7 +171,7 @@ module _ (narrow : Bool) (font : List ℕ) (place : Place) (ground : List ℕ) w
   unfolding screenAt
   never-taken h e zero l = refl
   never-taken {i} h e (suc k) l =
-      let early = drawn-early font (reading place k) (framebuffer place ground) (same-cause k i (omega arith) h ∙ e) in
+      let early = drawn-early font (reading place k) (groundOf place ground) (same-cause k i (omega arith) h ∙ e) in
       next-old (all-known k) k ∙ rw early (never-taken h e k (omega arith))
 
   not-drawn : (o : Outcome RenderedDimensions) (drawing : List ℕ) → taken o ≡ false → wholeOr o drawing ground ≡ ground
@@ -185,22 +185,22 @@ module _ (narrow : Bool) (font : List ℕ) (place : Place) (ground : List ℕ) w
     where
       by : (b : Bool) → anyApplies (causes k) ≡ b → wanted font place ground (before (suc k) .old) ≡ wanted font place ground k
       by true a =
-          let early = drawn-early font (reading place k) (framebuffer place ground) a in
+          let early = drawn-early font (reading place k) (groundOf place ground) a in
           ap (wanted font place ground) (never-taken h a (suc k) (omega arith))
-          ∙ nothing-shown field ground (place .style .color)
-          ∙ sym (not-drawn (drawn font (reading place k) (framebuffer place ground)) (after font (reading place k) (framebuffer place ground)) early)
+          ∙ nothing-shown setting ground (place .color)
+          ∙ sym (not-drawn (drawn font (reading place k) (groundOf place ground)) (after font (reading place k) (groundOf place ground)) early)
       by false a =
-          let late = drawn-late font (reading place k) (framebuffer place ground) a in
+          let late = drawn-late font (reading place k) (groundOf place ground) a in
           let this : before (suc k) .old ≡ k = next-old (all-known k) k ∙ rw late in
           ap (wanted font place ground) this
 
   module _ (honest : narrow ≡ false) (clear : ClearTo 901 font place ground) where
-    clear-for : (k : ℕ) → k < 901 → ClearFor field ground (inColor k)
-    clear-for k h d e = clear k h d (drawn-measured font (reading place k) (framebuffer place ground) d e)
+    clear-for : (k : ℕ) → k < 901 → ClearFor setting ground (inColor k)
+    clear-for k h d e = clear k h d (drawn-measured font (reading place k) (groundOf place ground) d e)
 
-    all-shown : (k : ℕ) → k ≤ 901 → Shown field ground record { old = all-known k .old; bytes = before k .bytes }
+    all-shown : (k : ℕ) → k ≤ 901 → Shown setting ground record { old = all-known k .old; bytes = before k .bytes }
     unfolding screenAt all-known start-known next-known
-    all-shown zero h = bare-shown field ground
+    all-shown zero h = bare-shown setting ground
     all-shown (suc k) h = next-shown (all-known k) k honest (clear-for k (omega arith)) (all-shown k (omega arith))
 
     as-wanted : (k : ℕ) → k < 901 → before (suc k) .bytes ≡ wanted font place ground k

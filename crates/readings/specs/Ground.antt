@@ -9,10 +9,10 @@ use Rattle.definitions.specs.Refusals.{success}
 use Rattle.definitions.specs.Geometry.{InsideBox}
 use Rattle.definitions.specs.Framebuffer.{mapAt}
 use Rattle.definitions.specs.Agreement.{pixel}
-use Rattle.redraw.specs.Drawing.{measured}
+use Rattle.redraw.specs.Drawing.{measured, groundOf}
 use Rattle.redraw.specs.Redraw.{AllOf, clearedBy}
-use Rattle.readings.specs.declared.values.Place.{Place}
-use Rattle.readings.specs.Readings.{reading, framebuffer}
+use Rattle.redraw.specs.declared.place.Place.{Place}
+use Rattle.readings.specs.Readings.{reading}
 
 abbrev pub rubbishAt : ℕ → ℕ
 rubbishAt i = 96 + i % 101
@@ -24,21 +24,21 @@ rubbish bytes = mapAt (λ i old. rubbishAt i) 0 (replicate bytes 0)
 unfoldable pub clearedTo : List ℕ → Place → ℕ → List ℕ → List ℕ
 clearedTo font place zero bytes = bytes
 clearedTo font place (suc k) bytes =
-    clearedBy (place .width) (place .background) (measured font (reading place k)) (clearedTo font place k bytes)
+    clearedBy (place .framebuffer .width) (place .background) (measured font (reading place k)) (clearedTo font place k bytes)
 
 abbrev pub ground : List ℕ → Place → List ℕ
-ground font place = clearedTo font place 901 (rubbish (place .width * place .height))
+ground font place = clearedTo font place 901 (rubbish (place .framebuffer .width * place .framebuffer .height))
 
 -- Every pixel is background in the box of each of the first n readings ..
 abbrev pub ClearTo : ℕ → List ℕ → Place → List ℕ → Type 0
 ClearTo n font place bytes =
     (k : ℕ) → k < n → (d : RenderedDimensions) → measured font (reading place k) ≡ success d
-    → AllOf (place .background) (framebuffer place bytes) (d .«bounding_box»)
+    → AllOf (place .background) (groundOf place bytes) (d .«bounding_box»)
 
 -- .. and what lies in none of these boxes is rubbish.
 abbrev pub RubbishBeside : ℕ → List ℕ → Place → List ℕ → Type 0
 RubbishBeside n font place bytes =
-    (column row : ℕ) → column < place .width → row < place .height
+    (column row : ℕ) → column < place .framebuffer .width → row < place .framebuffer .height
     → ((k : ℕ) → k < n → (d : RenderedDimensions) → measured font (reading place k) ≡ success d
     → InsideBox (pos column) (pos row) (d .«bounding_box») → ⊥)
-    → pixel (framebuffer place bytes) bytes column row ≡ rubbishAt (row * place .width + column)
+    → pixel (groundOf place bytes) bytes column row ≡ rubbishAt (row * place .framebuffer .width + column)

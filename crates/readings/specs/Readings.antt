@@ -4,25 +4,17 @@ use Prim.Native.Nat.{ℕ, _≤_}
 use lib.Dec.{leb}
 use lib.IntN.{pos, _-ℤ_}
 use Rattle.integers.specs.Integers.{pick}
-use Rattle.definitions.specs.Agreement.{Ground}
-use Rattle.redraw.specs.Drawing.{Drawing, drawing, groundOf}
+use Rattle.redraw.specs.Drawing.{Drawing, asked}
 use Rattle.angles.specs.AngleText.{angleText}
-use Rattle.readings.specs.declared.values.Place.{Place}
+use Rattle.redraw.specs.declared.place.Place.{Place}
 
 -- The text of a reading, -45.0 to +45.0 in tenths, by its number from 0; no text past the last, which is 900.
 abbrev pub readingText : ℕ → List ℕ
 readingText k = pick (leb 901 k) [] (angleText (pos k -ℤ pos 450))
 
--- how a text is drawn at the place
-abbrev pub asked : Place → List ℕ → Drawing
-asked place text = drawing text (place .position) (place .style) (place .«line_height»)
-
+-- how it is drawn at the place
 abbrev pub reading : Place → ℕ → Drawing
 reading place k = asked place (readingText k)
-
--- a framebuffer of the place's size
-abbrev pub framebuffer : Place → List ℕ → Ground
-framebuffer place bytes = groundOf (place .width) (place .height) bytes
 
 -- a framebuffer within 01's limits
 pub record PlaceFits (width height : ℕ) : Type 0 where

@@ -9,13 +9,13 @@ use Rattle.definitions.specs.Vocabulary.{BoundingBox, None, Some, RenderedDimen
 use Rattle.definitions.specs.Refusals.{Outcome, success, refused, anyApplies}
 use Rattle.definitions.specs.Calls.{dimensionsOutcome}
 use Rattle.definitions.specs.Agreement.{on, Ground, width}
-use Rattle.redraw.specs.Drawing.{Drawing, drawn}
+use Rattle.redraw.specs.Drawing.{Drawing, withText, drawn, groundOf}
 use Rattle.buffers.specs.Differences.{differences}
-use Rattle.redraw.specs.Redraw.{readingOn, clearedBy, redrawCauses, withText, redrawn, taken}
+use Rattle.redraw.specs.Redraw.{readingOn, clearedBy, redrawCauses, redrawn, taken}
 use Rattle.readings.specs.declared.values.Found.{Found}
-use Rattle.readings.specs.declared.values.Place.{Place}
+use Rattle.redraw.specs.declared.place.Place.{Place}
 use Rattle.readings.specs.declared.values.Totals.{Totals}
-use Rattle.readings.specs.Readings.{readingText, reading, framebuffer}
+use Rattle.readings.specs.Readings.{readingText, reading}
 
 -- ---- one reading over another
 
@@ -52,17 +52,17 @@ screenOf old bytes = record { old = old; bytes = bytes }
 
 -- reading k over what the screen holds
 abbrev pub answerOn : List ℕ → Place → Screen → ℕ → Outcome RenderedDimensions
-answerOn font place s k = redrawn font (readingText (s .old)) (reading place k) (framebuffer place (s .bytes))
+answerOn font place s k = redrawn font (readingText (s .old)) (reading place k) (groundOf place (s .bytes))
 
 abbrev pub screenAfter : Bool → List ℕ → Place → Screen → ℕ → Screen
 screenAfter narrow font place s k = record {
   old = pick (taken (answerOn font place s k)) k (s .old);
-  bytes = stepBuffer narrow font (readingText (s .old)) (reading place k) (place .background) (framebuffer place (s .bytes));
+  bytes = stepBuffer narrow font (readingText (s .old)) (reading place k) (place .background) (groundOf place (s .bytes));
 }
 
 -- what the screen is to show after reading k: that reading alone on the ground, whole, or the ground if the reading is refused
 abbrev pub wanted : List ℕ → Place → List ℕ → ℕ → List ℕ
-wanted font place ground k = readingOn font (reading place k) (framebuffer place ground)
+wanted font place ground k = readingOn font (reading place k) (groundOf place ground)
 
 -- the pixels in which it differs from that
 abbrev pub differing : List ℕ → Place → List ℕ → Screen → ℕ → ℕ
@@ -116,7 +116,7 @@ totalsTo narrow font place ground (suc k) =
 -- how many of the first n readings are refused when each is drawn alone on the ground
 unfoldable pub refusedTo : List ℕ → Place → List ℕ → ℕ → ℕ
 refusedTo font place ground zero = 0
-refusedTo font place ground (suc k) = refusedTo font place ground k + refusedOne (drawn font (reading place k) (framebuffer place ground))
+refusedTo font place ground (suc k) = refusedTo font place ground k + refusedOne (drawn font (reading place k) (groundOf place ground))
 
 -- ---- what a sheet is to be
 
@@ -126,6 +126,6 @@ pub record Sound (narrow : Bool) (font : List ℕ) (place : Place) (ground : Lis
   pub all : t .drawn + t .refused ≡ 901
   pub refusals : t .refused ≡ refusedTo font place ground 901
   pub each-answers : (k : ℕ) → k < 901
-      → answerOn font place (screenAt narrow font place ground k) k ≡ drawn font (reading place k) (framebuffer place ground)
+      → answerOn font place (screenAt narrow font place ground k) k ≡ drawn font (reading place k) (groundOf place ground)
   pub none-differs : narrow ≡ false → t .differing ≡ 0
   pub each-shown : narrow ≡ false → (k : ℕ) → k < 901 → screenAt narrow font place ground (suc k) .bytes ≡ wanted font place ground k

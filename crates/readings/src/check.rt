@@ -1,51 +1,48 @@
 // One reading drawn over the one before, and compared with the reading drawn alone.
 ghost use mathlib.Core.Path.{_≡_};
-ghost use mathlib.Core.Bool.{true, false};
+ghost use mathlib.Core.Bool.{true};
 ghost use lib.ListN.{length};
 ghost use Rattle.definitions.specs.Header.{Opened};
-ghost use Rattle.definitions.specs.TextSteps.{measureFrom, start};
-ghost use Rattle.definitions.specs.Font.{u8g2, drawnAnswer};
-ghost use Rattle.definitions.specs.Calls.{characters, dimensionsOutcome};
-ghost use Rattle.framebuffer.specs.Areas.{BufferFits};
+ghost use Rattle.definitions.specs.Calls.{dimensionsOutcome};
 ghost use Rattle.checks.specs.Origins.{Checked};
+ghost use Rattle.renderer.specs.Texts.{countedWith};
+ghost use Rattle.redraw.specs.Drawing.{asked, groundOf, FitsPlace};
 ghost use Rattle.redraw.specs.Redraw.{readingOn, clearedBy, redrawn};
-ghost use Rattle.readings.specs.Readings.{asked, framebuffer};
 ghost use Rattle.readings.specs.Sheet.{narrowedBox, toFill, stepBuffer};
-use crate::values::Place;
 use bytes::copy;
+use checks::origin::Pen;
 use framebuffer::fill::fill_box;
+use redraw::place::Place;
 use redraw::reading::draw_reading;
 use redraw::reading::redraw;
 use redraw::step::StepResult;
 use redraw::step::check_step;
-use renderer::drawn_dimensions::get_drawn_dimensions;
+use renderer::render::get_drawn_dimensions;
 use renderer::render::render;
 use types::font_reader::FontReader;
 use types::geometry::BoundingBox;
-use types::geometry::Point;
 use types::geometry::Rectangle;
 use types::geometry::Size;
 use types::results::DimensionsResult;
+use types::style::Placement;
 
 // Draws the text alone on the ground, into `alone`: whole, or not at all.
 pub fn draw_alone(font: &[u8], text: &[u8], place: Place, ground: &[u8], alone: &mut [u8])
     requires { ⌜ length (now ground) ≡ length (now alone) ⌝ }
-    ensures { λ r. ⌜ now (alone .exit) ≡ readingOn (now (font .entry)) (asked place (now (text .entry))) (framebuffer place (now (ground .entry))) ⌝ }
+    ensures { λ r. ⌜ now (alone .exit) ≡ readingOn (now (font .entry)) (asked place (now (text .entry))) (groundOf place (now (ground .entry))) ⌝ }
 {
     copy(ground, &mut alone[..]);
     let position = place.position;
-    let style = place.style;
-    let drawn = render(
-        font,
-        text,
+    let vertical_pos = place.vertical_pos;
+    let color = place.color;
+    let framebuffer = place.framebuffer;
+    let placement = Placement {
         position,
-        style,
-        place.line_height,
-        false,
-        place.width,
-        place.height,
-        &mut alone[..],
-    );
+        vertical_pos,
+        line_height: place.line_height,
+        ignore_unknown_chars: false,
+    };
+    let drawn = render(font, text, placement, color, framebuffer, &mut alone[..]);
     match drawn {
         DimensionsResult::Ok(_) => {}
         DimensionsResult::Err(_) => {
@@ -81,23 +78,24 @@ fn clear_narrow(
     font: &[u8],
     head: FontReader,
     text: &[u8],
-    origin: Point,
+    pen: Pen,
     place: Place,
     screen: &mut [u8],
 )
-    requires { ⌜ Opened (now font) head × (Checked (now text) origin (place .«line_height») × BufferFits (length (now screen)) (place .width) (place .height)) ⌝ }
-    ensures { λ r. ⌜ now (screen .exit) ≡ clearedBy (place .width) (place .background) (toFill true (measureFrom (drawnAnswer (u8g2 (now (font .entry))) false) (place .«line_height») origin start (characters (now (text .entry))))) (now (screen .entry)) ⌝ }
+    requires { ⌜ Opened (now font) head × (Checked (now text) (pen .origin) (pen .«line_height») × FitsPlace (length (now screen)) place) ⌝ }
+    ensures { λ r. ⌜ now (screen .exit) ≡ clearedBy (place .framebuffer .width) (place .background) (toFill true (countedWith (now (font .entry)) (now (text .entry)) pen)) (now (screen .entry)) ⌝ }
 {
-    let drawn = get_drawn_dimensions(font, head, text, origin, place.line_height, false);
+    let drawn = get_drawn_dimensions(font, head, text, pen);
     let DimensionsResult::Ok(dimensions) = drawn else {
         return;
     };
     let old_box = dimensions.bounding_box;
     let bounding_box = narrowed(old_box);
+    let framebuffer = place.framebuffer;
     fill_box(
         screen,
-        place.width,
-        place.height,
+        framebuffer.width,
+        framebuffer.height,
         bounding_box,
         place.background,
     );
@@ -111,44 +109,17 @@ fn redraw_narrow(
     place: Place,
     screen: &mut [u8],
 ) -> DimensionsResult
-    ensures answered { λ r. ⌜ dimensionsOutcome r ≡ redrawn (now (font .entry)) (now («old_text» .entry)) (asked place (now («new_text» .entry))) (framebuffer place (now (screen .entry))) ⌝ }
-    ensures shown { λ r. ⌜ now (screen .exit) ≡ stepBuffer true (now (font .entry)) (now («old_text» .entry)) (asked place (now («new_text» .entry))) (place .background) (framebuffer place (now (screen .entry))) ⌝ }
+    ensures answered { λ r. ⌜ dimensionsOutcome r ≡ redrawn (now (font .entry)) (now («old_text» .entry)) (asked place (now («new_text» .entry))) (groundOf place (now (screen .entry))) ⌝ }
+    ensures shown { λ r. ⌜ now (screen .exit) ≡ stepBuffer true (now (font .entry)) (now («old_text» .entry)) (asked place (now («new_text» .entry))) (place .background) (groundOf place (now (screen .entry))) ⌝ }
 {
-    let position = place.position;
-    let style = place.style;
-    let color = style.color;
-    let line_height = place.line_height;
-    let width = place.width;
-    let height = place.height;
-    let checked = check_step(
-        font,
-        old_text,
-        new_text,
-        position,
-        style,
-        line_height,
-        width,
-        height,
-        &screen[..],
-    );
-    match checked {
+    match check_step(font, old_text, new_text, place, &screen[..]) {
         StepResult::Err(error) => DimensionsResult::Err(error),
         StepResult::Ok(step) => {
             let head = step.head;
-            let old_origin = step.old_origin;
-            let new_origin = step.new_origin;
-            clear_narrow(font, head, old_text, old_origin, place, &mut screen[..]);
-            draw_reading(
-                font,
-                head,
-                new_text,
-                new_origin,
-                line_height,
-                color,
-                screen,
-                width,
-                height,
-            )
+            let old_pen = step.old_pen;
+            let new_pen = step.new_pen;
+            clear_narrow(font, head, old_text, old_pen, place, &mut screen[..]);
+            draw_reading(font, head, new_text, new_pen, place, screen)
         }
     }
 }
@@ -162,24 +133,11 @@ pub fn redraw_on(
     narrow: bool,
     screen: &mut [u8],
 ) -> DimensionsResult
-    ensures answered { λ r. ⌜ dimensionsOutcome r ≡ redrawn (now (font .entry)) (now («old_text» .entry)) (asked place (now («new_text» .entry))) (framebuffer place (now (screen .entry))) ⌝ }
-    ensures shown { λ r. ⌜ now (screen .exit) ≡ stepBuffer narrow (now (font .entry)) (now («old_text» .entry)) (asked place (now («new_text» .entry))) (place .background) (framebuffer place (now (screen .entry))) ⌝ }
+    ensures answered { λ r. ⌜ dimensionsOutcome r ≡ redrawn (now (font .entry)) (now («old_text» .entry)) (asked place (now («new_text» .entry))) (groundOf place (now (screen .entry))) ⌝ }
+    ensures shown { λ r. ⌜ now (screen .exit) ≡ stepBuffer narrow (now (font .entry)) (now («old_text» .entry)) (asked place (now («new_text» .entry))) (place .background) (groundOf place (now (screen .entry))) ⌝ }
 {
     if narrow {
         return redraw_narrow(font, old_text, new_text, place, screen);
     }
-    let position = place.position;
-    let style = place.style;
-    redraw(
-        font,
-        old_text,
-        new_text,
-        position,
-        style,
-        place.line_height,
-        place.background,
-        place.width,
-        place.height,
-        screen,
-    )
+    redraw(font, old_text, new_text, place, screen)
 }

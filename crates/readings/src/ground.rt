@@ -2,17 +2,16 @@
 ghost use mathlib.Core.Path.{_≡_};
 ghost use Prim.Native.Nat.{_*_};
 ghost use lib.ListN.{length};
-ghost use Rattle.framebuffer.specs.Areas.{BufferFits};
-ghost use Rattle.redraw.specs.Drawing.{measured};
+ghost use Rattle.redraw.specs.Drawing.{FitsPlace, measured};
 ghost use Rattle.redraw.specs.Redraw.{clearedBy};
-ghost use Rattle.readings.specs.Readings.{reading};
+ghost use Rattle.readings.specs.Readings.{reading, PlaceFits};
 ghost use Rattle.readings.specs.Ground.{rubbish, ground, ClearTo, RubbishBeside};
-ghost use Rattle.readings.specs.Readings.{PlaceFits};
 use crate::texts::COUNT;
 use crate::texts::measure_reading;
-use crate::values::Place;
 use framebuffer::fill::fill_box;
+use redraw::place::Place;
 use types::results::DimensionsResult;
+use types::style::Placement;
 
 fn fill_with_rubbish(buffer: &mut [u8])
     ensures { λ r. ⌜ now (buffer .exit) ≡ rubbish (length (now (buffer .entry))) ⌝ }
@@ -26,28 +25,34 @@ fn fill_with_rubbish(buffer: &mut [u8])
 
 // Fills the reading's box with the background. A refused reading has none.
 fn clear_reading(font: &[u8], k: usize, place: Place, buffer: &mut [u8])
-    requires { ⌜ BufferFits (length (now buffer)) (place .width) (place .height) ⌝ }
-    ensures { λ r. ⌜ now (buffer .exit) ≡ clearedBy (place .width) (place .background) (measured (now (font .entry)) (reading place k)) (now (buffer .entry)) ⌝ }
+    requires { ⌜ FitsPlace (length (now buffer)) place ⌝ }
+    ensures { λ r. ⌜ now (buffer .exit) ≡ clearedBy (place .framebuffer .width) (place .background) (measured (now (font .entry)) (reading place k)) (now (buffer .entry)) ⌝ }
 {
     let position = place.position;
-    let style = place.style;
-    let vertical_pos = style.vertical_pos;
-    let measured = measure_reading(font, k, position, vertical_pos, place.line_height);
+    let vertical_pos = place.vertical_pos;
+    let placement = Placement {
+        position,
+        vertical_pos,
+        line_height: place.line_height,
+        ignore_unknown_chars: false,
+    };
+    let measured = measure_reading(font, k, placement);
     let DimensionsResult::Ok(d) = measured else {
         return;
     };
     let bounding_box = d.bounding_box;
+    let framebuffer = place.framebuffer;
     fill_box(
         buffer,
-        place.width,
-        place.height,
+        framebuffer.width,
+        framebuffer.height,
         bounding_box,
         place.background,
     );
 }
 
 pub fn lay_ground(font: &[u8], place: Place, buffer: &mut [u8])
-    requires { ⌜ PlaceFits (place .width) (place .height) × (length (now buffer) ≡ place .width * place .height) ⌝ }
+    requires { ⌜ PlaceFits (place .framebuffer .width) (place .framebuffer .height) × (length (now buffer) ≡ place .framebuffer .width * place .framebuffer .height) ⌝ }
     ensures laid { λ r. ⌜ now (buffer .exit) ≡ ground (now (font .entry)) place ⌝ }
     ensures clear { λ r. ⌜ ClearTo 901 (now (font .entry)) place (now (buffer .exit)) ⌝ }
     ensures rubbish { λ r. ⌜ RubbishBeside 901 (now (font .entry)) place (now (buffer .exit)) ⌝ }

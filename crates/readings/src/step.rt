@@ -6,15 +6,16 @@ ghost use Rattle.integers.specs.Integers.{pick};
 ghost use Rattle.definitions.specs.Calls.{dimensionsOutcome};
 ghost use Rattle.buffers.specs.Differences.{differences};
 ghost use Rattle.redraw.specs.Redraw.{redrawn, taken};
-ghost use Rattle.readings.specs.Readings.{readingText, reading, framebuffer};
+ghost use Rattle.redraw.specs.Drawing.{groundOf};
+ghost use Rattle.readings.specs.Readings.{readingText, reading};
 ghost use Rattle.readings.specs.Sheet.{stepBuffer, screenOf, wanted, Finds, tallied, Few};
 use crate::check::draw_alone;
 use crate::check::redraw_on;
 use crate::texts::write_reading;
 use crate::values::Found;
-use crate::values::Place;
 use crate::values::Totals;
 use buffers::count_differences;
+use redraw::place::Place;
 use redraw::reading::is_taken;
 use types::results::DimensionsResult;
 
@@ -54,8 +55,8 @@ fn draw_over(
     narrow: bool,
     screen: &mut [u8],
 ) -> DimensionsResult
-    ensures answered { λ r. ⌜ dimensionsOutcome r ≡ redrawn (now (font .entry)) (readingText old) (reading place k) (framebuffer place (now (screen .entry))) ⌝ }
-    ensures shown { λ r. ⌜ now (screen .exit) ≡ stepBuffer narrow (now (font .entry)) (readingText old) (reading place k) (place .background) (framebuffer place (now (screen .entry))) ⌝ }
+    ensures answered { λ r. ⌜ dimensionsOutcome r ≡ redrawn (now (font .entry)) (readingText old) (reading place k) (groundOf place (now (screen .entry))) ⌝ }
+    ensures shown { λ r. ⌜ now (screen .exit) ≡ stepBuffer narrow (now (font .entry)) (readingText old) (reading place k) (place .background) (groundOf place (now (screen .entry))) ⌝ }
 {
     let mut old_text = [0u8; 6];
     let mut new_text = [0u8; 6];

@@ -1,6 +1,5 @@
 // The readings: -45.0 to +45.0 degrees in tenths, numbered from 0.
 ghost use mathlib.Core.Path.{_≡_};
-ghost use mathlib.Core.Bool.{false};
 ghost use Prim.Native.Nat.{_≤_};
 ghost use lib.ListN.{length, drop};
 ghost use Rattle.definitions.specs.Font.{u8g2};
@@ -8,9 +7,8 @@ ghost use Rattle.definitions.specs.Calls.{plain, measure, dimensionsOutcome};
 ghost use Rattle.readings.specs.Readings.{readingText};
 use angles::write_angle;
 use measuring::rendered_dimensions::get_rendered_dimensions;
-use types::geometry::Point;
 use types::results::DimensionsResult;
-use types::style::VerticalPosition;
+use types::style::Placement;
 
 pub const COUNT: usize = 901;
 
@@ -25,23 +23,10 @@ pub fn write_reading(k: usize, out: &mut [u8]) -> usize
     write_angle((k as i32) - 450, out)
 }
 
-pub fn measure_reading(
-    font: &[u8],
-    k: usize,
-    position: Point,
-    vertical_pos: VerticalPosition,
-    line_height: u32,
-) -> DimensionsResult
-    ensures { λ r. ⌜ dimensionsOutcome r ≡ measure (u8g2 (now (font .entry))) (plain (readingText k) position «vertical_pos» «line_height» false) ⌝ }
+pub fn measure_reading(font: &[u8], k: usize, placement: Placement) -> DimensionsResult
+    ensures { λ r. ⌜ dimensionsOutcome r ≡ measure (u8g2 (now (font .entry))) (plain (readingText k) placement) ⌝ }
 {
     let mut text = [0u8; 6];
     let start = write_reading(k, &mut text);
-    get_rendered_dimensions(
-        font,
-        &text[start..],
-        position,
-        vertical_pos,
-        line_height,
-        false,
-    )
+    get_rendered_dimensions(font, &text[start..], placement)
 }

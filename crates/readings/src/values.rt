@@ -1,17 +1,5 @@
-// A place, what is found of a step, and the totals. There is no code here.
-use types::geometry::Point;
+// What is found of a step, and the totals. There is no code here.
 use types::results::DimensionsResult;
-use types::style::FontStyle;
-
-// Where and how the readings are drawn, and the framebuffer's size.
-pub struct Place {
-    pub position: Point,
-    pub style: FontStyle,
-    pub line_height: u32,
-    pub background: u8,
-    pub width: usize,
-    pub height: usize,
-}
 
 // What is found of one step: its answer, the number of the reading that the next step is to clear, and how many pixels of the
 // screen are not what it is to show.

@@ -11,7 +11,7 @@ use Rattle.definitions.specs.TextSteps.{movedBox}
 use Rattle.redraw.specs.Drawing.{measured}
 use Rattle.sheet_extent.specs.declared.values.Extent.{Extent}
 use Rattle.sheet_extent.specs.declared.values.Options.{Options}
-use Rattle.readings.specs.declared.values.Place.{Place}
+use Rattle.redraw.specs.declared.place.Place.{Place}
 use Rattle.sheet_extent.specs.declared.values.Wanted.{Wanted}
 use Rattle.sheet_extent.specs.declared.values.Wanted.the-variants.{Seen}
 use Rattle.definitions.specs.Font.{u8g2}

@@ -15,7 +15,7 @@ use Rattle.definitions.specs.Calls.{plain, measure}
 use Rattle.redraw.specs.Drawing.{measured}
 use Rattle.sheet_extent.specs.declared.values.Extent.{Extent}
 use Rattle.sheet_extent.specs.declared.values.Options.{Options}
-use Rattle.readings.specs.declared.values.Place.{Place}
+use Rattle.redraw.specs.declared.place.Place.{Place}
 use Rattle.sheet_extent.specs.declared.values.Wanted.{Wanted}
 use Rattle.sheet_extent.specs.declared.values.Wanted.the-variants.{Seen, At}
 use Rattle.readings.specs.Readings.{readingText, reading}
@@ -116,9 +116,9 @@ Uncut place e =
 
 pub record OnFramebuffer (column row : ℤ) (place : Place) : Type 0 where
   pub from-left : pos 0 ≤ℤ column
-  pub to-right : column <ℤ pos (place .width)
+  pub to-right : column <ℤ pos (place .framebuffer .width)
   pub from-top : pos 0 ≤ℤ row
-  pub to-bottom : row <ℤ pos (place .height)
+  pub to-bottom : row <ℤ pos (place .framebuffer .height)
 
 -- Every pixel of every reading's box lies on the framebuffer.
 abbrev pub AllSeen : List ℕ → Place → Type 0

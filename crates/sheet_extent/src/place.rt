@@ -8,7 +8,7 @@ use crate::extent::side;
 use crate::values::Extent;
 use crate::values::Options;
 use crate::values::Wanted;
-use readings::values::Place;
+use redraw::place::Place;
 use types::geometry::Point;
 use types::style::FontColor;
 use types::style::FontStyle;

@@ -3,7 +3,7 @@ use mathlib.Core.Path.{_≡_}
 use mathlib.Core.Bool.{Bool}
 use mathlib.Core.List.{List}
 use Prim.Native.Nat.{ℕ, _*_, _≤_}
-use Rattle.readings.specs.declared.values.Place.{Place}
+use Rattle.redraw.specs.declared.place.Place.{Place}
 use Rattle.readings.specs.Ground.{ground as groundOf}
 use Rattle.readings.specs.Sheet.{totalsTo, Sound}
 use Rattle.sheet_program.specs.declared.values.Sheet.{Sheet}

@@ -11,8 +11,8 @@ use font_file::FontFile;
 use libc::STDOUT_FILENO;
 use readings::ground::lay_ground;
 use readings::texts::COUNT;
-use readings::values::Place;
 use readings::values::Totals;
+use redraw::place::Place;
 use sheet_extent::place::place_for;
 use sheet_extent::values::Options;
 use sheet_image::band::columns;
@@ -56,7 +56,7 @@ fn fill_sheet(
     alone: &mut [u8],
     band: &mut [u8],
 ) -> Sheet
-    requires { ⌜ SheetFits (place .width) (place .height) (length (now ground)) (length (now screen)) (length (now alone)) (length (now band)) ⌝ }
+    requires { ⌜ SheetFits (place .framebuffer .width) (place .framebuffer .height) (length (now ground)) (length (now screen)) (length (now alone)) (length (now band)) ⌝ }
     ensures { λ r. ⌜ SheetOf narrow (now (font .entry)) place r ⌝ }
 {
     lay_ground(font, place, &mut ground[..]);

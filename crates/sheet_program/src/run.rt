@@ -10,8 +10,8 @@ use readings::step::step;
 use readings::texts::COUNT;
 use readings::texts::write_reading;
 use readings::values::Found;
-use readings::values::Place;
 use readings::values::Totals;
+use redraw::place::Place;
 use sheet_image::band::columns;
 use sheet_image::band::put_cell;
 use types::results::DimensionsResult;
@@ -50,7 +50,7 @@ pub fn run(
     band: &mut [u8],
     image: i32,
 ) -> Totals
-    requires fits { ⌜ SheetFits (place .width) (place .height) (length (now ground)) (length (now screen)) (length (now alone)) (length (now band)) ⌝ }
+    requires fits { ⌜ SheetFits (place .framebuffer .width) (place .framebuffer .height) (length (now ground)) (length (now screen)) (length (now alone)) (length (now band)) ⌝ }
     requires begins { ⌜ now screen ≡ now ground ⌝ }
     ensures totals { λ r. ⌜ r ≡ totalsTo narrow (now (font .entry)) place (now (ground .entry)) 901 ⌝ }
     ensures left { λ r. ⌜ now (screen .exit) ≡ screenAt narrow (now (font .entry)) place (now (ground .entry)) 901 .bytes ⌝ }

@@ -15,11 +15,12 @@ returns c = let e = sym (c .before .before .get-drawn-dimensions .ensures) ∙ a
 
 returns-2 : tie.Need-returns-2
 returns-2 c =
-    let a = c .before .before .before .before .before .before .before .before .before .before .before .before .args in
-    let e = sym (c .before .before .before .before .before .before .before .before .get-drawn-dimensions .ensures)
-    ∙ ap dimensionsOutcome (c .before .before .before .before .before .before .drawn .given .1) in
-    let filled : BoundingBox → List ℕ = λ b. shown (a .place .width) (fillPicture (a .place .background) b) (a .screen .now) in
-    rw e (c .before .before .fill-box .ensures ∙ ap filled (c .before .before .before .before .narrowed .ensures))
+    let n = c .before .before .before .before .before in
+    let k = n .before .before in
+    let a = k .before .before .before .before .before .before .args in
+    let e = sym (k .before .before .get-drawn-dimensions .ensures) ∙ ap dimensionsOutcome (k .drawn .given .1) in
+    let filled : BoundingBox → List ℕ = λ b. shown (a .place .framebuffer .width) (fillPicture (a .place .background) b) (a .screen .now) in
+    rw e (c .before .before .fill-box .ensures ∙ ap filled (n .narrowed .ensures))
 
 pub clear-narrow-spec : {M : Type 1} → statement M
 clear-narrow-spec =

@@ -2,7 +2,7 @@
 use Rattle.integers.proofs.Prelude.{ap, _∙_, needs}
 use Rattle.buffers.proofs.CopyLaws.{whole}
 use Rattle.definitions.specs.Calls.{dimensionsOutcome}
-use Rattle.readings.specs.Readings.{asked, framebuffer}
+use Rattle.redraw.specs.Drawing.{asked, groundOf}
 use Rattle.readings.proofs.AloneLaws.{drawn-alone, refused-alone}
 use Rattle.readings.proofs.check.draw_alone.Statement.{statement}
 use Rattle.readings.proofs.check.draw_alone.Tie as tie
@@ -16,7 +16,7 @@ returns c =
     let a = s .args in
     let r = c .before .before .before .before .render .ensures in
     let copied = c .before .before .before .before .before .before .before .before .before .before .copy .ensures .1 ∙ whole (a .ground .now) (a .alone .now) (s .pre) in
-    drawn-alone (a .font .now) (asked (a .place) (a .text .now)) (framebuffer (a .place) (a .ground .now)) copied (r .0) (r .1)
+    drawn-alone (a .font .now) (asked (a .place) (a .text .now)) (groundOf (a .place) (a .ground .now)) copied (r .0) (r .1)
     (ap dimensionsOutcome (c .enum-told .given .1))
 
 returns-2 : tie.Need-returns-2
@@ -28,7 +28,7 @@ returns-2 c =
     ∙ whole (a .ground .now) (a .alone .now) (s .pre) in
     c .before .before .copy2 .ensures .1
     ∙ whole (a .ground .now) _ (search needs)
-    ∙ refused-alone (a .font .now) (asked (a .place) (a .text .now)) (framebuffer (a .place) (a .ground .now)) copied (r .0)
+    ∙ refused-alone (a .font .now) (asked (a .place) (a .text .now)) (groundOf (a .place) (a .ground .now)) copied (r .0)
     (ap dimensionsOutcome (c .before .before .before .before .enum-told2 .given .1))
 
 pub draw-alone-spec : {M : Type 1} → statement M

@@ -3,13 +3,11 @@
 use Rattle.integers.proofs.Prelude.{_≡_, sym, ap, subst, _∙_, true, ℕ, arith, needs}
 use Rattle.definitions.specs.Refusals.{success}
 use Rattle.definitions.specs.Agreement.{Ground}
-use Rattle.framebuffer.specs.Areas.{BufferFits}
-use Rattle.redraw.specs.Drawing.{Drawing}
+use Rattle.redraw.specs.Drawing.{Drawing, asked, groundOf, FitsPlace}
 use Rattle.redraw.specs.declared.step.Step.{Step}
 use Rattle.redraw.specs.Checks.{checkedStep, stepOutcome}
 use Rattle.redraw.proofs.ChecksLaws.{Ready, ready}
 use Rattle.redraw.proofs.RedrawLaws.{stops, held, answers, leaves}
-use Rattle.readings.specs.Readings.{asked, framebuffer}
 use Rattle.readings.specs.Sheet.{toFill, stepBuffer}
 use Rattle.readings.proofs.check.redraw_narrow.Statement.{statement}
 use Rattle.readings.proofs.check.redraw_narrow.Tie as tie
@@ -20,21 +18,21 @@ module _ (s : tie.Start) where
   new = asked (s .args .place) (s .args .new-text .now)
 
   abbrev screen : Ground
-  screen = framebuffer (s .args .place) (s .args .screen .now)
+  screen = groundOf (s .args .place) (s .args .screen .now)
 
 -- the tests passed
 module _ (c : tie.After-known-told2) where
   abbrev entry : tie.Start
-  entry = c .before .before .before .before .before .before .before .before .before .before .before
+  entry = c .before .before .before .before .before .before .before .before .before
 
   abbrev step : Step
-  step = c .before .checked2 .given .0 .0
+  step = c .before .step .given .0 .0
 
   passes : checkedStep (entry .args .font .now) (entry .args .old-text .now) (new entry) (screen entry) ≡ success step
-  passes = sym (c .before .before .before .check-step .ensures) ∙ ap stepOutcome (c .before .checked2 .given .1)
+  passes = sym (c .before .before .before .check-step .ensures) ∙ ap stepOutcome (c .before .step .given .1)
 
   is-ready : Ready (entry .args .font .now) (entry .args .old-text .now) (new entry) (screen entry) step
-  is-ready = ready _ _ (new entry) (screen entry) step passes (λ i. omega (arith, c .before .before .before .before .before .before .before .before .before .before .shared-slice-known .given i))
+  is-ready = ready _ _ (new entry) (screen entry) step passes (λ i. omega (arith, c .before .before .before .before .before .before .before .before .shared-slice-known .given i))
 
 clear-narrow-requires : tie.Need-clear-narrow-requires
 clear-narrow-requires c κs = let r = is-ready (c .before .before .before .before) in (r .opens, (r .old-checked, r .fits))
@@ -44,14 +42,14 @@ draw-reading-requires c κs =
     let k = c .before .before .before .before .before .before .before .before in
     let r = is-ready k in
     let a = entry k .args in
-    (r .opens, (r .new-checked, subst (λ (n : ℕ). BufferFits n (a .place .width) (a .place .height)) (sym (c .before .before .screen .given)) (r .fits)))
+    (r .opens, (r .new-checked, subst (λ (n : ℕ). FitsPlace n (a .place)) (sym (c .before .before .screen .given)) (r .fits)))
 
 returns : tie.Need-returns
 unfolding stepBuffer
 returns c =
-    let s = c .before .before .before .before .before .before .before .before .before .before .before in
+    let s = c .before .before .before .before .before .before .before .before .before in
     let a = s .args in
-    let e = sym (c .before .before .before .check-step .ensures) ∙ ap stepOutcome (c .before .checked .given .1) in
+    let e = sym (c .before .before .before .check-step .ensures) ∙ ap stepOutcome (c .before .error .given .1) in
     (stops (a .font .now) (a .old-text .now) (new s) (a .place .background) (screen s) e, held (a .font .now) (a .old-text .now) (new s) (a .place .background) (screen s) e _)
 
 returns-2 : tie.Need-returns-2

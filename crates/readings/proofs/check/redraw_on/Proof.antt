@@ -1,6 +1,6 @@
 -- Without the fault the step is the gauge's.
 use Rattle.integers.proofs.Prelude.{sym, ap, _∙_, Bool, List, ℕ, needs}
-use Rattle.readings.specs.Readings.{asked, framebuffer}
+use Rattle.redraw.specs.Drawing.{asked, groundOf}
 use Rattle.readings.specs.Sheet.{stepBuffer}
 use Rattle.readings.proofs.NarrowLaws.{faultless}
 use Rattle.readings.proofs.check.redraw_on.Statement.{statement}
@@ -11,14 +11,14 @@ returns c =
     let a = c .before .before .before .before .before .before .before .before .before .args in
     let r = c .before .before .redraw-narrow .ensures in
     let new = asked (a .place) (a .new-text .now) in
-    let screen = framebuffer (a .place) (a .screen .now) in
+    let screen = groundOf (a .place) (a .screen .now) in
     let left : Bool → List ℕ = λ b. stepBuffer b (a .font .now) (a .old-text .now) new (a .place .background) screen in
     (r .0, r .1 ∙ ap left (sym (c .before .before .before .before .if1 .taken)))
 
 returns-2 : tie.Need-returns-2
 returns-2 c =
     let r = c .before .before .redraw .ensures in
-    let e = c .before .before .before .before .before .before .if1 .left in
+    let e = c .before .before .before .before .if1 .left in
     (r .0, rw e (r .1 .0 ∙ sym (faultless _ _ _ _ _)))
 
 pub redraw-on-spec : {M : Type 1} → statement M

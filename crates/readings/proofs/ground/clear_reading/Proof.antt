@@ -1,4 +1,4 @@
--- `clear_reading` meets its contract: each way is a case of what the reading measures. Assumes nothing.
+-- Each way is a case of what the reading measures.
 use Rattle.integers.proofs.Prelude.{sym, ap, _∙_, needs}
 use Rattle.definitions.specs.Calls.{dimensionsOutcome}
 use Rattle.readings.proofs.ground.clear_reading.Statement.{statement}
@@ -14,7 +14,8 @@ returns c =
 
 returns-2 : tie.Need-returns-2
 returns-2 c =
-    let e = sym (c .before .before .before .before .before .before .before .measure-reading .ensures) ∙ ap dimensionsOutcome (c .before .before .before .before .before .measured .given .1) in
+    let k = c .before .before .before .before .before .before in
+    let e = sym (k .before .before .measure-reading .ensures) ∙ ap dimensionsOutcome (k .measured .given .1) in
     rw e (c .before .before .fill-box .ensures)
 
 pub clear-reading-spec : {M : Type 1} → statement M

@@ -2,7 +2,7 @@
 use Rattle.integers.proofs.Prelude.{ap, _∙_, List, ℕ, needs}
 use Rattle.buffers.specs.Differences.{differences}
 use Rattle.redraw.specs.Redraw.{readingOn}
-use Rattle.readings.specs.Readings.{asked, framebuffer}
+use Rattle.redraw.specs.Drawing.{asked, groundOf}
 use Rattle.readings.proofs.TextLaws.{to-the-end}
 use Rattle.readings.proofs.step.compare.Statement.{statement}
 use Rattle.readings.proofs.step.compare.Tie as tie
@@ -14,7 +14,7 @@ returns c =
     let e = to-the-end (w .last .1 .0) (w .result) 6 (c .before .before .before .before .before .before .before .before .text2 .given) ∙ w .ensures .1 in
     c .count-differences .ensures
     ∙ ap (differences (a .screen .now))
-    (c .before .before .before .before .draw-alone .ensures ∙ ap (λ (t : List ℕ). readingOn (a .font .now) (asked (a .place) t) (framebuffer (a .place) (a .ground .now))) e)
+    (c .before .before .before .before .draw-alone .ensures ∙ ap (λ (t : List ℕ). readingOn (a .font .now) (asked (a .place) t) (groundOf (a .place) (a .ground .now))) e)
 
 pub compare-spec : {M : Type 1} → statement M
 compare-spec =

@@ -1,7 +1,7 @@
 -- The texts are the readings'.
 use Rattle.integers.proofs.Prelude.{_∙_, needs}
 use Rattle.redraw.specs.Redraw.{redrawn}
-use Rattle.readings.specs.Readings.{asked, framebuffer}
+use Rattle.redraw.specs.Drawing.{asked, groundOf}
 use Rattle.readings.specs.Sheet.{stepBuffer}
 use Rattle.readings.proofs.TextLaws.{to-the-end, both-texts}
 use Rattle.readings.proofs.step.draw_over.Statement.{statement}
@@ -15,7 +15,7 @@ returns c =
     let e = to-the-end (w .last .1 .0) (w .result) 6 (c .before .before .before .before .before .before .before .before .before .before .before .old-text2 .given) ∙ w .ensures .1 in
     let f = to-the-end (v .last .1 .0) (v .result) 6 (c .before .before .before .before .before .before .before .before .new-text2 .given) ∙ v .ensures .1 in
     let r = c .before .before .redraw-on .ensures in
-    let p = framebuffer (a .place) (a .screen .now) in (
+    let p = groundOf (a .place) (a .screen .now) in (
       both-texts (λ o n. redrawn (a .font .now) o (asked (a .place) n) p) e f (r .0),
       both-texts (λ o n. stepBuffer (a .narrow) (a .font .now) o (asked (a .place) n) (a .place .background) p) e f (r .1),
     )
