@@ -9,6 +9,7 @@ ghost use Rattle.renderer.specs.Texts.{countedWith};
 ghost use Rattle.redraw.specs.Drawing.{asked, groundOf, FitsPlace};
 ghost use Rattle.redraw.specs.Redraw.{readingOn, clearedBy, redrawn};
 ghost use Rattle.readings.specs.Sheet.{narrowedBox, toFill, stepBuffer};
+use crate::values::Trial;
 use bytes::copy;
 use checks::origin::Pen;
 use framebuffer::fill::fill_box;
@@ -129,14 +130,14 @@ pub fn redraw_on(
     font: &[u8],
     old_text: &[u8],
     new_text: &[u8],
-    place: Place,
-    narrow: bool,
+    trial: Trial,
     screen: &mut [u8],
 ) -> DimensionsResult
-    ensures answered { λ r. ⌜ dimensionsOutcome r ≡ redrawn (now (font .entry)) (now («old_text» .entry)) (asked place (now («new_text» .entry))) (groundOf place (now (screen .entry))) ⌝ }
-    ensures shown { λ r. ⌜ now (screen .exit) ≡ stepBuffer narrow (now (font .entry)) (now («old_text» .entry)) (asked place (now («new_text» .entry))) (place .background) (groundOf place (now (screen .entry))) ⌝ }
+    ensures answered { λ r. ⌜ dimensionsOutcome r ≡ redrawn (now (font .entry)) (now («old_text» .entry)) (asked (trial .place) (now («new_text» .entry))) (groundOf (trial .place) (now (screen .entry))) ⌝ }
+    ensures shown { λ r. ⌜ now (screen .exit) ≡ stepBuffer (trial .narrow) (now (font .entry)) (now («old_text» .entry)) (asked (trial .place) (now («new_text» .entry))) (trial .place .background) (groundOf (trial .place) (now (screen .entry))) ⌝ }
 {
-    if narrow {
+    let place = trial.place;
+    if trial.narrow {
         return redraw_narrow(font, old_text, new_text, place, screen);
     }
     redraw(font, old_text, new_text, place, screen)

@@ -14,6 +14,7 @@ use crate::check::redraw_on;
 use crate::texts::write_reading;
 use crate::values::Found;
 use crate::values::Totals;
+use crate::values::Trial;
 use buffers::count_differences;
 use redraw::place::Place;
 use redraw::reading::is_taken;
@@ -47,22 +48,15 @@ pub fn counted(totals: Totals, found: Found) -> Totals
 }
 
 // Draws reading k over the reading `old`.
-fn draw_over(
-    font: &[u8],
-    old: usize,
-    k: usize,
-    place: Place,
-    narrow: bool,
-    screen: &mut [u8],
-) -> DimensionsResult
-    ensures answered { λ r. ⌜ dimensionsOutcome r ≡ redrawn (now (font .entry)) (readingText old) (reading place k) (groundOf place (now (screen .entry))) ⌝ }
-    ensures shown { λ r. ⌜ now (screen .exit) ≡ stepBuffer narrow (now (font .entry)) (readingText old) (reading place k) (place .background) (groundOf place (now (screen .entry))) ⌝ }
+fn draw_over(font: &[u8], old: usize, k: usize, trial: Trial, screen: &mut [u8]) -> DimensionsResult
+    ensures answered { λ r. ⌜ dimensionsOutcome r ≡ redrawn (now (font .entry)) (readingText old) (reading (trial .place) k) (groundOf (trial .place) (now (screen .entry))) ⌝ }
+    ensures shown { λ r. ⌜ now (screen .exit) ≡ stepBuffer (trial .narrow) (now (font .entry)) (readingText old) (reading (trial .place) k) (trial .place .background) (groundOf (trial .place) (now (screen .entry))) ⌝ }
 {
     let mut old_text = [0u8; 6];
     let mut new_text = [0u8; 6];
     let a = write_reading(old, &mut old_text);
     let b = write_reading(k, &mut new_text);
-    redraw_on(font, &old_text[a..], &new_text[b..], place, narrow, screen)
+    redraw_on(font, &old_text[a..], &new_text[b..], trial, screen)
 }
 
 // How many pixels of the screen are not those of reading k drawn alone on the ground, whole or not at all.
@@ -95,16 +89,16 @@ pub fn step(
     font: &[u8],
     old: usize,
     k: usize,
-    narrow: bool,
-    place: Place,
+    trial: Trial,
     ground: &[u8],
     screen: &mut [u8],
     alone: &mut [u8],
 ) -> Found
     requires { ⌜ (length (now ground) ≡ length (now alone)) × (length (now screen) ≡ length (now alone)) ⌝ }
-    ensures { λ r. ⌜ Finds narrow (now (font .entry)) place (now (ground .entry)) (screenOf old (now (screen .entry))) k r (now (screen .exit)) ⌝ }
+    ensures { λ r. ⌜ Finds (trial .narrow) (now (font .entry)) (trial .place) (now (ground .entry)) (screenOf old (now (screen .entry))) k r (now (screen .exit)) ⌝ }
 {
-    let answer = draw_over(font, old, k, place, narrow, &mut screen[..]);
+    let place = trial.place;
+    let answer = draw_over(font, old, k, trial, &mut screen[..]);
     let next = next_old(answer, k, old);
     let differing = compare(font, k, place, ground, &screen[..], alone);
     Found {

@@ -4,7 +4,7 @@ use Rattle.integers.proofs.Prelude.{ℤ, pos, negsuc, natAbs, _+ℤ_, _-ℤ_, m
 use Rattle.integers.proofs.Choices.{impossible}
 use Rattle.integers.specs.Integers.{minZ, maxZ}
 use Rattle.integers.proofs.Laws.{zarith, up, down, plus, minus, size, min-is, max-is, range, stored}
-use Rattle.definitions.specs.Vocabulary.{BoundingBox, None, Some, Point, Rectangle, RenderedDimensions, Transparent, VerticalPosition}
+use Rattle.definitions.specs.Vocabulary.{Framebuffer, BoundingBox, None, Some, Point, Rectangle, RenderedDimensions, Transparent, VerticalPosition}
 use Rattle.definitions.specs.Refusals.{Outcome, success, refused}
 use Rattle.definitions.specs.Geometry.{left, top, right, bottom, InsideBox}
 use Rattle.definitions.specs.TextSteps.{movedBox}
@@ -15,7 +15,8 @@ use Rattle.redraw.specs.declared.place.Place.{Place}
 use Rattle.sheet_extent.specs.declared.values.Wanted.{Wanted}
 use Rattle.sheet_extent.specs.declared.values.Wanted.the-variants.{Seen}
 use Rattle.definitions.specs.Font.{u8g2}
-use Rattle.definitions.specs.Calls.{plain}
+use Rattle.definitions.specs.Framebuffer.{sized}
+use Rattle.definitions.specs.Calls.{placed, plain}
 use Rattle.definitions.proofs.MovedLaws.{measured-at-zero}
 use Rattle.readings.specs.Readings.{readingText, PlaceFits}
 use Rattle.sheet_extent.specs.Extent.{atOrigin, widened, withBox, withReading, extentOf, Within, HoldsReadings, NearExtent}
@@ -149,7 +150,7 @@ side-limits : (z : ℤ) → (1 ≤ sideOf z) × (sideOf z ≤ 256)
 side-limits (pos n) = (omega arith, omega arith)
 side-limits (negsuc n) = (omega arith, omega arith)
 
-place-fits : (v : VerticalPosition) (p : Point) (e : Extent) → PlaceFits (placeAt v p e .width) (placeAt v p e .height)
+place-fits : (v : VerticalPosition) (p : Point) (e : Extent) → PlaceFits (placeAt v p e .framebuffer .width) (placeAt v p e .framebuffer .height)
 place-fits v p e =
     let w = side-limits (p .x +ℤ e .right +ℤ pos 3) in
     let h = side-limits (p .y +ℤ e .bottom +ℤ pos 3) in
@@ -239,7 +240,7 @@ module _ (font : List ℕ) (o : Options) (wanted : o .wanted ≡ Seen) where
   pub all-seen : Uncut (placeFor font o) edges → AllSeen font (placeFor font o)
   unfolding placeFor
   all-seen = rw wanted (λ uncut k h d m column row i.
-      let q = measured-at-zero (u8g2 font) (plain (readingText k) (there .position) (o .«vertical_pos») 0 false) d m in
+      let q = measured-at-zero (u8g2 font) (plain (readingText k) (placed (there .position) (o .«vertical_pos») 0 false)) d m in
       on-framebuffer uncut (q .0 .«bounding_box») (λ r b. all-between font (o .«vertical_pos») 901 k h (q .0) (q .1 .0) r b) column row
       (subst (InsideBox column row) (q .1 .1) i))
 
@@ -252,38 +253,28 @@ pub seen-position : {wanted : Wanted} (e : Extent) {x y : ℤ} → wanted ≡ Se
     → record { x = x; y = y } ≡ positionFor wanted e
 seen-position e w h k = rw w (cc (h, k))
 
+-- a place with that framebuffer
+abbrev placeIn : Framebuffer → Options → Point → Place
+placeIn framebuffer o p = record {
+  position = p;
+  «vertical_pos» = o .«vertical_pos»;
+  «line_height» = 0;
+  color = Transparent 0;
+  background = 255;
+  framebuffer = framebuffer;
+}
+
 pub is-place : (font : List ℕ) (o : Options) {e : Extent} {p : Point} {width height : ℕ} → e ≡ extentOf font (o .«vertical_pos») 901
     → p ≡ positionFor (o .wanted) e → width ≡ side (p .x) (e .right) → height ≡ side (p .y) (e .bottom)
-    → record {
-      position = p;
-      style = record { color = Transparent 0; «vertical_pos» = o .«vertical_pos» };
-      «line_height» = 0;
-      background = 255;
-      width = width;
-      height = height;
-    } ≡ placeFor font o
+    → placeIn (sized width height) o p ≡ placeFor font o
 unfolding placeFor
 is-place font o {e} {p} {width} {height} h i j k =
-    ap (λ (n : ℕ). record {
-      position = p;
-      style = record { color = Transparent 0; «vertical_pos» = o .«vertical_pos» };
-      «line_height» = 0;
-      background = 255;
-      width = n;
-      height = height;
-    }) j
-    ∙ ap (λ (n : ℕ). record {
-      position = p;
-      style = record { color = Transparent 0; «vertical_pos» = o .«vertical_pos» };
-      «line_height» = 0;
-      background = 255;
-      width = side (p .x) (e .right);
-      height = n;
-    }) k
+    ap (λ (n : ℕ). placeIn (sized n height) o p) j
+    ∙ ap (λ (n : ℕ). placeIn (sized (side (p .x) (e .right)) n) o p) k
     ∙ ap (λ (q : Point). placeAt (o .«vertical_pos») q e) i
     ∙ ap (λ (x : Extent). placeAt (o .«vertical_pos») (positionFor (o .wanted) x) x) h
 
-pub fits-for : (font : List ℕ) (o : Options) → PlaceFits (placeFor font o .width) (placeFor font o .height)
+pub fits-for : (font : List ℕ) (o : Options) → PlaceFits (placeFor font o .framebuffer .width) (placeFor font o .framebuffer .height)
 unfolding placeFor
 fits-for font o =
     let e = extentOf font (o .«vertical_pos») 901 in

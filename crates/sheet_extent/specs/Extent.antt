@@ -11,7 +11,8 @@ use Rattle.definitions.specs.Refusals.{Outcome, success, refused}
 use Rattle.definitions.specs.Geometry.{left, top, right, bottom, InsideBox}
 use Rattle.definitions.specs.Text.{point}
 use Rattle.definitions.specs.Font.{u8g2}
-use Rattle.definitions.specs.Calls.{plain, measure}
+use Rattle.definitions.specs.Framebuffer.{sized}
+use Rattle.definitions.specs.Calls.{placed, plain, measure}
 use Rattle.redraw.specs.Drawing.{measured}
 use Rattle.sheet_extent.specs.declared.values.Extent.{Extent}
 use Rattle.sheet_extent.specs.declared.values.Options.{Options}
@@ -24,7 +25,7 @@ use Rattle.readings.specs.Readings.{readingText, reading}
 
 -- what a reading measures at (0, 0), in one line
 abbrev pub atOrigin : List ℕ → VerticalPosition → ℕ → Outcome RenderedDimensions
-atOrigin font v k = measure (u8g2 font) (plain (readingText k) (point (pos 0) (pos 0)) v 0 false)
+atOrigin font v k = measure (u8g2 font) (plain (readingText k) (placed (point (pos 0) (pos 0)) v 0 false))
 
 abbrev pub widened : Extent → Rectangle → Extent
 widened e r = record {
@@ -95,11 +96,11 @@ side start end = sideOf (start +ℤ end +ℤ pos 3)
 abbrev pub placeAt : VerticalPosition → Point → Extent → Place
 placeAt v p e = record {
   position = p;
-  style = record { color = Transparent 0; «vertical_pos» = v };
+  «vertical_pos» = v;
   «line_height» = 0;
+  color = Transparent 0;
   background = 255;
-  width = side (p .x) (e .right);
-  height = side (p .y) (e .bottom);
+  framebuffer = sized (side (p .x) (e .right)) (side (p .y) (e .bottom));
 }
 
 unfoldable pub placeFor : List ℕ → Options → Place

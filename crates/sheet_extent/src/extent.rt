@@ -11,6 +11,7 @@ use types::geometry::BoundingBox;
 use types::geometry::Point;
 use types::geometry::Rectangle;
 use types::results::DimensionsResult;
+use types::style::Placement;
 use types::style::VerticalPosition;
 
 const MARGIN: usize = 3;
@@ -62,7 +63,13 @@ fn with_reading(extent: Extent, font: &[u8], k: usize, vertical_pos: VerticalPos
     ensures { λ r. ⌜ (r ≡ withReading extent (atOrigin (now (font .entry)) «vertical_pos» k)) × NearExtent r ⌝ }
 {
     let origin = Point { x: 0, y: 0 };
-    let measured = measure_reading(font, k, origin, vertical_pos, 0);
+    let placement = Placement {
+        position: origin,
+        vertical_pos,
+        line_height: 0,
+        ignore_unknown_chars: false,
+    };
+    let measured = measure_reading(font, k, placement);
     let DimensionsResult::Ok(d) = measured else {
         return extent;
     };

@@ -9,9 +9,9 @@ use crate::values::Extent;
 use crate::values::Options;
 use crate::values::Wanted;
 use redraw::place::Place;
+use types::framebuffer::Framebuffer;
 use types::geometry::Point;
 use types::style::FontColor;
-use types::style::FontStyle;
 
 const INK: u8 = 0;
 
@@ -39,16 +39,14 @@ pub fn place_for(font: &[u8], options: Options) -> Place
     let wanted = options.wanted;
     let extent = measure_all(font, vertical_pos);
     let position = position_for(wanted, extent);
-    let style = FontStyle {
-        color: FontColor::Transparent(INK),
-        vertical_pos,
-    };
+    let width = side(position.x, extent.right);
+    let height = side(position.y, extent.bottom);
     Place {
         position,
-        style,
+        vertical_pos,
         line_height: 0,
+        color: FontColor::Transparent(INK),
         background: BACKGROUND,
-        width: side(position.x, extent.right),
-        height: side(position.y, extent.bottom),
+        framebuffer: Framebuffer { width, height },
     }
 }

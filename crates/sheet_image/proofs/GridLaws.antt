@@ -9,6 +9,7 @@ use Rattle.definitions.specs.Picture.{Paint, keep, put, covers}
 use Rattle.definitions.specs.Framebuffer.{over, shown}
 use Rattle.definitions.proofs.PictureLaws.{covers-inside, inside-covers}
 use Rattle.definitions.proofs.FramebufferLaws.{is-shown, shown-at, length-shown}
+use Rattle.definitions.specs.Vocabulary.{Framebuffer}
 use Rattle.sheet_image.specs.Grid.{cellArea, cellPicture, withCell, RowCopied, begun, nextCell, CellFits, BandFits}
 
 -- ---- a row
@@ -151,24 +152,24 @@ cells cell some most = (by (decLt 0 (262000 / cell)), omega (arith, div-add-mod'
         absurd (omega (arith, rw z at (div-add-mod' 262000 cell), mod-lt 262000 some))
 
 -- a cell of a band of n
-pub cell-fits : {bytes n j cell width height : ℕ} → BandFits bytes n j cell width height → CellFits bytes (n * width) (j * width) cell width height
-cell-fits {n = n} {width = width} {height = height} f = record {
+pub cell-fits : {bytes n j cell : ℕ} {p : Framebuffer} → BandFits bytes n j cell p → CellFits bytes (n * p .width) (j * p .width) cell (p .width) (p .height)
+cell-fits {n = n} {p = p} f = record {
   some = f .some-wide;
   wide = f .wide;
   high = f .high;
   whole = f .whole;
-  right = omega (arith, mul-le-mul-right width (f .some));
-  band = let k : n * width ≤ 30 * 256 = mul-le-mul (f .few) (f .wide) in omega arith;
-  below = omega (arith, f .area, ap (λ (m : ℕ). n * m) (f .whole), mul-assoc n width height, mul-comm height (n * width));
+  right = omega (arith, mul-le-mul-right (p .width) (f .some));
+  band = let k : n * p .width ≤ 30 * 256 = mul-le-mul (f .few) (f .wide) in omega arith;
+  below = omega (arith, f .area, ap (λ (m : ℕ). n * m) (f .whole), mul-assoc n (p .width) (p .height), mul-comm (p .height) (n * p .width));
 }
 
 -- the same after the band was written to
-pub band-cell : {bytes n j cell width height b : ℕ} → BandFits bytes n j cell width height → b ≡ bytes → CellFits b (n * width) (j * width) cell width height
-band-cell {n = n} {j = j} {cell = cell} {width = width} {height = height} f e =
-    subst (λ (m : ℕ). CellFits m (n * width) (j * width) cell width height) (sym e) (cell-fits f)
+pub band-cell : {bytes n j cell b : ℕ} {p : Framebuffer} → BandFits bytes n j cell p → b ≡ bytes → CellFits b (n * p .width) (j * p .width) cell (p .width) (p .height)
+band-cell {n = n} {j = j} {cell = cell} {p = p} f e =
+    subst (λ (m : ℕ). CellFits m (n * p .width) (j * p .width) cell (p .width) (p .height)) (sym e) (cell-fits f)
 
-pub band-products : {bytes n j cell width height : ℕ} → BandFits bytes n j cell width height → (n * width ≤ 7680) × (j * width ≤ 7680)
-band-products {n = n} {j = j} {width = width} f =
-    let k : n * width ≤ 30 * 256 = mul-le-mul (f .few) (f .wide) in
+pub band-products : {bytes n j cell : ℕ} {p : Framebuffer} → BandFits bytes n j cell p → (n * p .width ≤ 7680) × (j * p .width ≤ 7680)
+band-products {n = n} {j = j} {p = p} f =
+    let k : n * p .width ≤ 30 * 256 = mul-le-mul (f .few) (f .wide) in
     let i : j ≤ n = omega (arith, f .some) in
-    (omega arith, omega (arith, mul-le-mul-right width i))
+    (omega arith, omega (arith, mul-le-mul-right (p .width) i))

@@ -7,7 +7,7 @@ use lib.Dec.{eqb, ltb}
 use lib.IntN.{pos, natAbs, _-ℤ_}
 use lib.ListN.{length, getD, replicate}
 use Rattle.integers.specs.Integers.{pick}
-use Rattle.definitions.specs.Vocabulary.{Rectangle}
+use Rattle.definitions.specs.Vocabulary.{Framebuffer, Rectangle}
 use Rattle.definitions.specs.Picture.{keep, put, Picture, covers}
 use Rattle.definitions.specs.Framebuffer.{shown}
 
@@ -56,11 +56,11 @@ pub record CellFits (bytes bandWidth column cell width height : ℕ) : Type 0 wh
   pub below : height * bandWidth ≤ bytes
 
 -- A band of n cells; the reading goes into cell j.
-pub record BandFits (bytes n j cell width height : ℕ) : Type 0 where
-  pub some-wide : 1 ≤ width
-  pub wide : width ≤ 256
-  pub high : height ≤ 256
-  pub whole : cell ≡ width * height
+pub record BandFits (bytes n j cell : ℕ) (p : Framebuffer) : Type 0 where
+  pub some-wide : 1 ≤ p .width
+  pub wide : p .width ≤ 256
+  pub high : p .height ≤ 256
+  pub whole : cell ≡ p .width * p .height
   pub some : j < n
   pub few : n ≤ 30
   pub area : bytes ≡ n * cell

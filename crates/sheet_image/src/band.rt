@@ -5,6 +5,7 @@ ghost use lib.ListN.{length};
 ghost use Rattle.sheet_image.specs.Grid.{withCell, begun, nextCell, BandFits};
 use crate::grid::place_cell;
 use buffers::fill;
+use types::framebuffer::Framebuffer;
 
 // How many readings stand side by side in the image: as many as the band holds, and at most 30.
 pub fn columns(cell: usize) -> usize
@@ -30,15 +31,16 @@ pub fn put_cell(
     n: usize,
     j: usize,
     screen: &[u8],
-    width: usize,
-    height: usize,
+    framebuffer: Framebuffer,
     is_last: bool,
     image: i32,
 ) -> usize
-    requires { ⌜ BandFits (length (now band)) n j (length (now screen)) width height ⌝ }
+    requires { ⌜ BandFits (length (now band)) n j (length (now screen)) framebuffer ⌝ }
     ensures next { λ r. ⌜ (r ≡ nextCell n j «is_last») × (r < n) ⌝ }
-    ensures placed { λ r. ⌜ now (band .exit) ≡ withCell (n * width) (j * width) (now (screen .entry)) width height (begun j (now (band .entry))) ⌝ }
+    ensures placed { λ r. ⌜ now (band .exit) ≡ withCell (n * framebuffer .width) (j * framebuffer .width) (now (screen .entry)) (framebuffer .width) (framebuffer .height) (begun j (now (band .entry))) ⌝ }
 {
+    let width = framebuffer.width;
+    let height = framebuffer.height;
     begin_band(&mut band[..], j);
     place_cell(&mut band[..], n * width, j * width, screen, width, height);
     if is_last {

@@ -1,13 +1,14 @@
 -- The sheet's framebuffers, its band and its image fit. Assumes nothing.
 use Rattle.integers.proofs.Prelude.{_≡_, sym, ap, _∙_, List, ℕ, _+_, _-_, _*_, _/_, _≤_, _<_, div-le-self, mul-le-mul, arith, length, take}
 use Rattle.integers.proofs.Prelude.{length-take-le}
+use Rattle.definitions.specs.Vocabulary.{Framebuffer}
 use Rattle.sheet_image.specs.Grid.{BandFits}
 use Rattle.readings.specs.Readings.{PlaceFits}
 use Rattle.sheet_program.specs.Sheets.{SheetFits}
 
 -- the reading's cell in the part of the band that is used
-pub used-band : {width height ground screen alone band n j bytes cell : ℕ} → SheetFits width height ground screen alone band → j < n → n ≤ 30 → bytes ≡ n * ground
-    → cell ≡ screen → BandFits bytes n j cell width height
+pub used-band : {p : Framebuffer} {ground screen alone band n j bytes cell : ℕ} → SheetFits p ground screen alone band → j < n → n ≤ 30 → bytes ≡ n * ground
+    → cell ≡ screen → BandFits bytes n j cell p
 used-band {n = n} f some few area same = record {
   some-wide = f .some-wide;
   wide = f .wide;
@@ -18,20 +19,20 @@ used-band {n = n} f some few area same = record {
   area = area ∙ ap (λ (m : ℕ). n * m) (f .as-screen ∙ sym same);
 }
 
-pub cell-size : {width height ground screen alone band : ℕ} → SheetFits width height ground screen alone band → (1 ≤ ground) × (ground ≤ 65536)
+pub cell-size : {p : Framebuffer} {ground screen alone band : ℕ} → SheetFits p ground screen alone band → (1 ≤ ground) × (ground ≤ 65536)
 cell-size f =
     (omega (arith, f .whole, mul-le-mul (f .some-wide) (f .some-high)), omega (arith, f .whole, mul-le-mul (f .wide) (f .high)))
 
 -- a framebuffer of the place's size, at the front of the largest
-module _ {width height : ℕ} (f : PlaceFits width height) where
-  pub place-size : width * height ≤ 65536
+module _ {p : Framebuffer} (f : PlaceFits (p .width) (p .height)) where
+  pub place-size : p .width * p .height ≤ 65536
   place-size = mul-le-mul (f .wide) (f .high)
 
-  pub front-length : (l : List ℕ) → length l ≡ 65536 → length (take (width * height) l) ≡ width * height
-  front-length l e = length-take-le (width * height) l (omega (arith, place-size))
+  pub front-length : (l : List ℕ) → length l ≡ 65536 → length (take (p .width * p .height) l) ≡ p .width * p .height
+  front-length l e = length-take-le (p .width * p .height) l (omega (arith, place-size))
 
   pub sheet-fits : (ground screen alone band : List ℕ) → length ground ≡ 65536 → length screen ≡ 65536 → length alone ≡ 65536 → length band ≡ 262000
-      → SheetFits width height (length (take (width * height) ground)) (length (take (width * height) screen)) (length (take (width * height) alone)) (length band)
+      → SheetFits p (length (take (p .width * p .height) ground)) (length (take (p .width * p .height) screen)) (length (take (p .width * p .height) alone)) (length band)
   sheet-fits ground screen alone band g s a b = record {
     some-wide = f .some-wide;
     wide = f .wide;

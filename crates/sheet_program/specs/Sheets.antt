@@ -3,6 +3,7 @@ use mathlib.Core.Path.{_≡_}
 use mathlib.Core.Bool.{Bool}
 use mathlib.Core.List.{List}
 use Prim.Native.Nat.{ℕ, _*_, _≤_}
+use Rattle.definitions.specs.Vocabulary.{Framebuffer}
 use Rattle.redraw.specs.declared.place.Place.{Place}
 use Rattle.readings.specs.Ground.{ground as groundOf}
 use Rattle.readings.specs.Sheet.{totalsTo, Sound}
@@ -10,12 +11,12 @@ use Rattle.sheet_program.specs.declared.values.Sheet.{Sheet}
 use Rattle.sheet_program.specs.declared.values.Sheet.the-variants.{Made, NoImage}
 
 -- The framebuffers of a sheet have one size, and the band holds 262,000 bytes.
-pub record SheetFits (width height ground screen alone band : ℕ) : Type 0 where
-  pub some-wide : 1 ≤ width
-  pub wide : width ≤ 256
-  pub some-high : 1 ≤ height
-  pub high : height ≤ 256
-  pub whole : ground ≡ width * height
+pub record SheetFits (p : Framebuffer) (ground screen alone band : ℕ) : Type 0 where
+  pub some-wide : 1 ≤ p .width
+  pub wide : p .width ≤ 256
+  pub some-high : 1 ≤ p .height
+  pub high : p .height ≤ 256
+  pub whole : ground ≡ p .width * p .height
   pub as-screen : ground ≡ screen
   pub as-alone : ground ≡ alone
   pub enough : band ≡ 262000

@@ -12,11 +12,13 @@ use libc::STDOUT_FILENO;
 use readings::ground::lay_ground;
 use readings::texts::COUNT;
 use readings::values::Totals;
+use readings::values::Trial;
 use redraw::place::Place;
 use sheet_extent::place::place_for;
 use sheet_extent::values::Options;
 use sheet_image::band::columns;
 use types::error::Error;
+use types::framebuffer::Framebuffer;
 
 fn print_number(n: usize, words: &[u8]) {
     io::print_decimal(STDOUT_FILENO, n as u64);
@@ -35,14 +37,14 @@ fn print_totals(totals: Totals) {
 }
 
 // The head of a PGM image of all readings, n in a row.
-fn write_head(image: i32, width: usize, height: usize, n: usize)
-    requires { ⌜ (width ≤ 256) × ((height ≤ 256) × ((1 ≤ n) × (n ≤ 30))) ⌝ }
+fn write_head(image: i32, framebuffer: Framebuffer, n: usize)
+    requires { ⌜ (framebuffer .width ≤ 256) × ((framebuffer .height ≤ 256) × ((1 ≤ n) × (n ≤ 30))) ⌝ }
 {
     let rows = (COUNT + n - 1) / n;
     io::write_all(image, b"P5\n");
-    io::print_decimal(image, (n * width) as u64);
+    io::print_decimal(image, (n * framebuffer.width) as u64);
     io::write_all(image, b" ");
-    io::print_decimal(image, (rows * height) as u64);
+    io::print_decimal(image, (rows * framebuffer.height) as u64);
     io::write_all(image, b"\n255\n");
 }
 
@@ -56,7 +58,7 @@ fn fill_sheet(
     alone: &mut [u8],
     band: &mut [u8],
 ) -> Sheet
-    requires { ⌜ SheetFits (place .framebuffer .width) (place .framebuffer .height) (length (now ground)) (length (now screen)) (length (now alone)) (length (now band)) ⌝ }
+    requires { ⌜ SheetFits (place .framebuffer) (length (now ground)) (length (now screen)) (length (now alone)) (length (now band)) ⌝ }
     ensures { λ r. ⌜ SheetOf narrow (now (font .entry)) place r ⌝ }
 {
     lay_ground(font, place, &mut ground[..]);
@@ -67,8 +69,10 @@ fn fill_sheet(
         os::fail(path);
         return Sheet::NoImage;
     }
-    write_head(image, place.width, place.height, columns(ground.len()));
-    let totals = run(font, narrow, place, &ground[..], screen, alone, band, image);
+    let framebuffer = place.framebuffer;
+    write_head(image, framebuffer, columns(ground.len()));
+    let trial = Trial { place, narrow };
+    let totals = run(font, trial, &ground[..], screen, alone, band, image);
     libc::close(image);
     Sheet::Made(totals)
 }
@@ -88,7 +92,8 @@ pub fn make_sheet(
     ensures { λ r. ⌜ SheetOf (options .narrow) (now (font .entry)) (placeFor (now (font .entry)) options) r ⌝ }
 {
     let place = place_for(font, options);
-    let cell = place.width * place.height;
+    let framebuffer = place.framebuffer;
+    let cell = framebuffer.width * framebuffer.height;
     fill_sheet(
         font,
         place,

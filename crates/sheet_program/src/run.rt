@@ -11,7 +11,7 @@ use readings::texts::COUNT;
 use readings::texts::write_reading;
 use readings::values::Found;
 use readings::values::Totals;
-use redraw::place::Place;
+use readings::values::Trial;
 use sheet_image::band::columns;
 use sheet_image::band::put_cell;
 use types::results::DimensionsResult;
@@ -42,20 +42,21 @@ fn report(k: usize, found: Found) {
 // that is background wherever a reading can stand, none differs.
 pub fn run(
     font: &[u8],
-    narrow: bool,
-    place: Place,
+    trial: Trial,
     ground: &[u8],
     screen: &mut [u8],
     alone: &mut [u8],
     band: &mut [u8],
     image: i32,
 ) -> Totals
-    requires fits { ⌜ SheetFits (place .framebuffer .width) (place .framebuffer .height) (length (now ground)) (length (now screen)) (length (now alone)) (length (now band)) ⌝ }
+    requires fits { ⌜ SheetFits (trial .place .framebuffer) (length (now ground)) (length (now screen)) (length (now alone)) (length (now band)) ⌝ }
     requires begins { ⌜ now screen ≡ now ground ⌝ }
-    ensures totals { λ r. ⌜ r ≡ totalsTo narrow (now (font .entry)) place (now (ground .entry)) 901 ⌝ }
-    ensures left { λ r. ⌜ now (screen .exit) ≡ screenAt narrow (now (font .entry)) place (now (ground .entry)) 901 .bytes ⌝ }
-    ensures sound { λ r. ⌜ (ClearTo 901 (now (font .entry)) place (now (ground .entry)) → Sound narrow (now (font .entry)) place (now (ground .entry)) r) ⌝ }
+    ensures totals { λ r. ⌜ r ≡ totalsTo (trial .narrow) (now (font .entry)) (trial .place) (now (ground .entry)) 901 ⌝ }
+    ensures left { λ r. ⌜ now (screen .exit) ≡ screenAt (trial .narrow) (now (font .entry)) (trial .place) (now (ground .entry)) 901 .bytes ⌝ }
+    ensures sound { λ r. ⌜ (ClearTo 901 (now (font .entry)) (trial .place) (now (ground .entry)) → Sound (trial .narrow) (now (font .entry)) (trial .place) (now (ground .entry)) r) ⌝ }
 {
+    let place = trial.place;
+    let framebuffer = place.framebuffer;
     let n = columns(ground.len());
     let used = n * ground.len();
     let mut totals = Totals {
@@ -67,16 +68,7 @@ pub fn run(
     let mut j: usize = 0;
     let mut k: usize = 0;
     while k < COUNT {
-        let found = step(
-            font,
-            old,
-            k,
-            narrow,
-            place,
-            ground,
-            &mut screen[..],
-            &mut alone[..],
-        );
+        let found = step(font, old, k, trial, ground, &mut screen[..], &mut alone[..]);
         report(k, found);
         totals = counted(totals, found);
         old = found.old;
@@ -86,8 +78,7 @@ pub fn run(
             n,
             j,
             &screen[..],
-            place.width,
-            place.height,
+            framebuffer,
             is_last,
             image,
         );

@@ -8,11 +8,11 @@ use Rattle.readings.proofs.check.redraw_on.Tie as tie
 
 returns : tie.Need-returns
 returns c =
-    let a = c .before .before .before .before .before .before .before .before .before .args in
+    let a = c .before .before .before .before .before .before .before .before .before .before .args in
     let r = c .before .before .redraw-narrow .ensures in
-    let new = asked (a .place) (a .new-text .now) in
-    let screen = groundOf (a .place) (a .screen .now) in
-    let left : Bool → List ℕ = λ b. stepBuffer b (a .font .now) (a .old-text .now) new (a .place .background) screen in
+    let new = asked (a .trial .place) (a .new-text .now) in
+    let screen = groundOf (a .trial .place) (a .screen .now) in
+    let left : Bool → List ℕ = λ b. stepBuffer b (a .font .now) (a .old-text .now) new (a .trial .place .background) screen in
     (r .0, r .1 ∙ ap left (sym (c .before .before .before .before .if1 .taken)))
 
 returns-2 : tie.Need-returns-2

@@ -15,9 +15,9 @@ returns c =
     let e = to-the-end (w .last .1 .0) (w .result) 6 (c .before .before .before .before .before .before .before .before .before .before .before .old-text2 .given) ∙ w .ensures .1 in
     let f = to-the-end (v .last .1 .0) (v .result) 6 (c .before .before .before .before .before .before .before .before .new-text2 .given) ∙ v .ensures .1 in
     let r = c .before .before .redraw-on .ensures in
-    let p = groundOf (a .place) (a .screen .now) in (
-      both-texts (λ o n. redrawn (a .font .now) o (asked (a .place) n) p) e f (r .0),
-      both-texts (λ o n. stepBuffer (a .narrow) (a .font .now) o (asked (a .place) n) (a .place .background) p) e f (r .1),
+    let p = groundOf (a .trial .place) (a .screen .now) in (
+      both-texts (λ o n. redrawn (a .font .now) o (asked (a .trial .place) n) p) e f (r .0),
+      both-texts (λ o n. stepBuffer (a .trial .narrow) (a .font .now) o (asked (a .trial .place) n) (a .trial .place .background) p) e f (r .1),
     )
 
 pub draw-over-spec : {M : Type 1} → statement M

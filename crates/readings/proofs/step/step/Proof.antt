@@ -11,13 +11,13 @@ use Rattle.readings.proofs.step.step.Tie as tie
 
 returns : tie.Need-returns
 returns c =
-    let a = c .before .before .before .before .before .before .before .before .before .before .before .before .before .before .args in
+    let a = c .before .before .before .before .before .before .before .before .before .before .before .before .before .before .before .args in
     let d = c .before .before .before .before .before .before .before .before .draw-over .ensures in
     record {
       answer = d .0;
       old = c .before .before .before .before .before .next-old .ensures ∙ ap (λ (o : Outcome RenderedDimensions). pick (taken o) (a .k) (a .old)) (d .0);
       bytes = d .1;
-      differing = c .before .before .compare .ensures ∙ ap (λ (l : List ℕ). differences l (wanted (a .font .now) (a .place) (a .ground .now) (a .k))) (d .1);
+      differing = c .before .before .compare .ensures ∙ ap (λ (l : List ℕ). differences l (wanted (a .font .now) (a .trial .place) (a .ground .now) (a .k))) (d .1);
     }
 
 pub step-spec : {M : Type 1} → statement M

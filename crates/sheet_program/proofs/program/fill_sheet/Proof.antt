@@ -8,17 +8,17 @@ use Rattle.sheet_program.proofs.program.fill_sheet.Tie as tie
 
 columns-requires : tie.Need-columns-requires
 columns-requires c κs =
-    let k = cell-size (c .before .before .before .before .before .before .before .before .before .before .before .before .before .before .before .before .before .before .pre) in
-    let same = c .before .before .before .before .before .before .before .before .before .before .ground .given in
+    let k = cell-size (c .before .before .before .before .before .before .before .before .before .before .before .before .before .before .before .before .before .before .before .pre) in
+    let same = c .before .before .before .before .before .before .before .before .before .before .before .ground .given in
     (omega (arith, k .0, same), omega (arith, k .1, same))
 
 run-requires : tie.Need-run-requires
-run-requires c κs = (search needs, c .before .before .before .before .before .before .before .before .before .before .before .before .copy .ensures .1 ∙ whole _ _ (search needs))
+run-requires c κs = (search needs, c .before .before .before .before .before .before .before .before .before .before .before .before .before .copy .ensures .1 ∙ whole _ _ (search needs))
 
 returns-2 : tie.Need-returns-2
 returns-2 c =
     let s = c .before .before .before .before .before .before .before .before .before .before .before .before .before .before .before .before .before
-    .before .before .before .before .before .before .before .before in
+    .before .before .before .before .before .before .before .before .before in
     let a = s .before .before .before .before .before .before .before .args in
     let g = s .lay-ground .ensures in
     let r = c .before .before .before .before .before .before .before .run in (

@@ -7,43 +7,43 @@ use Rattle.sheet_program.proofs.run.run.Statement.{statement}
 use Rattle.sheet_program.proofs.run.run.Tie as tie
 
 abbrev Inv-loop : tie.InvT-loop
-Inv-loop font narrow place ground screen₀ alone₀ band₀ image n used totals₀ old₀ j₀ k₀ screen alone band totals old j k =
+Inv-loop font trial ground screen₀ alone₀ band₀ image framebuffer n used totals₀ old₀ j₀ k₀ screen alone band totals old j k =
     (k ≤ 901) × ((j < n) × ((length screen ≡ length screen₀) × ((length alone ≡ length alone₀) × ((length band ≡ length band₀)
-    × ((screenOf old screen ≡ screenAt narrow font place ground k) × (totals ≡ totalsTo narrow font place ground k))))))
+    × ((screenOf old screen ≡ screenAt (trial .narrow) font (trial .place) ground k) × (totals ≡ totalsTo (trial .narrow) font (trial .place) ground k))))))
 
 abbrev μ-loop : tie.MeasureT-loop
-μ-loop font narrow place ground screen₀ alone₀ band₀ image n used totals₀ old₀ j₀ k₀ screen alone band totals old j k = 901 - k
+μ-loop font trial ground screen₀ alone₀ band₀ image framebuffer n used totals₀ old₀ j₀ k₀ screen alone band totals old j k = 901 - k
 
 columns-requires : tie.Need-columns-requires Inv-loop μ-loop
-columns-requires c κs = cell-size (c .before .before .before .before .before .pre .0)
+columns-requires c κs = cell-size (c .before .before .before .before .before .before .before .pre .0)
 
 mul-used : tie.Need-mul-used Inv-loop μ-loop
 mul-used c = omega (arith, c .columns .ensures .1 .1)
 
 loop-holds : tie.Need-loop-holds Inv-loop μ-loop
 loop-holds c =
-    let s = c .before .before .before .before .before .before in
+    let s = c .before .before .before .before .before .before .before .before in
     let a = s .args in
-    let screen = ap (screenOf 901) (s .pre .1) ∙ start-screen (a .narrow) (a .font .now) (a .place) (a .ground .now) in
-    let totals = start-totals (a .narrow) (a .font .now) (a .place) (a .ground .now) in
+    let screen = ap (screenOf 901) (s .pre .1) ∙ start-screen (a .trial .narrow) (a .font .now) (a .trial .place) (a .ground .now) in
+    let totals = start-totals (a .trial .narrow) (a .font .now) (a .trial .place) (a .ground .now) in
     (omega arith, (omega (arith, c .columns .ensures .0), (refl, (refl, (refl, (screen, totals))))))
 
 counted-requires : tie.Need-counted-requires Inv-loop μ-loop
 counted-requires c κs =
-    let a = c .before .before .before .before .before .before .before .before .before .before .before .before .before .before .before .before .args in
+    let a = c .before .before .before .before .before .before .before .before .before .before .before .before .before .before .before .before .before .before .args in
     let l = c .before .before .before .before .before .before .before .before in
-    few (a .narrow) (a .font .now) (a .place) (a .ground .now) (l .loop-test .taken) (l .before .loop .inv .1 .1 .1 .1 .1 .1)
+    few (a .trial .narrow) (a .font .now) (a .trial .place) (a .ground .now) (l .loop-test .taken) (l .before .loop .inv .1 .1 .1 .1 .1 .1)
 
 slice-aggregate-put-cell : tie.Need-slice-aggregate-put-cell Inv-loop μ-loop
 slice-aggregate-put-cell c =
-    let s = c .before .before .before .before .before .before .before .before .before .before .before .before .before .before .before .before .before .before in
+    let s = c .before .before .before .before .before .before .before .before .before .before .before .before .before .before .before .before .before .before .before .before in
     let l = c .before .before .before .before .before .before .before .before .before .before .before .loop in
     let n = c .before .before .before .before .before .before .before .before .before .before .before .before .columns in
     sym (length-take-le (n .result * length (s .args .ground .now)) (l .band) (omega (arith, n .ensures .1 .1, s .pre .0 .enough, l .inv .1 .1 .1 .1 .0)))
 
 put-cell-requires : tie.Need-put-cell-requires Inv-loop μ-loop
 put-cell-requires c κs =
-    let s = c .before .before .before .before .before .before .before .before .before .before .before .before .before .before .before .before .before .before .before in
+    let s = c .before .before .before .before .before .before .before .before .before .before .before .before .before .before .before .before .before .before .before .before .before in
     let l = c .before .before .before .before .before .before .before .before .before .before .before .before .loop in
     let n = c .before .before .before .before .before .before .before .before .before .before .before .before .before .columns in
     used-band (s .pre .0) (l .inv .1 .0) (n .ensures .1 .0)
@@ -52,13 +52,13 @@ put-cell-requires c κs =
 
 loop-again : tie.Need-loop-again Inv-loop μ-loop
 loop-again c =
-    let a = c .before .before .before .before .before .before .before .before .before .before .before .before .before .before .before .before .before .before .before .before .before .before .args in
+    let a = c .before .before .before .before .before .before .before .before .before .before .before .before .before .before .before .before .before .before .before .before .before .before .before .before .args in
     let l = c .before .before .before .before .before .before .before .before .before .before .before .before .before .before .before .loop in
     let e = l .inv .1 .1 .1 .1 .1 in
     let finds = c .before .before .before .before .before .before .before .before .before .before .before .step .ensures in
     let counts = c .before .before .before .before .before .counted .ensures in
-    let next-s = next-screen (a .narrow) (a .font .now) (a .place) (a .ground .now) (e .0) finds in
-    let next-t = next-totals (a .narrow) (a .font .now) (a .place) (a .ground .now) (e .0) finds (e .1) counts in
+    let next-s = next-screen (a .trial .narrow) (a .font .now) (a .trial .place) (a .ground .now) (e .0) finds in
+    let next-t = next-totals (a .trial .narrow) (a .font .now) (a .trial .place) (a .ground .now) (e .0) finds (e .1) counts in
     let screen = c .before .before .before .before .before .before .before .before .before .before .screen .given in
     let alone = c .before .before .before .before .before .before .before .before .alone .given in
     let band = c .before .band .given in (
@@ -74,15 +74,15 @@ loop-again c =
 
 returns : tie.Need-returns Inv-loop μ-loop
 returns c =
-    let a = c .before .before .before .before .before .before .before .before .args in
+    let a = c .before .before .before .before .before .before .before .before .before .before .args in
     let l = c .before .loop in
     let all : l .k ≡ 901 = omega arith in
     let e = l .inv .1 .1 .1 .1 .1 in
-    let t = e .1 ∙ ap (totalsTo (a .narrow) (a .font .now) (a .place) (a .ground .now)) all in (
+    let t = e .1 ∙ ap (totalsTo (a .trial .narrow) (a .font .now) (a .trial .place) (a .ground .now)) all in (
       t,
       (
-        ap (λ (s : Screen). s .bytes) (e .0 ∙ ap (screenAt (a .narrow) (a .font .now) (a .place) (a .ground .now)) all),
-        λ clear. subst (Sound (a .narrow) (a .font .now) (a .place) (a .ground .now)) (sym t) (sound (a .narrow) (a .font .now) (a .place) (a .ground .now) clear),
+        ap (λ (s : Screen). s .bytes) (e .0 ∙ ap (screenAt (a .trial .narrow) (a .font .now) (a .trial .place) (a .ground .now)) all),
+        λ clear. subst (Sound (a .trial .narrow) (a .font .now) (a .trial .place) (a .ground .now)) (sym t) (sound (a .trial .narrow) (a .font .now) (a .trial .place) (a .ground .now) clear),
       ),
     )
 
