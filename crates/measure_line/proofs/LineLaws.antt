@@ -5,7 +5,7 @@ use Rattle.types.specs.declared.style.VerticalPosition.the-variants.{Baseline}
 use Rattle.definitions.specs.Refusals.{success, refused}
 use Rattle.definitions.specs.Text.{point}
 use Rattle.definitions.specs.Font.{u8g2}
-use Rattle.definitions.specs.Calls.{openFont, plain, measure}
+use Rattle.definitions.specs.Calls.{openFont, placed, plain, measure}
 use Rattle.numbers.specs.Written.{Written}
 use Rattle.numbers.proofs.WriterLaws.{spelled-as, then, four-pieces}
 use Rattle.measure_line.specs.Line.{measuredByProgram}
@@ -36,6 +36,6 @@ module _ (font text : List ℕ) where
     font-refused n c e = simp (le-ltb 65536 (length font) h, e)
 
     pub font-opens : (head : FontReader) → openFont font ≡ success head
-        → measuredByProgram font text ≡ measure (u8g2 font) (plain text (point (pos 0) (pos 0)) Baseline (head .«line_height») false)
+        → measuredByProgram font text ≡ measure (u8g2 font) (plain text (placed (point (pos 0) (pos 0)) Baseline (head .«line_height») false))
     unfolding measuredByProgram
     font-opens head e = simp (le-ltb 65536 (length font) h, e)

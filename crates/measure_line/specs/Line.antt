@@ -13,7 +13,7 @@ use Rattle.definitions.specs.Refusals.{Outcome, success, refused}
 use Rattle.definitions.specs.Geometry.{left, top}
 use Rattle.definitions.specs.Text.{point}
 use Rattle.definitions.specs.Font.{u8g2}
-use Rattle.definitions.specs.Calls.{openFont, Request, plain, measure}
+use Rattle.definitions.specs.Calls.{openFont, Request, placed, plain, measure}
 use Rattle.numbers.specs.Decimal.{decimal, signedDecimal}
 
 -- ---- the line of an outcome
@@ -45,7 +45,7 @@ outcomeLine o = firstWord o ++ spaced (laterWords o) ++ 10 ∷ []
 
 -- place (0, 0), Baseline, the font's default line height, nothing skipped
 abbrev pub byProgram : List ℕ → FontReader → Request
-byProgram text head = plain text (point (pos 0) (pos 0)) Baseline (head .«line_height») false
+byProgram text head = plain text (placed (point (pos 0) (pos 0)) Baseline (head .«line_height») false)
 
 abbrev pub measureOpened : List ℕ → List ℕ → Outcome FontReader → Outcome RenderedDimensions
 measureOpened font text (success head) = measure (u8g2 font) (byProgram text head)

@@ -21,6 +21,7 @@ use types::geometry::Rectangle;
 use types::geometry::RenderedDimensions;
 use types::results::DimensionsResult;
 use types::results::FontReaderResult;
+use types::style::Placement;
 use types::style::VerticalPosition;
 use utils::error::error_code_point;
 use utils::error::error_number;
@@ -92,14 +93,15 @@ fn measured(font: &[u8], text: &[u8]) -> DimensionsResult
     }
     match new_from_raw_data(font) {
         FontReaderResult::Err(error) => DimensionsResult::Err(error),
-        FontReaderResult::Ok(head) => get_rendered_dimensions(
-            font,
-            text,
-            Point { x: 0, y: 0 },
-            VerticalPosition::Baseline,
-            head.line_height,
-            false,
-        ),
+        FontReaderResult::Ok(head) => {
+            let placement = Placement {
+                position: Point { x: 0, y: 0 },
+                vertical_pos: VerticalPosition::Baseline,
+                line_height: head.line_height,
+                ignore_unknown_chars: false,
+            };
+            get_rendered_dimensions(font, text, placement)
+        }
     }
 }
 

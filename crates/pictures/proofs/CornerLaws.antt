@@ -1,11 +1,10 @@
 -- Drawing at the opposite of the corner of a text's box: the call is the definition's, and all of the text is seen. Assumes nothing.
 use Rattle.integers.proofs.Prelude.{_≡_, sym, subst, _∙_, false, List, ℕ, _≤_, ℤ, pos, _-ℤ_, length}
-use Rattle.definitions.specs.Vocabulary.{Point, Rectangle, RenderedDimensions, FontColor}
+use Rattle.definitions.specs.Vocabulary.{Framebuffer, Point, Rectangle, RenderedDimensions, FontColor}
 use Rattle.definitions.specs.Refusals.{Outcome, success}
 use Rattle.definitions.specs.Geometry.{left, top}
 use Rattle.definitions.specs.Text.{point}
 use Rattle.definitions.specs.Font.{u8g2}
-use Rattle.definitions.specs.Framebuffer.{sized}
 use Rattle.definitions.specs.Calls.{draw, drawBuffer}
 use Rattle.pictures.specs.Whole.{whole, measuredAtZero, opposite, drawnWhole, shownWhole, boxed, SeenWhole}
 use Rattle.pictures.proofs.WholeLaws.{NearPlace, near, seen-whole}
@@ -14,15 +13,15 @@ use Rattle.pictures.specs.Drawings.{Measured, Framed}
 pub corner-near : {font text : List ℕ} {lineHeight : ℕ} {r : Rectangle} → Measured font text lineHeight r → NearPlace r
 corner-near {font} {text} {lineHeight} {r} m = near font text lineHeight (m .advance) r (m .low) (m .box)
 
-module _ (font text : List ℕ) (lineHeight : ℕ) (color : FontColor) (r : Rectangle) (x y : ℤ) (width height : ℕ) (pixels : List ℕ)
-    (at-x : x ≡ pos 0 -ℤ left r) (at-y : y ≡ pos 0 -ℤ top r) (m : Measured font text lineHeight r) (f : Framed r width height (length pixels)) where
+module _ (font text : List ℕ) (lineHeight : ℕ) (color : FontColor) (r : Rectangle) (x y : ℤ) (p : Framebuffer) (pixels : List ℕ)
+    (at-x : x ≡ pos 0 -ℤ left r) (at-y : y ≡ pos 0 -ℤ top r) (m : Measured font text lineHeight r) (f : Framed r p (length pixels)) where
   place : point x y ≡ opposite r
   place = cc (at-x, at-y)
 
-  pub call-answers : draw (u8g2 font) (whole text lineHeight (point x y)) color (sized width height) pixels ≡ drawnWhole font text lineHeight color r pixels
+  pub call-answers : draw (u8g2 font) (whole text lineHeight (point x y)) color p pixels ≡ drawnWhole font text lineHeight color r pixels
   call-answers = rw (place, f .width-is, f .height-is)
 
-  pub call-shows : drawBuffer (u8g2 font) (whole text lineHeight (point x y)) color (sized width height) pixels ≡ shownWhole font text lineHeight color r pixels
+  pub call-shows : drawBuffer (u8g2 font) (whole text lineHeight (point x y)) color p pixels ≡ shownWhole font text lineHeight color r pixels
   call-shows = rw (place, f .width-is, f .height-is)
 
   pub call-seen : {o : Outcome RenderedDimensions} → o ≡ drawnWhole font text lineHeight color r pixels

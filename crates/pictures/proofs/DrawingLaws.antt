@@ -10,7 +10,7 @@ use Rattle.definitions.specs.Text.{dimensions}
 use Rattle.definitions.specs.Limits.{textCause, positionCause}
 use Rattle.definitions.specs.Font.{u8g2}
 use Rattle.definitions.specs.Calls.{openFont, measuredText, measure}
-use Rattle.pictures.specs.Whole.{atZero, whole, measuredAtZero, drawnWhole, shownWhole, boxed, SeenWhole}
+use Rattle.pictures.specs.Whole.{roomFor, atZero, whole, measuredAtZero, drawnWhole, shownWhole, boxed, SeenWhole}
 use Rattle.definitions.proofs.OpenedLaws.{opened, open-refused}
 use Rattle.pictures.specs.Drawings.{Measured, Framed, area, Called}
 
@@ -22,7 +22,7 @@ module _ (r : Rectangle) (before : List ℕ) (wide : r .size .width ≤ 256) (hi
   pub part-length : length (take (area r) before) ≡ area r
   part-length = length-take-le (area r) before (omega (arith, area-most wide high))
 
-  pub framed : Framed r (r .size .width) (r .size .height) (length (take (area r) before))
+  pub framed : Framed r (roomFor r) (length (take (area r) before))
   framed = record { width-is = refl; height-is = refl; wide = wide; high = high; area = part-length }
 
   module _ {font text : List ℕ} {lineHeight : ℕ} (color : FontColor) (m : Measured font text lineHeight r) where

@@ -5,7 +5,7 @@ use mathlib.Core.List.{List, _++_}
 use mathlib.Core.Logic.{_⊎_}
 use Prim.Native.Nat.{ℕ, _*_, _≤_, _<_}
 use lib.ListN.{take, drop}
-use Rattle.definitions.specs.Vocabulary.{None, Point, Rectangle, RenderedDimensions, FontColor}
+use Rattle.definitions.specs.Vocabulary.{Framebuffer, None, Point, Rectangle, RenderedDimensions, FontColor}
 use Rattle.definitions.specs.Refusals.{Outcome, success, refusal}
 use Rattle.pictures.specs.Whole.{measuredAtZero, drawnWhole, shownWhole, boxed, SeenWhole}
 use Rattle.pictures.specs.declared.whole.Drawing.{Drawing}
@@ -18,12 +18,12 @@ pub record Measured (font text : List ℕ) (lineHeight : ℕ) (r : Rectangle) : 
   pub box : measuredAtZero font text lineHeight ≡ success (boxed advance r)
 
 -- A framebuffer of r's size, and how many bytes it has.
-pub record Framed (r : Rectangle) (width height n : ℕ) : Type 0 where
-  pub width-is : width ≡ r .size .width
-  pub height-is : height ≡ r .size .height
-  pub wide : width ≤ 256
-  pub high : height ≤ 256
-  pub area : n ≡ width * height
+pub record Framed (r : Rectangle) (p : Framebuffer) (n : ℕ) : Type 0 where
+  pub width-is : p .width ≡ r .size .width
+  pub height-is : p .height ≡ r .size .height
+  pub wide : p .width ≤ 256
+  pub high : p .height ≤ 256
+  pub area : n ≡ p .width * p .height
 
 abbrev pub area : Rectangle → ℕ
 area r = r .size .width * r .size .height

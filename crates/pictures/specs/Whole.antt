@@ -13,14 +13,14 @@ use Rattle.definitions.specs.Geometry.{left, top}
 use Rattle.definitions.specs.Text.{point}
 use Rattle.definitions.specs.Font.{u8g2}
 use Rattle.definitions.specs.Framebuffer.{sized}
-use Rattle.definitions.specs.Calls.{Request, plain, measure, draw, drawBuffer}
+use Rattle.definitions.specs.Calls.{Request, placed, plain, measure, draw, drawBuffer}
 
 abbrev pub atZero : Point
 atZero = point (pos 0) (pos 0)
 
 -- what is asked, for that place
 abbrev pub whole : List ℕ → ℕ → Point → Request
-whole text lineHeight position = plain text position Baseline lineHeight false
+whole text lineHeight position = plain text (placed position Baseline lineHeight false)
 
 abbrev pub measuredAtZero : List ℕ → List ℕ → ℕ → Outcome RenderedDimensions
 measuredAtZero font text lineHeight = measure (u8g2 font) (whole text lineHeight atZero)

@@ -14,6 +14,7 @@ use font_reader::new_from_raw_data;
 use measuring::rendered_dimensions::get_rendered_dimensions;
 use renderer::render::render;
 use types::error::Error;
+use types::framebuffer::Framebuffer;
 use types::geometry::BoundingBox;
 use types::geometry::Point;
 use types::geometry::Rectangle;
@@ -22,7 +23,7 @@ use types::geometry::Size;
 use types::results::DimensionsResult;
 use types::results::FontReaderResult;
 use types::style::FontColor;
-use types::style::FontStyle;
+use types::style::Placement;
 use types::style::VerticalPosition;
 
 pub enum Drawing {
@@ -49,34 +50,24 @@ fn draw_at_corner(
     line_height: u32,
     rectangle: Rectangle,
     color: FontColor,
-    width: usize,
-    height: usize,
+    framebuffer: Framebuffer,
     pixels: &mut [u8],
 ) -> DimensionsResult
-    requires { ⌜ Measured (now font) (now text) «line_height» rectangle × Framed rectangle width height (length (now pixels)) ⌝ }
+    requires { ⌜ Measured (now font) (now text) «line_height» rectangle × Framed rectangle framebuffer (length (now pixels)) ⌝ }
     ensures answered { λ r. ⌜ dimensionsOutcome r ≡ drawnWhole (now (font .entry)) (now (text .entry)) «line_height» color rectangle (now (pixels .entry)) ⌝ }
     ensures shown { λ r. ⌜ now (pixels .exit) ≡ shownWhole (now (font .entry)) (now (text .entry)) «line_height» color rectangle (now (pixels .entry)) ⌝ }
     ensures seen { λ r. ⌜ ((advance : Point) → measuredAtZero (now (font .entry)) (now (text .entry)) «line_height» ≡ success (boxed advance rectangle) → SeenWhole advance rectangle (dimensionsOutcome r)) ⌝ }
 {
-    let position = Point {
-        x: opposite(rectangle.top_left.x),
-        y: opposite(rectangle.top_left.y),
-    };
-    let style = FontStyle {
-        color,
+    let placement = Placement {
+        position: Point {
+            x: opposite(rectangle.top_left.x),
+            y: opposite(rectangle.top_left.y),
+        },
         vertical_pos: VerticalPosition::Baseline,
-    };
-    render(
-        font,
-        text,
-        position,
-        style,
         line_height,
-        false,
-        width,
-        height,
-        pixels,
-    )
+        ignore_unknown_chars: false,
+    };
+    render(font, text, placement, color, framebuffer, pixels)
 }
 
 // Draws a text whose box at (0, 0) is the rectangle, if a framebuffer can be so large.
@@ -107,8 +98,7 @@ fn draw_box(
         line_height,
         rectangle,
         color,
-        width,
-        height,
+        Framebuffer { width, height },
         &mut buffer[..n],
     );
     match answer {
@@ -128,15 +118,13 @@ fn draw_measured(
     requires { ⌜ («line_height» ≤ 128) × (length (now buffer) ≡ 65536) ⌝ }
     ensures { λ r. ⌜ IsDrawing (now (font .entry)) (now (text .entry)) «line_height» color (now (buffer .entry)) (now (buffer .exit)) r ⌝ }
 {
-    let origin = Point { x: 0, y: 0 };
-    match get_rendered_dimensions(
-        font,
-        text,
-        origin,
-        VerticalPosition::Baseline,
+    let placement = Placement {
+        position: Point { x: 0, y: 0 },
+        vertical_pos: VerticalPosition::Baseline,
         line_height,
-        false,
-    ) {
+        ignore_unknown_chars: false,
+    };
+    match get_rendered_dimensions(font, text, placement) {
         DimensionsResult::Err(error) => Drawing::Refused(error),
         DimensionsResult::Ok(dimensions) => {
             let bounding_box = dimensions.bounding_box;

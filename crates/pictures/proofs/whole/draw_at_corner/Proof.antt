@@ -37,11 +37,11 @@ returns c =
     let y = stored w32 (second .ok) (simp (toZ-ofZ, fits-x s, fits-y s) at (second .ensures)) in
     let answer =
     c .before .before .render .ensures .0
-    ∙ call-answers (a .font .now) (a .text .now) (a .line-height) (a .color) (a .rectangle) _ _ (a .width) (a .height) (a .pixels .now) x y (s .pre .0) (s .pre .1) in
+    ∙ call-answers (a .font .now) (a .text .now) (a .line-height) (a .color) (a .rectangle) _ _ (a .framebuffer) (a .pixels .now) x y (s .pre .0) (s .pre .1) in
     let shows =
     c .before .before .render .ensures .1
-    ∙ call-shows (a .font .now) (a .text .now) (a .line-height) (a .color) (a .rectangle) _ _ (a .width) (a .height) (a .pixels .now) x y (s .pre .0) (s .pre .1) in
-    (answer, (shows, call-seen (a .font .now) (a .text .now) (a .line-height) (a .color) (a .rectangle) _ _ (a .width) (a .height) (a .pixels .now) x y (s .pre .0) (s .pre .1) answer))
+    ∙ call-shows (a .font .now) (a .text .now) (a .line-height) (a .color) (a .rectangle) _ _ (a .framebuffer) (a .pixels .now) x y (s .pre .0) (s .pre .1) in
+    (answer, (shows, call-seen (a .font .now) (a .text .now) (a .line-height) (a .color) (a .rectangle) _ _ (a .framebuffer) (a .pixels .now) x y (s .pre .0) (s .pre .1) answer))
 
 pub draw-at-corner-spec : {M : Type 1} → statement M
 draw-at-corner-spec =
