@@ -8,15 +8,15 @@ ghost use lib.ListN.{length};
 ghost use Rattle.definitions.specs.Font.{u8g2};
 ghost use Rattle.definitions.specs.Framebuffer.{sized};
 ghost use Rattle.definitions.specs.Calls.{openFont, fontBoundingBox, request, plain, measure, measureAligned, draw, drawBuffer};
-ghost use Rattle.redraw.specs.Drawing.{drawing, groundOf};
-ghost use Rattle.definitions.specs.Text.{point};
+ghost use Rattle.redraw.specs.Drawing.{asked, groundOf};
 ghost use Rattle.redraw.specs.Redraw.{redrawn, redrawnBuffer};
 ghost use Rattle.c_values.specs.Codes.{meaningOf};
-ghost use Rattle.c_values.specs.Replies.{Answers, inkOf, styleOf, drawnBy, boxReply, textReply, alignedReply};
+ghost use Rattle.c_values.specs.Replies.{Answers, inkOf, placedBy, drawnBy, boxReply, textReply, alignedReply};
 ghost use Rattle.c_values.specs.Headers.{Opens};
+ghost use Rattle.c_api.specs.Places.{placeBy};
 use c_values::codes::Codes;
+use c_values::codes::color_of;
 use c_values::codes::known_codes;
-use c_values::codes::style_of;
 use c_values::header::store_header;
 use c_values::reply::of_bounding_box;
 use c_values::reply::of_dimensions;
@@ -26,10 +26,13 @@ use font_reader::new_from_raw_data;
 use measuring::font_bounding_box::get_font_bounding_box;
 use measuring::rendered_dimensions::get_rendered_dimensions;
 use measuring::rendered_dimensions_aligned::get_rendered_dimensions_aligned;
+use redraw::place::Place;
 use redraw::reading::redraw;
 use renderer::render::render;
+use types::framebuffer::Framebuffer;
 use types::geometry::Point;
 use types::results::FontReaderResult;
+use types::style::Placement;
 use utils::error::error_number;
 
 const BAD_ARGUMENT: u32 = 255;
@@ -75,14 +78,19 @@ pub extern "C" fn papayahelm_measure(
     skip: u32,
     out: &mut [i64],
 ) -> u32
-    ensures { λ r. ⌜ Answers (meaningOf anchor 0 skip 0 (length (now (out .entry)))) (λ m. textReply (measure (u8g2 (now (font .entry))) (plain (now (text .entry)) (point x y) (m .«vertical_pos») «line_height» (m .skip)))) r (now (out .entry)) (now (out .exit)) ⌝ }
+    ensures { λ r. ⌜ Answers (meaningOf anchor 0 skip 0 (length (now (out .entry)))) (λ m. textReply (measure (u8g2 (now (font .entry))) (plain (now (text .entry)) (placedBy m x y «line_height»)))) r (now (out .entry)) (now (out .exit)) ⌝ }
 {
     let Codes::Known(m) = known_codes(anchor, 0, skip, 0, out.len()) else {
         return BAD_ARGUMENT;
     };
     let vertical_pos = m.vertical_pos;
-    let position = Point { x, y };
-    let result = get_rendered_dimensions(font, text, position, vertical_pos, line_height, m.skip);
+    let placement = Placement {
+        position: Point { x, y },
+        vertical_pos,
+        line_height,
+        ignore_unknown_chars: m.skip,
+    };
+    let result = get_rendered_dimensions(font, text, placement);
     store(out, of_dimensions(result))
 }
 
@@ -99,23 +107,20 @@ pub extern "C" fn papayahelm_measure_aligned(
     skip: u32,
     out: &mut [i64],
 ) -> u32
-    ensures { λ r. ⌜ Answers (meaningOf anchor align skip 0 (length (now (out .entry)))) (λ m. alignedReply (measureAligned (u8g2 (now (font .entry))) (request (now (text .entry)) (point x y) (m .«vertical_pos») (m .«horizontal_align») «line_height» (m .skip)))) r (now (out .entry)) (now (out .exit)) ⌝ }
+    ensures { λ r. ⌜ Answers (meaningOf anchor align skip 0 (length (now (out .entry)))) (λ m. alignedReply (measureAligned (u8g2 (now (font .entry))) (request (now (text .entry)) (placedBy m x y «line_height») (m .«horizontal_align»)))) r (now (out .entry)) (now (out .exit)) ⌝ }
 {
     let Codes::Known(m) = known_codes(anchor, align, skip, 0, out.len()) else {
         return BAD_ARGUMENT;
     };
     let vertical_pos = m.vertical_pos;
     let horizontal_align = m.horizontal_align;
-    let position = Point { x, y };
-    let result = get_rendered_dimensions_aligned(
-        font,
-        text,
-        position,
+    let placement = Placement {
+        position: Point { x, y },
         vertical_pos,
-        horizontal_align,
         line_height,
-        m.skip,
-    );
+        ignore_unknown_chars: m.skip,
+    };
+    let result = get_rendered_dimensions_aligned(font, text, placement, horizontal_align);
     store(out, of_bounding_box(result))
 }
 
@@ -137,25 +142,22 @@ pub extern "C" fn papayahelm_draw(
     buffer: &mut [u8],
     out: &mut [i64],
 ) -> u32
-    ensures answered { λ r. ⌜ Answers (meaningOf anchor 0 skip background (length (now (out .entry)))) (λ m. textReply (draw (u8g2 (now (font .entry))) (plain (now (text .entry)) (point x y) (m .«vertical_pos») «line_height» (m .skip)) (inkOf (m .background) fg bg) (sized width height) (now (buffer .entry)))) r (now (out .entry)) (now (out .exit)) ⌝ }
-    ensures shown { λ r. ⌜ now (buffer .exit) ≡ drawnBy (meaningOf anchor 0 skip background (length (now (out .entry)))) (λ m. drawBuffer (u8g2 (now (font .entry))) (plain (now (text .entry)) (point x y) (m .«vertical_pos») «line_height» (m .skip)) (inkOf (m .background) fg bg) (sized width height) (now (buffer .entry))) (now (buffer .entry)) ⌝ }
+    ensures answered { λ r. ⌜ Answers (meaningOf anchor 0 skip background (length (now (out .entry)))) (λ m. textReply (draw (u8g2 (now (font .entry))) (plain (now (text .entry)) (placedBy m x y «line_height»)) (inkOf (m .background) fg bg) (sized width height) (now (buffer .entry)))) r (now (out .entry)) (now (out .exit)) ⌝ }
+    ensures shown { λ r. ⌜ now (buffer .exit) ≡ drawnBy (meaningOf anchor 0 skip background (length (now (out .entry)))) (λ m. drawBuffer (u8g2 (now (font .entry))) (plain (now (text .entry)) (placedBy m x y «line_height»)) (inkOf (m .background) fg bg) (sized width height) (now (buffer .entry))) (now (buffer .entry)) ⌝ }
 {
     let Codes::Known(m) = known_codes(anchor, 0, skip, background, out.len()) else {
         return BAD_ARGUMENT;
     };
-    let style = style_of(m, fg, bg);
-    let position = Point { x, y };
-    let result = render(
-        font,
-        text,
-        position,
-        style,
+    let color = color_of(m, fg, bg);
+    let vertical_pos = m.vertical_pos;
+    let placement = Placement {
+        position: Point { x, y },
+        vertical_pos,
         line_height,
-        m.skip,
-        width,
-        height,
-        buffer,
-    );
+        ignore_unknown_chars: m.skip,
+    };
+    let framebuffer = Framebuffer { width, height };
+    let result = render(font, text, placement, color, framebuffer, buffer);
     store(out, of_dimensions(result))
 }
 
@@ -178,25 +180,22 @@ pub extern "C" fn papayahelm_redraw(
     buffer: &mut [u8],
     out: &mut [i64],
 ) -> u32
-    ensures answered { λ r. ⌜ Answers (meaningOf anchor 0 0 background (length (now (out .entry)))) (λ m. textReply (redrawn (now (font .entry)) (now («old_text» .entry)) (drawing (now («new_text» .entry)) (point x y) (styleOf (m .«vertical_pos») (m .background) fg bg) «line_height») (groundOf width height (now (buffer .entry))))) r (now (out .entry)) (now (out .exit)) ⌝ }
-    ensures shown { λ r. ⌜ now (buffer .exit) ≡ drawnBy (meaningOf anchor 0 0 background (length (now (out .entry)))) (λ m. redrawnBuffer (now (font .entry)) (now («old_text» .entry)) (drawing (now («new_text» .entry)) (point x y) (styleOf (m .«vertical_pos») (m .background) fg bg) «line_height») «clear_color» (groundOf width height (now (buffer .entry)))) (now (buffer .entry)) ⌝ }
+    ensures answered { λ r. ⌜ Answers (meaningOf anchor 0 0 background (length (now (out .entry)))) (λ m. textReply (redrawn (now (font .entry)) (now («old_text» .entry)) (asked (placeBy m x y «line_height» fg bg «clear_color» (sized width height)) (now («new_text» .entry))) (groundOf (placeBy m x y «line_height» fg bg «clear_color» (sized width height)) (now (buffer .entry))))) r (now (out .entry)) (now (out .exit)) ⌝ }
+    ensures shown { λ r. ⌜ now (buffer .exit) ≡ drawnBy (meaningOf anchor 0 0 background (length (now (out .entry)))) (λ m. redrawnBuffer (now (font .entry)) (now («old_text» .entry)) (asked (placeBy m x y «line_height» fg bg «clear_color» (sized width height)) (now («new_text» .entry))) «clear_color» (groundOf (placeBy m x y «line_height» fg bg «clear_color» (sized width height)) (now (buffer .entry)))) (now (buffer .entry)) ⌝ }
 {
     let Codes::Known(m) = known_codes(anchor, 0, 0, background, out.len()) else {
         return BAD_ARGUMENT;
     };
-    let style = style_of(m, fg, bg);
-    let position = Point { x, y };
-    let result = redraw(
-        font,
-        old_text,
-        new_text,
-        position,
-        style,
+    let color = color_of(m, fg, bg);
+    let vertical_pos = m.vertical_pos;
+    let place = Place {
+        position: Point { x, y },
+        vertical_pos,
         line_height,
-        clear_color,
-        width,
-        height,
-        buffer,
-    );
+        color,
+        background: clear_color,
+        framebuffer: Framebuffer { width, height },
+    };
+    let result = redraw(font, old_text, new_text, place, buffer);
     store(out, of_dimensions(result))
 }

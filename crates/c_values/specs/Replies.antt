@@ -5,9 +5,10 @@ use mathlib.Core.Bool.{Bool, true, false}
 use Prim.Native.Nat.{ℕ, suc}
 use lib.IntN.{ℤ, pos}
 use lib.ListN.{set}
-use Rattle.definitions.specs.Vocabulary.{Error, BoundingBox, None, Some, Point, Rectangle, RenderedDimensions, FontColor, Transparent, WithBackground, FontStyle, VerticalPosition}
+use Rattle.definitions.specs.Vocabulary.{Error, BoundingBox, None, Some, Point, Rectangle, RenderedDimensions, FontColor, Transparent, WithBackground, Placement}
 use Rattle.definitions.specs.Refusals.{Outcome, success, refused, number, codePoint}
 use Rattle.definitions.specs.Text.{point}
+use Rattle.definitions.specs.Calls.{placed}
 use Rattle.c_values.specs.declared.reply.Reply.{Reply}
 use Rattle.c_values.specs.declared.codes.Codes.{Codes}
 use Rattle.c_values.specs.declared.codes.Codes.the-variants.{Known, Unknown}
@@ -99,10 +100,11 @@ abbrev pub drawnBy : Codes → (Meaning → List ℕ) → List ℕ → List ℕ
 drawnBy Unknown drawn buffer = buffer
 drawnBy (Known m) drawn buffer = drawn m
 
--- The style of a drawing: with a background colour or transparent.
+-- The colour of a drawing: with a background colour or transparent.
 abbrev pub inkOf : Bool → ℕ → ℕ → FontColor
 inkOf true fg bg = WithBackground fg bg
 inkOf false fg bg = Transparent fg
 
-abbrev pub styleOf : VerticalPosition → Bool → ℕ → ℕ → FontStyle
-styleOf v background fg bg = record { color = inkOf background fg bg; «vertical_pos» = v }
+-- Where a text stands.
+abbrev pub placedBy : Meaning → ℤ → ℤ → ℕ → Placement
+placedBy m x y lineHeight = placed (point x y) (m .«vertical_pos») lineHeight (m .skip)

@@ -8,8 +8,10 @@ use font_reader::new_from_raw_data;
 use measuring::font_bounding_box::get_font_bounding_box;
 use measuring::rendered_dimensions::get_rendered_dimensions;
 use measuring::rendered_dimensions_aligned::get_rendered_dimensions_aligned;
+use redraw::place::Place;
 use redraw::reading::redraw;
 use renderer::render::render;
+use types::framebuffer::Framebuffer;
 use types::geometry::BoundingBox;
 use types::geometry::Point;
 use types::results::BoundingBoxResult;
@@ -17,8 +19,8 @@ use types::results::DimensionsResult;
 use types::results::FontReaderResult;
 use types::results::RectangleResult;
 use types::style::FontColor;
-use types::style::FontStyle;
 use types::style::HorizontalAlignment;
+use types::style::Placement;
 use types::style::VerticalPosition;
 ghost use Prim.Native.Nat.{_≤_};
 
@@ -116,43 +118,31 @@ fn draw_or_redraw(
     at: usize,
     font: &[u8],
     text: &[u8],
-    position: Point,
-    style: FontStyle,
-    framebuffer: &mut [u8],
+    placement: Placement,
+    color: FontColor,
+    buffer: &mut [u8],
 ) -> DimensionsResult
     requires { ⌜ at ≤ 1048576 ⌝ }
 {
-    let line_height = number(file, at + 20);
-    let width = number(file, at + 40) as usize;
-    let height = number(file, at + 44) as usize;
+    let framebuffer = Framebuffer {
+        width: number(file, at + 40) as usize,
+        height: number(file, at + 44) as usize,
+    };
     if number(file, at) == 4 {
-        let skip = number(file, at + 24) == 1;
-        return render(
-            font,
-            text,
-            position,
-            style,
-            line_height,
-            skip,
-            width,
-            height,
-            framebuffer,
-        );
+        return render(font, text, placement, color, framebuffer, buffer);
     }
     let old_len = least(number(file, at + 56) as usize, text.len());
-    let clear_color = byte(file, at + 60);
-    redraw(
-        font,
-        &text[..old_len],
-        &text[old_len..],
+    let position = placement.position;
+    let vertical_pos = placement.vertical_pos;
+    let place = Place {
         position,
-        style,
-        line_height,
-        clear_color,
-        width,
-        height,
+        vertical_pos,
+        line_height: placement.line_height,
+        color,
+        background: byte(file, at + 60),
         framebuffer,
-    )
+    };
+    redraw(font, &text[..old_len], &text[old_len..], place, buffer)
 }
 
 // Draws on a framebuffer with the contents that the case asks for, and prints the answer and the framebuffer.
@@ -161,26 +151,23 @@ fn answer_draw(
     at: usize,
     font: &[u8],
     text: &[u8],
-    position: Point,
-    framebuffer: &mut [u8],
+    placement: Placement,
+    buffer: &mut [u8],
 )
     requires { ⌜ at ≤ 1048576 ⌝ }
 {
-    let style = FontStyle {
-        color: font_color(
-            number(file, at + 28),
-            byte(file, at + 32),
-            byte(file, at + 36),
-        ),
-        vertical_pos: vertical_pos(number(file, at + 12)),
-    };
+    let color = font_color(
+        number(file, at + 28),
+        byte(file, at + 32),
+        byte(file, at + 36),
+    );
     let width = number(file, at + 40) as usize;
     let height = number(file, at + 44) as usize;
     let fill = byte(file, at + 48);
-    framebuffers::fill(&mut framebuffer[..], fill);
-    let result = draw_or_redraw(file, at, font, text, position, style, &mut framebuffer[..]);
+    framebuffers::fill(&mut buffer[..], fill);
+    let result = draw_or_redraw(file, at, font, text, placement, color, &mut buffer[..]);
     print_dimensions(result);
-    framebuffers::print(&framebuffer[..], fill, width, height);
+    framebuffers::print(&buffer[..], fill, width, height);
 }
 
 // The framebuffer of the case's length.
@@ -189,45 +176,40 @@ fn answer_draw_on_part(
     at: usize,
     font: &[u8],
     text: &[u8],
-    position: Point,
-    framebuffer: &mut [u8],
+    placement: Placement,
+    buffer: &mut [u8],
 )
     requires { ⌜ at ≤ 1048576 ⌝ }
 {
     let length = number(file, at + 52) as usize;
-    if framebuffer.len() < length {
+    if buffer.len() < length {
         printing::text(b"no room for the framebuffer");
         return;
     }
-    answer_draw(file, at, font, text, position, &mut framebuffer[..length]);
+    answer_draw(file, at, font, text, placement, &mut buffer[..length]);
 }
 
 // Makes the call whose numbers stand at `at` and prints its answer.
-pub fn answer(file: &[u8], at: usize, font: &[u8], text: &[u8], framebuffer: &mut [u8])
+pub fn answer(file: &[u8], at: usize, font: &[u8], text: &[u8], buffer: &mut [u8])
     requires { ⌜ at ≤ 1048576 ⌝ }
 {
     let kind = number(file, at);
-    let position = Point {
-        x: signed_number(file, at + 4),
-        y: signed_number(file, at + 8),
-    };
     let anchor = vertical_pos(number(file, at + 12));
     let align = horizontal_align(number(file, at + 16));
-    let line = number(file, at + 20);
-    let skip = number(file, at + 24) == 1;
+    let placement = Placement {
+        position: Point {
+            x: signed_number(file, at + 4),
+            y: signed_number(file, at + 8),
+        },
+        vertical_pos: anchor,
+        line_height: number(file, at + 20),
+        ignore_unknown_chars: number(file, at + 24) == 1,
+    };
     match kind {
         0 => answer_open(font),
         1 => answer_font_box(font, anchor),
-        2 => print_dimensions(get_rendered_dimensions(font, text, position, anchor, line, skip)),
-        3 => print_aligned(get_rendered_dimensions_aligned(
-            font,
-            text,
-            position,
-            anchor,
-            align,
-            line,
-            skip,
-        )),
-        _ => answer_draw_on_part(file, at, font, text, position, framebuffer),
+        2 => print_dimensions(get_rendered_dimensions(font, text, placement)),
+        3 => print_aligned(get_rendered_dimensions_aligned(font, text, placement, align)),
+        _ => answer_draw_on_part(file, at, font, text, placement, buffer),
     }
 }
