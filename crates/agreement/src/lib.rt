@@ -1,16 +1,15 @@
 // Document 01's third demand, over the public calls themselves: two drawings of one text, and its measuring, agree.
 ghost use mathlib.Core.Path.{_≡_};
-ghost use mathlib.Core.Bool.{false};
 ghost use Rattle.definitions.specs.Font.{u8g2};
-ghost use Rattle.definitions.specs.Framebuffer.{sized};
 ghost use Rattle.definitions.specs.Calls.{plain};
 ghost use Rattle.definitions.specs.Agreement.{on, results, ThirdDemand};
 ghost use Rattle.agreement.specs.Calls.{asResults};
 use measuring::rendered_dimensions::get_rendered_dimensions;
 use renderer::render::render;
-use types::geometry::Point;
+use types::framebuffer::Framebuffer;
 use types::results::DimensionsResult;
-use types::style::FontStyle;
+use types::style::FontColor;
+use types::style::Placement;
 
 // What each of the four calls answered.
 pub struct Answers {
@@ -20,65 +19,40 @@ pub struct Answers {
     pub second_measured: DimensionsResult,
 }
 
-// Draws one text on two framebuffers, on each with a font of its own, and measures it with both fonts. Nothing is skipped.
-// Whatever the input, the four answers and the two framebuffers are those of the calls, and so the demand is about the calls.
+// Draws one text on two framebuffers, on each with a font of its own, and measures it with both fonts. Whatever the input, the four
+// answers and the two framebuffers are those of the calls, and so the demand is about the calls.
 pub fn draw_twice_and_measure(
     first_font: &[u8],
     second_font: &[u8],
     text: &[u8],
-    position: Point,
-    style: FontStyle,
-    line_height: u32,
-    first_width: usize,
-    first_height: usize,
+    placement: Placement,
+    color: FontColor,
+    first_framebuffer: Framebuffer,
     first_buffer: &mut [u8],
-    second_width: usize,
-    second_height: usize,
+    second_framebuffer: Framebuffer,
     second_buffer: &mut [u8],
 ) -> Answers
-    ensures called { λ r. ⌜ asResults r (now («first_buffer» .exit)) (now («second_buffer» .exit)) ≡ results (u8g2 (now («first_font» .entry))) (u8g2 (now («second_font» .entry))) (plain (now (text .entry)) position (style .«vertical_pos») «line_height» false) (style .color) (on (sized «first_width» «first_height») (now («first_buffer» .entry))) (on (sized «second_width» «second_height») (now («second_buffer» .entry))) ⌝ }
-    ensures agree { λ r. ⌜ ThirdDemand (now («first_font» .entry)) (now («second_font» .entry)) (plain (now (text .entry)) position (style .«vertical_pos») «line_height» false) (on (sized «first_width» «first_height») (now («first_buffer» .entry))) (on (sized «second_width» «second_height») (now («second_buffer» .entry))) (asResults r (now («first_buffer» .exit)) (now («second_buffer» .exit))) ⌝ }
+    ensures called { λ r. ⌜ asResults r (now («first_buffer» .exit)) (now («second_buffer» .exit)) ≡ results (u8g2 (now («first_font» .entry))) (u8g2 (now («second_font» .entry))) (plain (now (text .entry)) placement) color (on «first_framebuffer» (now («first_buffer» .entry))) (on «second_framebuffer» (now («second_buffer» .entry))) ⌝ }
+    ensures agree { λ r. ⌜ ThirdDemand (now («first_font» .entry)) (now («second_font» .entry)) (plain (now (text .entry)) placement) (on «first_framebuffer» (now («first_buffer» .entry))) (on «second_framebuffer» (now («second_buffer» .entry))) (asResults r (now («first_buffer» .exit)) (now («second_buffer» .exit))) ⌝ }
 {
-    let ignore_unknown_chars = false;
     let first = render(
         first_font,
         text,
-        position,
-        style,
-        line_height,
-        ignore_unknown_chars,
-        first_width,
-        first_height,
+        placement,
+        color,
+        first_framebuffer,
         &mut first_buffer[..],
     );
     let second = render(
         second_font,
         text,
-        position,
-        style,
-        line_height,
-        ignore_unknown_chars,
-        second_width,
-        second_height,
+        placement,
+        color,
+        second_framebuffer,
         &mut second_buffer[..],
     );
-    let vertical_pos = style.vertical_pos;
-    let first_measured = get_rendered_dimensions(
-        first_font,
-        text,
-        position,
-        vertical_pos,
-        line_height,
-        ignore_unknown_chars,
-    );
-    let second_measured = get_rendered_dimensions(
-        second_font,
-        text,
-        position,
-        vertical_pos,
-        line_height,
-        ignore_unknown_chars,
-    );
+    let first_measured = get_rendered_dimensions(first_font, text, placement);
+    let second_measured = get_rendered_dimensions(second_font, text, placement);
     Answers {
         first,
         second,

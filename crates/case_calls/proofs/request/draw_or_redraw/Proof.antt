@@ -6,14 +6,13 @@ use Rattle.case_calls.proofs.request.draw_or_redraw.Statement.{statemen
 use Rattle.case_calls.proofs.request.draw_or_redraw.Tie as tie
 
 slice-aggregate-redraw : tie.Need-slice-aggregate-redraw
-slice-aggregate-redraw c = sym (length-take-le _ _ (c .before .before .least .ensures .1))
+slice-aggregate-redraw c = sym (length-take-le _ _ (c .before .before .before .least .ensures .1))
 
 pub draw-or-redraw-spec : {M : Type 1} → statement M
 draw-or-redraw-spec =
     tie.close
-    (tie.spec (λ c. search needs) (λ c κs. search needs) (λ c. search needs) (λ c κs. search needs) (λ c. search needs)
-    (λ c. search needs) (λ c κs. search needs) (λ c. search needs) (λ c κs. search needs) (λ c. search needs)
-    (λ c κs. search needs) (λ c κs. search needs) (λ c. search needs) (λ c. search needs) (λ c. search needs)
+    (tie.spec (λ c. search needs) (λ c κs. search needs) (λ c. search needs) (λ c. search needs) (λ c κs. search needs)
+    (λ c. search needs) (λ c κs. search needs) (λ c κs. search needs) (λ c. search needs) (λ c. search needs) (λ c. search needs)
     (λ c κs. search needs) (λ c. search needs) (λ c κs. search needs) (λ c. search needs) (λ c κs. search needs)
     slice-aggregate-redraw (λ c. search needs) (λ c. search needs) (λ c. search needs) (λ c κs. search needs) (λ c. search needs)
     (λ c. search needs))
