@@ -1,7 +1,7 @@
 // Draws every angle from -45.0 to +45.0 in the font font.bin, each over the one before, compares each with the angle drawn alone,
 // and writes an image of all to sheet.pgm. The arguments are, in any order, an anchor, a place and narrow, which fills one column
 // too few.
-use sheet_program::options::read;
+use sheet_options::options::read;
 use sheet_program::program::start;
 
 fn main() {

@@ -1,7 +1,7 @@
 -- `read` ends: a count of arguments. Assumes nothing.
 use Rattle.integers.proofs.Prelude.{_-_, needs}
-use Rattle.sheet_program.proofs.options.read.Statement.{statement}
-use Rattle.sheet_program.proofs.options.read.Tie as tie
+use Rattle.sheet_options.proofs.options.read.Statement.{statement}
+use Rattle.sheet_options.proofs.options.read.Tie as tie
 
 abbrev Inv-loop : tie.InvT-loop
 Inv-loop asked₀ n i₀ asked i = Unit {0}

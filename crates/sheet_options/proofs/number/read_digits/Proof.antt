@@ -1,7 +1,7 @@
 -- `read_digits` ends, and its number stays small. Assumes nothing.
 use Rattle.integers.proofs.Prelude.{_-_, _≤_, length, needs}
-use Rattle.sheet_program.proofs.number.read_digits.Statement.{statement}
-use Rattle.sheet_program.proofs.number.read_digits.Tie as tie
+use Rattle.sheet_options.proofs.number.read_digits.Statement.{statement}
+use Rattle.sheet_options.proofs.number.read_digits.Tie as tie
 
 abbrev Inv-loop : tie.InvT-loop
 Inv-loop text start n₀ i₀ n i = n ≤ 1048577

@@ -1,8 +1,8 @@
 -- `read_natural` is safe: a number within the limits has a negative. Assumes nothing.
 use Rattle.integers.proofs.Prelude.{_≡_, ℕ, _≤_, arith, pos, _-ℤ_, w32, SFits, toZ, toZ-pos, needs}
 use Rattle.integers.proofs.Laws.{zarith, minus}
-use Rattle.sheet_program.proofs.number.read_natural.Statement.{statement}
-use Rattle.sheet_program.proofs.number.read_natural.Tie as tie
+use Rattle.sheet_options.proofs.number.read_natural.Statement.{statement}
+use Rattle.sheet_options.proofs.number.read_natural.Tie as tie
 
 negative-fits : (n : ℕ) → n ≤ 1048576 → SFits w32 (pos 0 -ℤ toZ w32 n)
 negative-fits n h =
