@@ -2,7 +2,7 @@
 ghost use mathlib.Core.Path.{_≡_};
 ghost use Rattle.definitions.specs.Font.{u8g2};
 ghost use Rattle.definitions.specs.Calls.{request, measureAligned, boundingBoxOutcome};
-use crate::lines::aligned_dimensions;
+use crate::aligned_dimensions::aligned_dimensions;
 use types::results::BoundingBoxResult;
 use types::results::DimensionsResult;
 use types::style::HorizontalAlignment;

@@ -5,9 +5,9 @@ use Rattle.definitions.specs.TextSteps.{answerStep}
 use Rattle.definitions.specs.Font.{u8g2, measuredAnswer}
 use Rattle.definitions.specs.Calls.{dimensionsOutcome}
 use Rattle.layout.proofs.RangeLaws.{near-fits}
-use Rattle.measuring.proofs.LinesLaws.{answer-room}
-use Rattle.measuring.proofs.lines.add_char.Statement.{statement}
-use Rattle.measuring.proofs.lines.add_char.Tie as tie
+use Rattle.text_lines.proofs.LinesLaws.{answer-room}
+use Rattle.text_lines.proofs.add_char.Statement.{statement}
+use Rattle.text_lines.proofs.add_char.Tie as tie
 
 returns : tie.Need-returns
 returns c = simp (c .add-newline .ensures, eq-eqb _ _ (c .before .before .if1 .taken))

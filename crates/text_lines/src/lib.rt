@@ -4,16 +4,13 @@ ghost use Prim.Native.Nat.{_≤_};
 ghost use Rattle.definitions.specs.Header.{Opened};
 ghost use Rattle.definitions.specs.TextSteps.{start, movedBox, withLine, nextLine, lineStep, linesDimensions, measureLines};
 ghost use Rattle.definitions.specs.Font.{u8g2, measuredAnswer};
-ghost use Rattle.definitions.specs.Calls.{request, characters, dimensionsOutcome};
-ghost use Rattle.measuring.specs.Lines.{asState, stateOutcome, alignedDimensions};
+ghost use Rattle.definitions.specs.Calls.{characters, dimensionsOutcome};
+ghost use Rattle.text_lines.specs.Lines.{asState, stateOutcome};
 ghost use Rattle.checks.specs.Origins.{Checked};
 ghost use Rattle.layout.specs.Ranges.{Near, LineInReach, LineHasRoom};
-use checks::origin::OriginResult;
 use checks::origin::Pen;
-use checks::origin::checked_origin;
 use content::text::NextChar;
 use content::text::next_char;
-use font_reader::new_from_raw_data;
 use layout::render_actions::compute_horizontal_offset;
 use layout::render_actions::try_retrieve_glyph_data;
 use layout::steps::NEWLINE;
@@ -25,9 +22,7 @@ use types::geometry::Point;
 use types::geometry::Rectangle;
 use types::geometry::RenderedDimensions;
 use types::results::DimensionsResult;
-use types::results::FontReaderResult;
 use types::style::HorizontalAlignment;
-use types::style::Placement;
 use utils::combine_bounding_boxes;
 
 // The text so far: the line from its own start, how far below the origin it lies, and the box of the lines that have ended.
@@ -152,7 +147,7 @@ fn end_text(
 }
 
 // The letters of a checked text, one after the other. The first that stops the text is the answer.
-fn measure_lines(
+pub fn measure_lines(
     font: &[u8],
     head: FontReader,
     text: &[u8],
@@ -186,31 +181,4 @@ fn measure_lines(
     }
     let origin = pen.origin;
     DimensionsResult::Ok(end_text(state, horizontal_align, origin))
-}
-
-// The dimensions of the aligned text at the position, or the refusal. The public calls read their answers off them.
-pub fn aligned_dimensions(
-    font: &[u8],
-    text: &[u8],
-    placement: Placement,
-    horizontal_align: HorizontalAlignment,
-) -> DimensionsResult
-    ensures { λ r. ⌜ dimensionsOutcome r ≡ alignedDimensions (u8g2 (now (font .entry))) (request (now (text .entry)) placement «horizontal_align») ⌝ }
-{
-    match new_from_raw_data(font) {
-        FontReaderResult::Err(error) => DimensionsResult::Err(error),
-        FontReaderResult::Ok(head) => {
-            match checked_origin(head.ascent, head.descent, text, placement) {
-                OriginResult::Err(error) => DimensionsResult::Err(error),
-                OriginResult::Ok(origin) => {
-                    let pen = Pen {
-                        origin,
-                        line_height: placement.line_height,
-                        ignore_unknown_chars: placement.ignore_unknown_chars,
-                    };
-                    measure_lines(font, head, text, horizontal_align, pen)
-                }
-            }
-        }
-    }
 }

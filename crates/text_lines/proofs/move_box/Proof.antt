@@ -2,9 +2,9 @@
 use Rattle.integers.proofs.Prelude.{toZ-ofZ, needs}
 use Rattle.definitions.specs.Vocabulary.{Rectangle}
 use Rattle.layout.specs.Ranges.{LineRectangle}
-use Rattle.measuring.proofs.LinesLaws.{start-fits, moved-fits}
-use Rattle.measuring.proofs.lines.move_box.Statement.{statement}
-use Rattle.measuring.proofs.lines.move_box.Tie as tie
+use Rattle.text_lines.proofs.LinesLaws.{start-fits, moved-fits}
+use Rattle.text_lines.proofs.move_box.Statement.{statement}
+use Rattle.text_lines.proofs.move_box.Tie as tie
 
 -- there is a box
 module _ (c : tie.After-known-told) where

@@ -6,13 +6,13 @@ use Rattle.definitions.specs.Refusals.{success}
 use Rattle.definitions.specs.Utf8.{character, firstCharacter}
 use Rattle.definitions.specs.Font.{u8g2, measuredAnswer}
 use Rattle.definitions.proofs.Utf8Laws.{Position, position, none-malformed}
-use Rattle.measuring.specs.Lines.{asState, stateOutcome}
+use Rattle.text_lines.specs.Lines.{asState, stateOutcome}
 use Rattle.layout.proofs.MeasureLaws.{measured-small}
-use Rattle.measuring.proofs.AlignedLaws.{Aligned, aligned-start, aligned-room, aligned-end, aligned-next, aligned-stops}
-use Rattle.measuring.proofs.lines.measure_lines.Statement.{
+use Rattle.text_lines.proofs.LoopLaws.{Aligned, aligned-start, aligned-room, aligned-end, aligned-next, aligned-stops}
+use Rattle.text_lines.proofs.measure_lines.Statement.{
   statement,
 }
-use Rattle.measuring.proofs.lines.measure_lines.Tie as tie
+use Rattle.text_lines.proofs.measure_lines.Tie as tie
 
 abbrev Inv-loop : tie.InvT-loop
 Inv-loop font head text horizontal-align pen state₀ at₀ state at =

@@ -6,10 +6,10 @@ use Rattle.definitions.specs.Calls.{openFont, Request, request, fontReaderOutco
 use Rattle.definitions.proofs.OpenedLaws.{opened, open-refused}
 use Rattle.checks.specs.Origins.{originOutcome}
 use Rattle.checks.proofs.OriginLaws.{tested, request-checked}
-use Rattle.measuring.specs.Lines.{alignedDimensions}
+use Rattle.measuring.specs.Aligned.{alignedDimensions}
 use Rattle.measuring.proofs.AlignedLaws.{aligned-is, aligned-refused}
-use Rattle.measuring.proofs.lines.aligned_dimensions.Statement.{statement}
-use Rattle.measuring.proofs.lines.aligned_dimensions.Tie as tie
+use Rattle.measuring.proofs.aligned_dimensions.aligned_dimensions.Statement.{statement}
+use Rattle.measuring.proofs.aligned_dimensions.aligned_dimensions.Tie as tie
 
 -- opening succeeded
 module _ (c : tie.After-known-told2) where

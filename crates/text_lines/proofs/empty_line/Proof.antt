@@ -1,7 +1,7 @@
 -- An empty line is where a text begins.
 use mathlib.Core.Path.{refl}
-use Rattle.measuring.proofs.lines.empty_line.Statement.{statement}
-use Rattle.measuring.proofs.lines.empty_line.Tie as tie
+use Rattle.text_lines.proofs.empty_line.Statement.{statement}
+use Rattle.text_lines.proofs.empty_line.Tie as tie
 
 returns : tie.Need-returns
 returns c = refl

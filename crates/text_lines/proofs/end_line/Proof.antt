@@ -5,9 +5,9 @@ use Rattle.definitions.specs.Geometry.{InReach}
 use Rattle.definitions.specs.Text.{horizontalOffset}
 use Rattle.definitions.specs.TextSteps.{movedBox}
 use Rattle.layout.proofs.RangeLaws.{near-fits}
-use Rattle.measuring.proofs.LinesLaws.{x-near, column-near, moved-in-reach}
-use Rattle.measuring.proofs.lines.end_line.Statement.{statement}
-use Rattle.measuring.proofs.lines.end_line.Tie as tie
+use Rattle.text_lines.proofs.LinesLaws.{x-near, column-near, moved-in-reach}
+use Rattle.text_lines.proofs.end_line.Statement.{statement}
+use Rattle.text_lines.proofs.end_line.Tie as tie
 
 module _ (c : tie.Start) where
   origin-x : SFits w32 (c .args .origin .x)

@@ -2,8 +2,8 @@
 use Rattle.integers.proofs.Prelude.{_≡_, pos, _+ℤ_, w32, SFits, toZ, toZ-ofZ, toZ-pos, needs}
 use Rattle.integers.proofs.Laws.{zarith, plus}
 use Rattle.layout.proofs.RangeLaws.{near-fits}
-use Rattle.measuring.proofs.lines.add_newline.Statement.{statement}
-use Rattle.measuring.proofs.lines.add_newline.Tie as tie
+use Rattle.text_lines.proofs.add_newline.Statement.{statement}
+use Rattle.text_lines.proofs.add_newline.Tie as tie
 
 module _ (c : tie.Start) where
   line-is : toZ w32 (c .args .line-height) ≡ pos (c .args .line-height)

@@ -1,9 +1,9 @@
 -- Where there is room, the numbers fit; `end_line` does the rest.
 use Rattle.integers.proofs.Prelude.{toZ-ofZ, needs}
 use Rattle.layout.proofs.RangeLaws.{near-fits}
-use Rattle.measuring.proofs.LinesLaws.{x-near}
-use Rattle.measuring.proofs.lines.end_text.Statement.{statement}
-use Rattle.measuring.proofs.lines.end_text.Tie as tie
+use Rattle.text_lines.proofs.LinesLaws.{x-near}
+use Rattle.text_lines.proofs.end_text.Statement.{statement}
+use Rattle.text_lines.proofs.end_text.Tie as tie
 
 returns : tie.Need-returns
 returns c =

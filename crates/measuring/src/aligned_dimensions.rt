@@ -1,0 +1,41 @@
+// The dimensions of an aligned text, which the public calls read their answers off.
+ghost use mathlib.Core.Path.{_≡_};
+ghost use Rattle.definitions.specs.Font.{u8g2};
+ghost use Rattle.definitions.specs.Calls.{request, dimensionsOutcome};
+ghost use Rattle.measuring.specs.Aligned.{alignedDimensions};
+use checks::origin::OriginResult;
+use checks::origin::Pen;
+use checks::origin::checked_origin;
+use font_reader::new_from_raw_data;
+use text_lines::measure_lines;
+use types::results::DimensionsResult;
+use types::results::FontReaderResult;
+use types::style::HorizontalAlignment;
+use types::style::Placement;
+
+// The dimensions of the aligned text, or the refusal.
+pub fn aligned_dimensions(
+    font: &[u8],
+    text: &[u8],
+    placement: Placement,
+    horizontal_align: HorizontalAlignment,
+) -> DimensionsResult
+    ensures { λ r. ⌜ dimensionsOutcome r ≡ alignedDimensions (u8g2 (now (font .entry))) (request (now (text .entry)) placement «horizontal_align») ⌝ }
+{
+    match new_from_raw_data(font) {
+        FontReaderResult::Err(error) => DimensionsResult::Err(error),
+        FontReaderResult::Ok(head) => {
+            match checked_origin(head.ascent, head.descent, text, placement) {
+                OriginResult::Err(error) => DimensionsResult::Err(error),
+                OriginResult::Ok(origin) => {
+                    let pen = Pen {
+                        origin,
+                        line_height: placement.line_height,
+                        ignore_unknown_chars: placement.ignore_unknown_chars,
+                    };
+                    measure_lines(font, head, text, horizontal_align, pen)
+                }
+            }
+        }
+    }
+}
