@@ -32,8 +32,13 @@ pub fn draw_twice_and_measure(
     second_framebuffer: Framebuffer,
     second_buffer: &mut [u8],
 ) -> Answers
-    ensures called { λ r. ⌜ asResults r (now («first_buffer» .exit)) (now («second_buffer» .exit)) ≡ results (u8g2 (now («first_font» .entry))) (u8g2 (now («second_font» .entry))) (plain (now (text .entry)) placement) color (on «first_framebuffer» (now («first_buffer» .entry))) (on «second_framebuffer» (now («second_buffer» .entry))) ⌝ }
-    ensures agree { λ r. ⌜ ThirdDemand (now («first_font» .entry)) (now («second_font» .entry)) (plain (now (text .entry)) placement) (on «first_framebuffer» (now («first_buffer» .entry))) (on «second_framebuffer» (now («second_buffer» .entry))) (asResults r (now («first_buffer» .exit)) (now («second_buffer» .exit))) ⌝ }
+    ensures called { λ r. ⌜ asResults r (now («first_buffer» .exit)) (now («second_buffer» .exit)) ≡ results
+        (u8g2 (now («first_font» .entry))) (u8g2 (now («second_font» .entry))) (plain (now (text .entry)) placement) color
+        (on «first_framebuffer» (now («first_buffer» .entry))) (on «second_framebuffer» (now («second_buffer» .entry))) ⌝ }
+    ensures agree { λ r. ⌜ ThirdDemand (now («first_font» .entry)) (now («second_font» .entry))
+        (plain (now (text .entry)) placement) (on «first_framebuffer» (now («first_buffer» .entry)))
+        (on «second_framebuffer» (now («second_buffer» .entry))) (asResults r (now («first_buffer» .exit))
+        (now («second_buffer» .exit))) ⌝ }
 {
     let first = render(
         first_font,

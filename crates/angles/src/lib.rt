@@ -27,7 +27,8 @@ fn digit_of(n: u32) -> u8
 // One digit, or two from 10 on.
 fn put_degrees(out: &mut [u8], start: usize, n: u32) -> usize
     requires { ⌜ (length (now out) ≡ 6) × ((n ≤ 99) × ((2 ≤ start) × (start ≤ 6))) ⌝ }
-    ensures { λ r. ⌜ (r + 1 ≤ start) × ((start ≤ r + 2) × (drop r (now (out .exit)) ≡ degreesThen n (drop start (now (out .entry))))) ⌝ }
+    ensures { λ r. ⌜ (r + 1 ≤ start) × ((start ≤ r + 2)
+        × (drop r (now (out .exit)) ≡ degreesThen n (drop start (now (out .entry))))) ⌝ }
 {
     let at = put_before(&mut out[..], start, digit_of(n % 10));
     if n < 10 {

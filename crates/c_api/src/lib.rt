@@ -57,7 +57,8 @@ pub extern "C" fn papayahelm_open(font: &[u8], out: &mut [i64]) -> u32
 // The bounding box of all of the font's glyphs.
 #[no_mangle]
 pub extern "C" fn papayahelm_font_box(font: &[u8], anchor: u32, out: &mut [i64]) -> u32
-    ensures { λ r. ⌜ Answers (meaningOf anchor 0 0 0 (length (now (out .entry)))) (λ m. boxReply (fontBoundingBox (now (font .entry)) (m .«vertical_pos»))) r (now (out .entry)) (now (out .exit)) ⌝ }
+    ensures { λ r. ⌜ Answers (meaningOf anchor 0 0 0 (length (now (out .entry))))
+        (λ m. boxReply (fontBoundingBox (now (font .entry)) (m .«vertical_pos»))) r (now (out .entry)) (now (out .exit)) ⌝ }
 {
     let Codes::Known(m) = known_codes(anchor, 0, 0, 0, out.len()) else {
         return BAD_ARGUMENT;
@@ -78,7 +79,9 @@ pub extern "C" fn papayahelm_measure(
     skip: u32,
     out: &mut [i64],
 ) -> u32
-    ensures { λ r. ⌜ Answers (meaningOf anchor 0 skip 0 (length (now (out .entry)))) (λ m. textReply (measure (u8g2 (now (font .entry))) (plain (now (text .entry)) (placedBy m x y «line_height»)))) r (now (out .entry)) (now (out .exit)) ⌝ }
+    ensures { λ r. ⌜ Answers (meaningOf anchor 0 skip 0 (length (now (out .entry))))
+        (λ m. textReply (measure (u8g2 (now (font .entry))) (plain (now (text .entry)) (placedBy m x y «line_height»)))) r
+        (now (out .entry)) (now (out .exit)) ⌝ }
 {
     let Codes::Known(m) = known_codes(anchor, 0, skip, 0, out.len()) else {
         return BAD_ARGUMENT;
@@ -107,7 +110,9 @@ pub extern "C" fn papayahelm_measure_aligned(
     skip: u32,
     out: &mut [i64],
 ) -> u32
-    ensures { λ r. ⌜ Answers (meaningOf anchor align skip 0 (length (now (out .entry)))) (λ m. alignedReply (measureAligned (u8g2 (now (font .entry))) (request (now (text .entry)) (placedBy m x y «line_height») (m .«horizontal_align»)))) r (now (out .entry)) (now (out .exit)) ⌝ }
+    ensures { λ r. ⌜ Answers (meaningOf anchor align skip 0 (length (now (out .entry))))
+        (λ m. alignedReply (measureAligned (u8g2 (now (font .entry))) (request (now (text .entry))
+        (placedBy m x y «line_height») (m .«horizontal_align»)))) r (now (out .entry)) (now (out .exit)) ⌝ }
 {
     let Codes::Known(m) = known_codes(anchor, align, skip, 0, out.len()) else {
         return BAD_ARGUMENT;
@@ -142,8 +147,12 @@ pub extern "C" fn papayahelm_draw(
     buffer: &mut [u8],
     out: &mut [i64],
 ) -> u32
-    ensures answered { λ r. ⌜ Answers (meaningOf anchor 0 skip background (length (now (out .entry)))) (λ m. textReply (draw (u8g2 (now (font .entry))) (plain (now (text .entry)) (placedBy m x y «line_height»)) (inkOf (m .background) fg bg) (sized width height) (now (buffer .entry)))) r (now (out .entry)) (now (out .exit)) ⌝ }
-    ensures shown { λ r. ⌜ now (buffer .exit) ≡ drawnBy (meaningOf anchor 0 skip background (length (now (out .entry)))) (λ m. drawBuffer (u8g2 (now (font .entry))) (plain (now (text .entry)) (placedBy m x y «line_height»)) (inkOf (m .background) fg bg) (sized width height) (now (buffer .entry))) (now (buffer .entry)) ⌝ }
+    ensures answered { λ r. ⌜ Answers (meaningOf anchor 0 skip background (length (now (out .entry))))
+        (λ m. textReply (draw (u8g2 (now (font .entry))) (plain (now (text .entry)) (placedBy m x y «line_height»))
+        (inkOf (m .background) fg bg) (sized width height) (now (buffer .entry)))) r (now (out .entry)) (now (out .exit)) ⌝ }
+    ensures shown { λ r. ⌜ now (buffer .exit) ≡ drawnBy (meaningOf anchor 0 skip background (length (now (out .entry))))
+        (λ m. drawBuffer (u8g2 (now (font .entry))) (plain (now (text .entry)) (placedBy m x y «line_height»))
+        (inkOf (m .background) fg bg) (sized width height) (now (buffer .entry))) (now (buffer .entry)) ⌝ }
 {
     let Codes::Known(m) = known_codes(anchor, 0, skip, background, out.len()) else {
         return BAD_ARGUMENT;
@@ -180,8 +189,16 @@ pub extern "C" fn papayahelm_redraw(
     buffer: &mut [u8],
     out: &mut [i64],
 ) -> u32
-    ensures answered { λ r. ⌜ Answers (meaningOf anchor 0 0 background (length (now (out .entry)))) (λ m. textReply (redrawn (now (font .entry)) (now («old_text» .entry)) (asked (placeBy m x y «line_height» fg bg «clear_color» (sized width height)) (now («new_text» .entry))) (groundOf (placeBy m x y «line_height» fg bg «clear_color» (sized width height)) (now (buffer .entry))))) r (now (out .entry)) (now (out .exit)) ⌝ }
-    ensures shown { λ r. ⌜ now (buffer .exit) ≡ drawnBy (meaningOf anchor 0 0 background (length (now (out .entry)))) (λ m. redrawnBuffer (now (font .entry)) (now («old_text» .entry)) (asked (placeBy m x y «line_height» fg bg «clear_color» (sized width height)) (now («new_text» .entry))) «clear_color» (groundOf (placeBy m x y «line_height» fg bg «clear_color» (sized width height)) (now (buffer .entry)))) (now (buffer .entry)) ⌝ }
+    ensures answered { λ r. ⌜ Answers (meaningOf anchor 0 0 background (length (now (out .entry))))
+        (λ m. textReply (redrawn (now (font .entry)) (now («old_text» .entry))
+        (asked (placeBy m x y «line_height» fg bg «clear_color» (sized width height)) (now («new_text» .entry)))
+        (groundOf (placeBy m x y «line_height» fg bg «clear_color» (sized width height)) (now (buffer .entry))))) r
+        (now (out .entry)) (now (out .exit)) ⌝ }
+    ensures shown { λ r. ⌜ now (buffer .exit) ≡ drawnBy (meaningOf anchor 0 0 background (length (now (out .entry))))
+        (λ m. redrawnBuffer (now (font .entry)) (now («old_text» .entry))
+        (asked (placeBy m x y «line_height» fg bg «clear_color» (sized width height)) (now («new_text» .entry))) «clear_color»
+        (groundOf (placeBy m x y «line_height» fg bg «clear_color» (sized width height)) (now (buffer .entry))))
+        (now (buffer .entry)) ⌝ }
 {
     let Codes::Known(m) = known_codes(anchor, 0, 0, background, out.len()) else {
         return BAD_ARGUMENT;

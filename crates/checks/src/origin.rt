@@ -26,7 +26,8 @@ pub enum OriginResult {
 }
 
 pub fn text_origin(ascent: i8, descent: i8, text: &[u8], placement: Placement) -> Point
-    requires { ⌜ (textCause (now text) .applies ≡ false) × (positionCause (placement .position) (placement .«line_height») .applies ≡ false) ⌝ }
+    requires { ⌜ (textCause (now text) .applies ≡ false) × (positionCause (placement .position) (placement .«line_height»)
+        .applies ≡ false) ⌝ }
     ensures { λ r. ⌜ r ≡ originBy ascent descent (plain (now (text .entry)) placement) ⌝ }
 {
     let position = placement.position;

@@ -6,7 +6,8 @@ use mathlib.Core.List.{List, [], _∷_, map}
 use Prim.Native.Nat.{ℕ, _+_, _*_}
 use lib.IntN.{ℤ, pos, negℤ}
 use lib.ListN.{take, set, replicate}
-use Rattle.definitions.specs.Vocabulary.{FontReader, Framebuffer, BoundingBox, None, Some, Rectangle, RenderedDimensions, GlyphReader, FontColor, Transparent, WithBackground, HorizontalAlignment}
+use Rattle.definitions.specs.Vocabulary.{FontReader, Framebuffer, BoundingBox, None, Some, Rectangle, RenderedDimensions, GlyphReader}
+use Rattle.definitions.specs.Vocabulary.{FontColor, Transparent, WithBackground, HorizontalAlignment}
 use Rattle.types.specs.declared.style.HorizontalAlignment.the-variants.{Center as Alignment·Center, Right as Alignment·Right}
 use Rattle.types.specs.declared.style.VerticalPosition.the-variants.{Baseline, Top, Center, Bottom}
 use Rattle.integers.specs.Integers.{signed8}

@@ -11,7 +11,8 @@ const HEAD_ROOM: usize = 29;
 
 // Writes the head to the start of `out` and answers its length. What stands behind the head stays.
 fn write_head(size: Size, out: &mut [u8; HEAD_ROOM]) -> usize
-    ensures { λ r. ⌜ Counts r (now (out .exit)) × Written (now (out .entry)) 0 (pgmHead (size .width) (size .height)) r (now (out .exit)) ⌝ }
+    ensures { λ r. ⌜ Counts r (now (out .exit)) × Written (now (out .entry)) 0 (pgmHead (size .width) (size .height)) r
+        (now (out .exit)) ⌝ }
 {
     let start = append(out, 0, b"P5");
     let middle = append_unsigned(out, start, size.width);

@@ -29,7 +29,8 @@ use utils::error::error_number;
 // Left, top, width and height.
 fn append_rectangle(out: &mut [u8], at: usize, r: Rectangle) -> usize
     requires { ⌜ at + 46 ≤ length (now out) ⌝ }
-    ensures { λ n. ⌜ (n ≤ at + 46) × Written (now (out .entry)) at (spaced (boxWords (BoundingBox.Some r))) n (now (out .exit)) ⌝ }
+    ensures { λ n. ⌜ (n ≤ at + 46) × Written (now (out .entry)) at (spaced (boxWords (BoundingBox.Some r))) n
+        (now (out .exit)) ⌝ }
 {
     let left = append_signed(out, at, r.top_left.x);
     let top = append_signed(out, left, r.top_left.y);
@@ -107,7 +108,8 @@ fn measured(font: &[u8], text: &[u8]) -> DimensionsResult
 
 // Writes the line to the start of `out` and answers its length. What stands behind the line stays.
 pub fn measure_line(font: &[u8], text: &[u8], out: &mut [u8; LINE_ROOM]) -> usize
-    ensures { λ n. ⌜ Counts n (now (out .exit)) × Written (now (out .entry)) 0 (measuringLine (now (font .entry)) (now (text .entry))) n (now (out .exit)) ⌝ }
+    ensures { λ n. ⌜ Counts n (now (out .exit)) × Written (now (out .entry)) 0
+        (measuringLine (now (font .entry)) (now (text .entry))) n (now (out .exit)) ⌝ }
 {
     let result = measured(font, text);
     result_line(out, result)

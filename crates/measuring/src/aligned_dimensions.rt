@@ -20,7 +20,8 @@ pub fn aligned_dimensions(
     placement: Placement,
     horizontal_align: HorizontalAlignment,
 ) -> DimensionsResult
-    ensures { λ r. ⌜ dimensionsOutcome r ≡ alignedDimensions (u8g2 (now (font .entry))) (request (now (text .entry)) placement «horizontal_align») ⌝ }
+    ensures { λ r. ⌜ dimensionsOutcome r ≡ alignedDimensions (u8g2 (now (font .entry)))
+        (request (now (text .entry)) placement «horizontal_align») ⌝ }
 {
     match new_from_raw_data(font) {
         FontReaderResult::Err(error) => DimensionsResult::Err(error),

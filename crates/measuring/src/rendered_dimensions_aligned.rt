@@ -16,7 +16,8 @@ pub fn get_rendered_dimensions_aligned(
     placement: Placement,
     horizontal_align: HorizontalAlignment,
 ) -> BoundingBoxResult
-    ensures { λ r. ⌜ boundingBoxOutcome r ≡ measureAligned (u8g2 (now (font .entry))) (request (now (text .entry)) placement «horizontal_align») ⌝ }
+    ensures { λ r. ⌜ boundingBoxOutcome r ≡ measureAligned (u8g2 (now (font .entry)))
+        (request (now (text .entry)) placement «horizontal_align») ⌝ }
 {
     let measured = aligned_dimensions(font, text, placement, horizontal_align);
     match measured {

@@ -54,9 +54,12 @@ fn draw_at_corner(
     pixels: &mut [u8],
 ) -> DimensionsResult
     requires { ⌜ Measured (now font) (now text) «line_height» rectangle × Framed rectangle framebuffer (length (now pixels)) ⌝ }
-    ensures answered { λ r. ⌜ dimensionsOutcome r ≡ drawnWhole (now (font .entry)) (now (text .entry)) «line_height» color rectangle (now (pixels .entry)) ⌝ }
-    ensures shown { λ r. ⌜ now (pixels .exit) ≡ shownWhole (now (font .entry)) (now (text .entry)) «line_height» color rectangle (now (pixels .entry)) ⌝ }
-    ensures seen { λ r. ⌜ ((advance : Point) → measuredAtZero (now (font .entry)) (now (text .entry)) «line_height» ≡ success (boxed advance rectangle) → SeenWhole advance rectangle (dimensionsOutcome r)) ⌝ }
+    ensures answered { λ r. ⌜ dimensionsOutcome r ≡ drawnWhole (now (font .entry)) (now (text .entry)) «line_height» color
+        rectangle (now (pixels .entry)) ⌝ }
+    ensures shown { λ r. ⌜ now (pixels .exit) ≡ shownWhole (now (font .entry)) (now (text .entry)) «line_height» color rectangle
+        (now (pixels .entry)) ⌝ }
+    ensures seen { λ r. ⌜ ((advance : Point) → measuredAtZero (now (font .entry)) (now (text .entry)) «line_height» ≡ success
+        (boxed advance rectangle) → SeenWhole advance rectangle (dimensionsOutcome r)) ⌝ }
 {
     let placement = Placement {
         position: Point {
@@ -80,7 +83,8 @@ fn draw_box(
     buffer: &mut [u8],
 ) -> Drawing
     requires { ⌜ Measured (now font) (now text) «line_height» rectangle × (length (now buffer) ≡ 65536) ⌝ }
-    ensures { λ r. ⌜ IsDrawing (now (font .entry)) (now (text .entry)) «line_height» color (now (buffer .entry)) (now (buffer .exit)) r ⌝ }
+    ensures { λ r. ⌜ IsDrawing (now (font .entry)) (now (text .entry)) «line_height» color (now (buffer .entry))
+        (now (buffer .exit)) r ⌝ }
 {
     let size = rectangle.size;
     let width = size.width as usize;
@@ -116,7 +120,8 @@ fn draw_measured(
     buffer: &mut [u8],
 ) -> Drawing
     requires { ⌜ («line_height» ≤ 128) × (length (now buffer) ≡ 65536) ⌝ }
-    ensures { λ r. ⌜ IsDrawing (now (font .entry)) (now (text .entry)) «line_height» color (now (buffer .entry)) (now (buffer .exit)) r ⌝ }
+    ensures { λ r. ⌜ IsDrawing (now (font .entry)) (now (text .entry)) «line_height» color (now (buffer .entry))
+        (now (buffer .exit)) r ⌝ }
 {
     let placement = Placement {
         position: Point { x: 0, y: 0 },
@@ -141,7 +146,8 @@ fn draw_measured(
 // Draws the text with the font's default line height, into the beginning of a buffer for the largest framebuffer.
 pub fn draw_text(font: &[u8], text: &[u8], color: FontColor, buffer: &mut [u8]) -> Drawing
     requires { ⌜ length (now buffer) ≡ 65536 ⌝ }
-    ensures { λ r. ⌜ IsDrawing (now (font .entry)) (now (text .entry)) (header (now (font .entry)) .«line_height») color (now (buffer .entry)) (now (buffer .exit)) r ⌝ }
+    ensures { λ r. ⌜ IsDrawing (now (font .entry)) (now (text .entry)) (header (now (font .entry)) .«line_height») color
+        (now (buffer .entry)) (now (buffer .exit)) r ⌝ }
 {
     match new_from_raw_data(font) {
         FontReaderResult::Err(error) => Drawing::Refused(error),

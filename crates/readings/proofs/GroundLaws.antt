@@ -37,14 +37,17 @@ all-rubbish l n e each =
 
 -- ---- one box
 
-module _ (place : Place) (fits : PlaceFits (place .framebuffer .width) (place .framebuffer .height)) (bytes : List ℕ) (whole : length bytes ≡ place .framebuffer .width * place .framebuffer .height) where
+module _ (place : Place) (fits : PlaceFits (place .framebuffer .width) (place .framebuffer .height)) (bytes : List ℕ)
+    (whole : length bytes ≡ place .framebuffer .width * place .framebuffer .height) where
   module _ (box : BoundingBox) where
     pub length-cleared : length (shown (place .framebuffer .width) (fillPicture (place .background) box) bytes) ≡ place .framebuffer .width * place .framebuffer .height
     length-cleared = length-shown (place .framebuffer .width) (fillPicture (place .background) box) bytes ∙ whole
 
     module _ (column row : ℕ) (c : column < place .framebuffer .width) (r : row < place .framebuffer .height) where
       lies : row * place .framebuffer .width + column < length bytes
-      lies = let below : suc row ≤ place .framebuffer .height = omega arith in omega (arith, whole, mul-le-mul-right (place .framebuffer .width) below, mul-comm (place .framebuffer .width) (place .framebuffer .height))
+      lies =
+          let below : suc row ≤ place .framebuffer .height = omega arith in
+          omega (arith, whole, mul-le-mul-right (place .framebuffer .width) below, mul-comm (place .framebuffer .width) (place .framebuffer .height))
 
       abbrev after : ℕ
       after = pixel (groundOf place bytes) (shown (place .framebuffer .width) (fillPicture (place .background) box) bytes) column row
@@ -88,8 +91,10 @@ module _ (font : List ℕ) (place : Place) (fits : PlaceFits (place .framebuffer
   length-by (success d) bytes l = length-cleared place fits bytes l (d .«bounding_box»)
   length-by (refused n c) bytes l = l
 
-  module _ (n : ℕ) (bytes : List ℕ) (whole : length bytes ≡ place .framebuffer .width * place .framebuffer .height) where
-    clear-next : (o : Outcome RenderedDimensions) → measured font (reading place n) ≡ o → ClearTo n font place bytes → ClearTo (suc n) font place (clearedBy (place .framebuffer .width) (place .background) o bytes)
+  module _ (n : ℕ) (bytes : List ℕ)
+      (whole : length bytes ≡ place .framebuffer .width * place .framebuffer .height) where
+    clear-next : (o : Outcome RenderedDimensions) → measured font (reading place n) ≡ o → ClearTo n font place bytes
+        → ClearTo (suc n) font place (clearedBy (place .framebuffer .width) (place .background) o bytes)
     clear-next (success d) m clear k h e f column row c r i = by (decLt k n)
       where
         by : Dec (k < n) → pixel (groundOf place bytes) (shown (place .framebuffer .width) (fillPicture (place .background) (d .«bounding_box»)) bytes) column row ≡ place .background

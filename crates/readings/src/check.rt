@@ -30,7 +30,8 @@ use types::style::Placement;
 // Draws the text alone on the ground, into `alone`: whole, or not at all.
 pub fn draw_alone(font: &[u8], text: &[u8], place: Place, ground: &[u8], alone: &mut [u8])
     requires { ⌜ length (now ground) ≡ length (now alone) ⌝ }
-    ensures { λ r. ⌜ now (alone .exit) ≡ readingOn (now (font .entry)) (asked place (now (text .entry))) (groundOf place (now (ground .entry))) ⌝ }
+    ensures { λ r. ⌜ now (alone .exit) ≡ readingOn (now (font .entry)) (asked place (now (text .entry)))
+        (groundOf place (now (ground .entry))) ⌝ }
 {
     copy(ground, &mut alone[..]);
     let position = place.position;
@@ -83,8 +84,10 @@ fn clear_narrow(
     place: Place,
     screen: &mut [u8],
 )
-    requires { ⌜ Opened (now font) head × (Checked (now text) (pen .origin) (pen .«line_height») × FitsPlace (length (now screen)) place) ⌝ }
-    ensures { λ r. ⌜ now (screen .exit) ≡ clearedBy (place .framebuffer .width) (place .background) (toFill true (countedWith (now (font .entry)) (now (text .entry)) pen)) (now (screen .entry)) ⌝ }
+    requires { ⌜ Opened (now font) head × (Checked (now text) (pen .origin) (pen .«line_height») × FitsPlace
+        (length (now screen)) place) ⌝ }
+    ensures { λ r. ⌜ now (screen .exit) ≡ clearedBy (place .framebuffer .width) (place .background)
+        (toFill true (countedWith (now (font .entry)) (now (text .entry)) pen)) (now (screen .entry)) ⌝ }
 {
     let drawn = get_drawn_dimensions(font, head, text, pen);
     let DimensionsResult::Ok(dimensions) = drawn else {
@@ -110,8 +113,10 @@ fn redraw_narrow(
     place: Place,
     screen: &mut [u8],
 ) -> DimensionsResult
-    ensures answered { λ r. ⌜ dimensionsOutcome r ≡ redrawn (now (font .entry)) (now («old_text» .entry)) (asked place (now («new_text» .entry))) (groundOf place (now (screen .entry))) ⌝ }
-    ensures shown { λ r. ⌜ now (screen .exit) ≡ stepBuffer true (now (font .entry)) (now («old_text» .entry)) (asked place (now («new_text» .entry))) (place .background) (groundOf place (now (screen .entry))) ⌝ }
+    ensures answered { λ r. ⌜ dimensionsOutcome r ≡ redrawn (now (font .entry)) (now («old_text» .entry))
+        (asked place (now («new_text» .entry))) (groundOf place (now (screen .entry))) ⌝ }
+    ensures shown { λ r. ⌜ now (screen .exit) ≡ stepBuffer true (now (font .entry)) (now («old_text» .entry))
+        (asked place (now («new_text» .entry))) (place .background) (groundOf place (now (screen .entry))) ⌝ }
 {
     match check_step(font, old_text, new_text, place, &screen[..]) {
         StepResult::Err(error) => DimensionsResult::Err(error),
@@ -133,8 +138,11 @@ pub fn redraw_on(
     trial: Trial,
     screen: &mut [u8],
 ) -> DimensionsResult
-    ensures answered { λ r. ⌜ dimensionsOutcome r ≡ redrawn (now (font .entry)) (now («old_text» .entry)) (asked (trial .place) (now («new_text» .entry))) (groundOf (trial .place) (now (screen .entry))) ⌝ }
-    ensures shown { λ r. ⌜ now (screen .exit) ≡ stepBuffer (trial .narrow) (now (font .entry)) (now («old_text» .entry)) (asked (trial .place) (now («new_text» .entry))) (trial .place .background) (groundOf (trial .place) (now (screen .entry))) ⌝ }
+    ensures answered { λ r. ⌜ dimensionsOutcome r ≡ redrawn (now (font .entry)) (now («old_text» .entry))
+        (asked (trial .place) (now («new_text» .entry))) (groundOf (trial .place) (now (screen .entry))) ⌝ }
+    ensures shown { λ r. ⌜ now (screen .exit) ≡ stepBuffer (trial .narrow) (now (font .entry)) (now («old_text» .entry))
+        (asked (trial .place) (now («new_text» .entry))) (trial .place .background)
+        (groundOf (trial .place) (now (screen .entry))) ⌝ }
 {
     let place = trial.place;
     if trial.narrow {

@@ -26,7 +26,8 @@ fn fill_with_rubbish(buffer: &mut [u8])
 // Fills the reading's box with the background. A refused reading has none.
 fn clear_reading(font: &[u8], k: usize, place: Place, buffer: &mut [u8])
     requires { ⌜ FitsPlace (length (now buffer)) place ⌝ }
-    ensures { λ r. ⌜ now (buffer .exit) ≡ clearedBy (place .framebuffer .width) (place .background) (measured (now (font .entry)) (reading place k)) (now (buffer .entry)) ⌝ }
+    ensures { λ r. ⌜ now (buffer .exit) ≡ clearedBy (place .framebuffer .width) (place .background)
+        (measured (now (font .entry)) (reading place k)) (now (buffer .entry)) ⌝ }
 {
     let position = place.position;
     let vertical_pos = place.vertical_pos;
@@ -52,7 +53,8 @@ fn clear_reading(font: &[u8], k: usize, place: Place, buffer: &mut [u8])
 }
 
 pub fn lay_ground(font: &[u8], place: Place, buffer: &mut [u8])
-    requires { ⌜ PlaceFits (place .framebuffer .width) (place .framebuffer .height) × (length (now buffer) ≡ place .framebuffer .width * place .framebuffer .height) ⌝ }
+    requires { ⌜ PlaceFits (place .framebuffer .width) (place .framebuffer .height)
+        × (length (now buffer) ≡ place .framebuffer .width * place .framebuffer .height) ⌝ }
     ensures laid { λ r. ⌜ now (buffer .exit) ≡ ground (now (font .entry)) place ⌝ }
     ensures clear { λ r. ⌜ ClearTo 901 (now (font .entry)) place (now (buffer .exit)) ⌝ }
     ensures rubbish { λ r. ⌜ RubbishBeside 901 (now (font .entry)) place (now (buffer .exit)) ⌝ }

@@ -49,8 +49,10 @@ pub fn counted(totals: Totals, found: Found) -> Totals
 
 // Draws reading k over the reading `old`.
 fn draw_over(font: &[u8], old: usize, k: usize, trial: Trial, screen: &mut [u8]) -> DimensionsResult
-    ensures answered { λ r. ⌜ dimensionsOutcome r ≡ redrawn (now (font .entry)) (readingText old) (reading (trial .place) k) (groundOf (trial .place) (now (screen .entry))) ⌝ }
-    ensures shown { λ r. ⌜ now (screen .exit) ≡ stepBuffer (trial .narrow) (now (font .entry)) (readingText old) (reading (trial .place) k) (trial .place .background) (groundOf (trial .place) (now (screen .entry))) ⌝ }
+    ensures answered { λ r. ⌜ dimensionsOutcome r ≡ redrawn (now (font .entry)) (readingText old) (reading (trial .place) k)
+        (groundOf (trial .place) (now (screen .entry))) ⌝ }
+    ensures shown { λ r. ⌜ now (screen .exit) ≡ stepBuffer (trial .narrow) (now (font .entry)) (readingText old)
+        (reading (trial .place) k) (trial .place .background) (groundOf (trial .place) (now (screen .entry))) ⌝ }
 {
     let mut old_text = [0u8; 6];
     let mut new_text = [0u8; 6];
@@ -95,7 +97,8 @@ pub fn step(
     alone: &mut [u8],
 ) -> Found
     requires { ⌜ (length (now ground) ≡ length (now alone)) × (length (now screen) ≡ length (now alone)) ⌝ }
-    ensures { λ r. ⌜ Finds (trial .narrow) (now (font .entry)) (trial .place) (now (ground .entry)) (screenOf old (now (screen .entry))) k r (now (screen .exit)) ⌝ }
+    ensures { λ r. ⌜ Finds (trial .narrow) (now (font .entry)) (trial .place) (now (ground .entry))
+        (screenOf old (now (screen .entry))) k r (now (screen .exit)) ⌝ }
 {
     let place = trial.place;
     let answer = draw_over(font, old, k, trial, &mut screen[..]);

@@ -29,8 +29,10 @@ fn clear_reading(
     place: Place,
     buffer: &mut [u8],
 )
-    requires { ⌜ Opened (now font) head × (Checked (now text) (pen .origin) (pen .«line_height») × FitsPlace (length (now buffer)) place) ⌝ }
-    ensures { λ r. ⌜ now (buffer .exit) ≡ clearedBy (place .framebuffer .width) (place .background) (countedWith (now (font .entry)) (now (text .entry)) pen) (now (buffer .entry)) ⌝ }
+    requires { ⌜ Opened (now font) head × (Checked (now text) (pen .origin) (pen .«line_height») × FitsPlace
+        (length (now buffer)) place) ⌝ }
+    ensures { λ r. ⌜ now (buffer .exit) ≡ clearedBy (place .framebuffer .width) (place .background)
+        (countedWith (now (font .entry)) (now (text .entry)) pen) (now (buffer .entry)) ⌝ }
 {
     let drawn = get_drawn_dimensions(font, head, text, pen);
     let DimensionsResult::Ok(dimensions) = drawn else {
@@ -56,9 +58,12 @@ pub fn draw_reading(
     place: Place,
     buffer: &mut [u8],
 ) -> DimensionsResult
-    requires { ⌜ Opened (now font) head × (Checked (now text) (pen .origin) (pen .«line_height») × FitsPlace (length (now buffer)) place) ⌝ }
+    requires { ⌜ Opened (now font) head × (Checked (now text) (pen .origin) (pen .«line_height») × FitsPlace
+        (length (now buffer)) place) ⌝ }
     ensures answered { λ r. ⌜ dimensionsOutcome r ≡ countedWith (now (font .entry)) (now (text .entry)) pen ⌝ }
-    ensures shown { λ r. ⌜ now (buffer .exit) ≡ wholeOr (countedWith (now (font .entry)) (now (text .entry)) pen) (drawnWith (now (font .entry)) (now (text .entry)) pen (contextOf place) (now (buffer .entry))) (now (buffer .entry)) ⌝ }
+    ensures shown { λ r. ⌜ now (buffer .exit) ≡ wholeOr (countedWith (now (font .entry)) (now (text .entry)) pen)
+        (drawnWith (now (font .entry)) (now (text .entry)) pen (contextOf place) (now (buffer .entry)))
+        (now (buffer .entry)) ⌝ }
 {
     let expected = get_drawn_dimensions(font, head, text, pen);
     let DimensionsResult::Ok(_) = expected else {
@@ -80,9 +85,13 @@ pub fn redraw(
     place: Place,
     buffer: &mut [u8],
 ) -> DimensionsResult
-    ensures answered { λ r. ⌜ dimensionsOutcome r ≡ redrawn (now (font .entry)) (now («old_text» .entry)) (asked place (now («new_text» .entry))) (groundOf place (now (buffer .entry))) ⌝ }
-    ensures shown { λ r. ⌜ now (buffer .exit) ≡ redrawnBuffer (now (font .entry)) (now («old_text» .entry)) (asked place (now («new_text» .entry))) (place .background) (groundOf place (now (buffer .entry))) ⌝ }
-    ensures leaves { λ r. ⌜ LeavesReading (settingOf (now (font .entry)) place) (now («old_text» .entry)) (readingOf (now («new_text» .entry)) (place .color)) (now (buffer .entry)) (dimensionsOutcome r) (now (buffer .exit)) ⌝ }
+    ensures answered { λ r. ⌜ dimensionsOutcome r ≡ redrawn (now (font .entry)) (now («old_text» .entry))
+        (asked place (now («new_text» .entry))) (groundOf place (now (buffer .entry))) ⌝ }
+    ensures shown { λ r. ⌜ now (buffer .exit) ≡ redrawnBuffer (now (font .entry)) (now («old_text» .entry))
+        (asked place (now («new_text» .entry))) (place .background) (groundOf place (now (buffer .entry))) ⌝ }
+    ensures leaves { λ r. ⌜ LeavesReading (settingOf (now (font .entry)) place) (now («old_text» .entry))
+        (readingOf (now («new_text» .entry)) (place .color)) (now (buffer .entry)) (dimensionsOutcome r)
+        (now (buffer .exit)) ⌝ }
 {
     match check_step(font, old_text, new_text, place, &buffer[..]) {
         StepResult::Err(error) => DimensionsResult::Err(error),

@@ -36,7 +36,8 @@ pub fn check_step(
     place: Place,
     buffer: &[u8],
 ) -> StepResult
-    ensures { λ r. ⌜ stepOutcome r ≡ checkedStep (now (font .entry)) (now («old_text» .entry)) (asked place (now («new_text» .entry))) (groundOf place (now (buffer .entry))) ⌝ }
+    ensures { λ r. ⌜ stepOutcome r ≡ checkedStep (now (font .entry)) (now («old_text» .entry))
+        (asked place (now («new_text» .entry))) (groundOf place (now (buffer .entry))) ⌝ }
 {
     let position = place.position;
     let vertical_pos = place.vertical_pos;

@@ -81,8 +81,10 @@ fn draw_answer(
     context: Context,
     buffer: &mut [u8],
 )
-    requires { ⌜ RunsChecked (now font) head (asAnswer answer) × (HasRoom origin dimensions × Fits (length (now buffer)) context) ⌝ }
-    ensures { λ r. ⌜ now (buffer .exit) ≡ answerShown (context .framebuffer .width) (context .color) (pixelsOf (u8g2 (now (font .entry)))) origin dimensions (asAnswer answer) (now (buffer .entry)) ⌝ }
+    requires { ⌜ RunsChecked (now font) head (asAnswer answer) × (HasRoom origin dimensions × Fits (length (now buffer))
+        context) ⌝ }
+    ensures { λ r. ⌜ now (buffer .exit) ≡ answerShown (context .framebuffer .width) (context .color)
+        (pixelsOf (u8g2 (now (font .entry)))) origin dimensions (asAnswer answer) (now (buffer .entry)) ⌝ }
 {
     match answer {
         Answer::Shows(glyph) => {
@@ -115,9 +117,13 @@ fn draw_char(
     context: Context,
     buffer: &mut [u8],
 ) -> DimensionsResult
-    requires { ⌜ Opened (now font) head × (HasRoom (pen .origin) dimensions × ((pen .«line_height» ≤ 65535) × Fits (length (now buffer)) context)) ⌝ }
-    ensures counted { λ r. ⌜ dimensionsOutcome r ≡ step (drawnAnswer (u8g2 (now (font .entry))) (pen .«ignore_unknown_chars»)) (pen .«line_height») (pen .origin) dimensions ch ⌝ }
-    ensures shown { λ r. ⌜ now (buffer .exit) ≡ stepShown (context .framebuffer .width) (context .color) (pixelsOf (u8g2 (now (font .entry)))) (drawnAnswer (u8g2 (now (font .entry))) (pen .«ignore_unknown_chars»)) (pen .origin) dimensions ch (now (buffer .entry)) ⌝ }
+    requires { ⌜ Opened (now font) head × (HasRoom (pen .origin) dimensions
+        × ((pen .«line_height» ≤ 65535) × Fits (length (now buffer)) context)) ⌝ }
+    ensures counted { λ r. ⌜ dimensionsOutcome r ≡ step (drawnAnswer (u8g2 (now (font .entry))) (pen .«ignore_unknown_chars»))
+        (pen .«line_height») (pen .origin) dimensions ch ⌝ }
+    ensures shown { λ r. ⌜ now (buffer .exit) ≡ stepShown (context .framebuffer .width) (context .color)
+        (pixelsOf (u8g2 (now (font .entry)))) (drawnAnswer (u8g2 (now (font .entry))) (pen .«ignore_unknown_chars»))
+        (pen .origin) dimensions ch (now (buffer .entry)) ⌝ }
 {
     if ch == NEWLINE {
         return DimensionsResult::Ok(add_newline(dimensions, pen.line_height));
@@ -145,9 +151,11 @@ pub fn draw_text(
     context: Context,
     buffer: &mut [u8],
 ) -> DimensionsResult
-    requires { ⌜ Opened (now font) head × (Checked (now text) (pen .origin) (pen .«line_height») × Fits (length (now buffer)) context) ⌝ }
+    requires { ⌜ Opened (now font) head × (Checked (now text) (pen .origin) (pen .«line_height») × Fits (length (now buffer))
+        context) ⌝ }
     ensures counted { λ r. ⌜ dimensionsOutcome r ≡ countedWith (now (font .entry)) (now (text .entry)) pen ⌝ }
-    ensures shown { λ r. ⌜ now (buffer .exit) ≡ drawnWith (now (font .entry)) (now (text .entry)) pen context (now (buffer .entry)) ⌝ }
+    ensures shown { λ r. ⌜ now (buffer .exit) ≡ drawnWith (now (font .entry)) (now (text .entry)) pen context
+        (now (buffer .entry)) ⌝ }
 {
     let mut dimensions = RenderedDimensions {
         advance: Point { x: 0, y: 0 },
@@ -200,8 +208,10 @@ pub fn render(
     framebuffer: Framebuffer,
     buffer: &mut [u8],
 ) -> DimensionsResult
-    ensures answered { λ r. ⌜ dimensionsOutcome r ≡ draw (u8g2 (now (font .entry))) (plain (now (text .entry)) placement) color framebuffer (now (buffer .entry)) ⌝ }
-    ensures shown { λ r. ⌜ now (buffer .exit) ≡ drawBuffer (u8g2 (now (font .entry))) (plain (now (text .entry)) placement) color framebuffer (now (buffer .entry)) ⌝ }
+    ensures answered { λ r. ⌜ dimensionsOutcome r ≡ draw (u8g2 (now (font .entry))) (plain (now (text .entry)) placement) color
+        framebuffer (now (buffer .entry)) ⌝ }
+    ensures shown { λ r. ⌜ now (buffer .exit) ≡ drawBuffer (u8g2 (now (font .entry))) (plain (now (text .entry)) placement)
+        color framebuffer (now (buffer .entry)) ⌝ }
 {
     match new_from_raw_data(font) {
         FontReaderResult::Err(error) => DimensionsResult::Err(error),

@@ -33,7 +33,8 @@ fn position_for(wanted: Wanted, extent: Extent) -> Point
 // The framebuffer for it. Where all readings are to be seen and no side is cut off at 256 pixels, all are.
 pub fn place_for(font: &[u8], options: Options) -> Place
     ensures place { λ r. ⌜ r ≡ placeFor (now (font .entry)) options ⌝ }
-    ensures seen { λ r. ⌜ (options .wanted ≡ Seen → Uncut r (extentOf (now (font .entry)) (options .«vertical_pos») 901) → AllSeen (now (font .entry)) r) ⌝ }
+    ensures seen { λ r. ⌜ (options .wanted ≡ Seen → Uncut r (extentOf (now (font .entry)) (options .«vertical_pos») 901)
+        → AllSeen (now (font .entry)) r) ⌝ }
 {
     let vertical_pos = options.vertical_pos;
     let wanted = options.wanted;

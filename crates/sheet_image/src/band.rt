@@ -37,7 +37,8 @@ pub fn put_cell(
 ) -> usize
     requires { ⌜ BandFits (length (now band)) n j (length (now screen)) framebuffer ⌝ }
     ensures next { λ r. ⌜ (r ≡ nextCell n j «is_last») × (r < n) ⌝ }
-    ensures placed { λ r. ⌜ now (band .exit) ≡ withCell (n * framebuffer .width) (j * framebuffer .width) (now (screen .entry)) (framebuffer .width) (framebuffer .height) (begun j (now (band .entry))) ⌝ }
+    ensures placed { λ r. ⌜ now (band .exit) ≡ withCell (n * framebuffer .width) (j * framebuffer .width) (now (screen .entry))
+        (framebuffer .width) (framebuffer .height) (begun j (now (band .entry))) ⌝ }
 {
     let width = framebuffer.width;
     let height = framebuffer.height;

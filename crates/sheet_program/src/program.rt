@@ -58,7 +58,8 @@ fn fill_sheet(
     alone: &mut [u8],
     band: &mut [u8],
 ) -> Sheet
-    requires { ⌜ SheetFits (place .framebuffer) (length (now ground)) (length (now screen)) (length (now alone)) (length (now band)) ⌝ }
+    requires { ⌜ SheetFits (place .framebuffer) (length (now ground)) (length (now screen)) (length (now alone))
+        (length (now band)) ⌝ }
     ensures { λ r. ⌜ SheetOf narrow (now (font .entry)) place r ⌝ }
 {
     lay_ground(font, place, &mut ground[..]);
@@ -88,7 +89,8 @@ pub fn make_sheet(
     alone: &mut [u8],
     band: &mut [u8],
 ) -> Sheet
-    requires { ⌜ (length (now ground) ≡ 65536) × ((length (now screen) ≡ 65536) × ((length (now alone) ≡ 65536) × (length (now band) ≡ 262000))) ⌝ }
+    requires { ⌜ (length (now ground) ≡ 65536) × ((length (now screen) ≡ 65536)
+        × ((length (now alone) ≡ 65536) × (length (now band) ≡ 262000))) ⌝ }
     ensures { λ r. ⌜ SheetOf (options .narrow) (now (font .entry)) (placeFor (now (font .entry)) options) r ⌝ }
 {
     let place = place_for(font, options);

@@ -49,11 +49,14 @@ pub fn run(
     band: &mut [u8],
     image: i32,
 ) -> Totals
-    requires fits { ⌜ SheetFits (trial .place .framebuffer) (length (now ground)) (length (now screen)) (length (now alone)) (length (now band)) ⌝ }
+    requires fits { ⌜ SheetFits (trial .place .framebuffer) (length (now ground)) (length (now screen)) (length (now alone))
+        (length (now band)) ⌝ }
     requires begins { ⌜ now screen ≡ now ground ⌝ }
     ensures totals { λ r. ⌜ r ≡ totalsTo (trial .narrow) (now (font .entry)) (trial .place) (now (ground .entry)) 901 ⌝ }
-    ensures left { λ r. ⌜ now (screen .exit) ≡ screenAt (trial .narrow) (now (font .entry)) (trial .place) (now (ground .entry)) 901 .bytes ⌝ }
-    ensures sound { λ r. ⌜ (ClearTo 901 (now (font .entry)) (trial .place) (now (ground .entry)) → Sound (trial .narrow) (now (font .entry)) (trial .place) (now (ground .entry)) r) ⌝ }
+    ensures left { λ r. ⌜ now (screen .exit) ≡ screenAt (trial .narrow) (now (font .entry)) (trial .place) (now (ground .entry))
+        901 .bytes ⌝ }
+    ensures sound { λ r. ⌜ (ClearTo 901 (now (font .entry)) (trial .place) (now (ground .entry)) → Sound (trial .narrow)
+        (now (font .entry)) (trial .place) (now (ground .entry)) r) ⌝ }
 {
     let place = trial.place;
     let framebuffer = place.framebuffer;

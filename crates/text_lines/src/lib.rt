@@ -104,7 +104,8 @@ fn add_char(
     pen: Pen,
 ) -> LineResult
     requires { ⌜ Opened (now font) head × (LineHasRoom (pen .origin) (asState state) × (pen .«line_height» ≤ 65535)) ⌝ }
-    ensures { λ r. ⌜ stateOutcome r ≡ lineStep (measuredAnswer (u8g2 (now (font .entry))) (pen .«ignore_unknown_chars»)) «horizontal_align» (pen .«line_height») (pen .origin) (asState state) ch ⌝ }
+    ensures { λ r. ⌜ stateOutcome r ≡ lineStep (measuredAnswer (u8g2 (now (font .entry))) (pen .«ignore_unknown_chars»))
+        «horizontal_align» (pen .«line_height») (pen .origin) (asState state) ch ⌝ }
 {
     if ch == NEWLINE {
         let origin = pen.origin;
@@ -155,7 +156,9 @@ pub fn measure_lines(
     pen: Pen,
 ) -> DimensionsResult
     requires { ⌜ Opened (now font) head × Checked (now text) (pen .origin) (pen .«line_height») ⌝ }
-    ensures { λ r. ⌜ dimensionsOutcome r ≡ measureLines (measuredAnswer (u8g2 (now (font .entry))) (pen .«ignore_unknown_chars»)) «horizontal_align» (pen .«line_height») (pen .origin) (characters (now (text .entry))) ⌝ }
+    ensures { λ r. ⌜ dimensionsOutcome r ≡ measureLines (measuredAnswer (u8g2 (now (font .entry)))
+        (pen .«ignore_unknown_chars»)) «horizontal_align» (pen .«line_height») (pen .origin)
+        (characters (now (text .entry))) ⌝ }
 {
     let mut state = LineState {
         line: empty_line(),

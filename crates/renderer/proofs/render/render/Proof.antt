@@ -82,7 +82,8 @@ draw-text-requires c κs =
 returns-3 : tie.Need-returns-3
 returns-3 c =
     let a = c .before .before .before .before .before .before .before .args in
-    font-refused (a .font .now) (plain (a .text .now) (a .placement)) (a .color) (a .framebuffer) (a .buffer .now) (sym (c .before .before .before .new-from-raw-data .ensures) ∙ ap fontReaderOutcome (c .before .error .given .1))
+    font-refused (a .font .now) (plain (a .text .now) (a .placement)) (a .color) (a .framebuffer) (a .buffer .now)
+    (sym (c .before .before .before .new-from-raw-data .ensures) ∙ ap fontReaderOutcome (c .before .error .given .1))
 
 returns-4 : tie.Need-returns-4
 returns-4 c =

@@ -26,7 +26,8 @@ returns-2 : tie.Need-returns-2
 returns-2 c =
     let s = c .before .before .before .before .before .before .before .before .before .before .before .before in
     let a = s .args in
-    let placed = ap (withCell (a .n * a .framebuffer .width) (a .j * a .framebuffer .width) (a .screen .now) (a .framebuffer .width) (a .framebuffer .height)) (c .before .before .before .before .before .before .before .before .begin-band .ensures) in
+    let placed = ap (withCell (a .n * a .framebuffer .width) (a .j * a .framebuffer .width) (a .screen .now) (a .framebuffer .width) (a .framebuffer .height))
+    (c .before .before .before .before .before .before .before .before .begin-band .ensures) in
     ((cell-after (a .n) (a .j) (a .is-last) (c .before .if1 .left) (c .if2 .taken), c .if2 .taken), c .before .before .before .before .place-cell .ensures ∙ placed)
 
 returns-3 : tie.Need-returns-3

@@ -33,7 +33,8 @@ slice-aggregate-fill-sheet-2 c =
     sym (front-length (fits (c .before .before .before .before)) (s .args .screen .now) (s .pre .1 .0))
 
 slice-relend-prefix-fill-sheet-3 : tie.Need-slice-relend-prefix-fill-sheet-3
-slice-relend-prefix-fill-sheet-3 c = omega (arith, place-size (fits (c .before .before .before .before)), c .before .before .before .before .before .before .before .before .before .before .pre .1 .1 .0)
+slice-relend-prefix-fill-sheet-3 c =
+    omega (arith, place-size (fits (c .before .before .before .before)), c .before .before .before .before .before .before .before .before .before .before .pre .1 .1 .0)
 
 slice-aggregate-fill-sheet-3 : tie.Need-slice-aggregate-fill-sheet-3
 slice-aggregate-fill-sheet-3 c =
