@@ -4,7 +4,7 @@ pub use mathlib.Core.Bool.{false, true, Bool, _||_, _&&_, not}
 pub use mathlib.Core.Logic.{inl, inr, ⊎-elim, _⊎_}
 pub use mathlib.Core.List.{List, [], _∷_, _++_, map, append-assoc, append-nil, map-append}
 pub use Prim.Native.Nat.{ℕ, _≤_, _<_, _+_, _-_, _*_, suc, zero, _/_, _^_, _%_, min, max}
-pub use native.Mathlib.Nat.{mul-le-mul-right, mul-le-mul, mul-comm, zero-add, add-zero, mod-lt, zero-mul, div-add-mod', mod-eq-of-lt, mul-assoc, suc-add, add-suc, div-eq-of-lt, div-le-self, div-one, lt-of-lt-of-le, mul-add-div-right, mul-add-mod-self-right, one-mul, pow-le-pow-right, pow-suc, sub-zero}
+pub use native.Mathlib.Nat.{add-mul, mul-le-mul-right, mul-le-mul, mul-comm, zero-add, add-zero, mod-lt, zero-mul, div-add-mod', mod-eq-of-lt, mul-assoc, suc-add, add-suc, div-eq-of-lt, div-le-self, div-one, lt-of-lt-of-le, mul-add-div-right, mul-add-mod-self-right, one-mul, pow-le-pow-right, pow-suc, sub-zero}
 pub use native.Mathlib.Decide.{decLt}
 pub use native.Mathlib.Numerals.{add-one, one-add}
 pub use native.Mathlib.Omega.{arith}

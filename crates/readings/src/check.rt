@@ -21,6 +21,7 @@ use redraw::step::check_step;
 use renderer::drawn_dimensions::get_drawn_dimensions;
 use renderer::render::render;
 use types::font_reader::FontReader;
+use types::framebuffer::Framebuffer;
 use types::geometry::BoundingBox;
 use types::geometry::Point;
 use types::geometry::Rectangle;
@@ -94,13 +95,11 @@ fn clear_narrow(
     };
     let old_box = dimensions.bounding_box;
     let bounding_box = narrowed(old_box);
-    fill_box(
-        screen,
-        place.width,
-        place.height,
-        bounding_box,
-        place.background,
-    );
+    let framebuffer = Framebuffer {
+        width: place.width,
+        height: place.height,
+    };
+    fill_box(bounding_box, place.background, framebuffer, screen);
 }
 
 // The step of the gauge with the fault put in.

@@ -12,6 +12,7 @@ use crate::texts::COUNT;
 use crate::texts::measure_reading;
 use crate::values::Place;
 use framebuffer::fill::fill_box;
+use types::framebuffer::Framebuffer;
 use types::results::DimensionsResult;
 
 fn fill_with_rubbish(buffer: &mut [u8])
@@ -37,13 +38,11 @@ fn clear_reading(font: &[u8], k: usize, place: Place, buffer: &mut [u8])
         return;
     };
     let bounding_box = d.bounding_box;
-    fill_box(
-        buffer,
-        place.width,
-        place.height,
-        bounding_box,
-        place.background,
-    );
+    let framebuffer = Framebuffer {
+        width: place.width,
+        height: place.height,
+    };
+    fill_box(bounding_box, place.background, framebuffer, buffer);
 }
 
 pub fn lay_ground(font: &[u8], place: Place, buffer: &mut [u8])

@@ -17,6 +17,7 @@ use framebuffer::fill::fill_box;
 use renderer::drawn_dimensions::get_drawn_dimensions;
 use renderer::render::draw_text;
 use types::font_reader::FontReader;
+use types::framebuffer::Framebuffer;
 use types::geometry::Point;
 use types::results::DimensionsResult;
 use types::style::FontColor;
@@ -43,7 +44,12 @@ fn clear_reading(
         return;
     };
     let bounding_box = dimensions.bounding_box;
-    fill_box(buffer, width, height, bounding_box, background);
+    fill_box(
+        bounding_box,
+        background,
+        Framebuffer { width, height },
+        buffer,
+    );
 }
 
 // Draws a text of which every character draws, and of any other nothing.

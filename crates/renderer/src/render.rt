@@ -30,6 +30,7 @@ use layout::steps::get_next_bounding_box;
 use runs::check_runs;
 use types::error::Error;
 use types::font_reader::FontReader;
+use types::framebuffer::Framebuffer;
 use types::geometry::BoundingBox;
 use types::geometry::Point;
 use types::geometry::RenderedDimensions;
@@ -87,9 +88,8 @@ fn draw_answer(
                 glyph,
                 glyph_box,
                 color,
+                Framebuffer { width, height },
                 &mut buffer[..],
-                width,
-                height,
             );
         }
         Answer::Nothing => {}
