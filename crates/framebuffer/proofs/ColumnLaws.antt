@@ -1,5 +1,5 @@
 -- Columns that are filled one after the other. Assumes nothing.
-use Rattle.integers.proofs.Prelude.{_≡_, refl, sym, ap, _∙_, List, ℕ, _+_, _-_, _≤_, _<_, max, decLt, arith, length, getD, set, length-set}
+use Rattle.integers.proofs.Prelude.{_≡_, refl, _∙_, List, ℕ, _+_, _-_, _≤_, _<_, max, decLt, arith, length, getD, set, length-set}
 use Rattle.integers.proofs.Prelude.{getD-set-same, getD-set-other}
 use Rattle.framebuffer.specs.Columns.{Filled}
 

@@ -21,12 +21,12 @@ pub record Hit (s : Ones) (p column y : ℕ) : Type 0 where
   pub drawn : pixelAt s column y < p
   pub one : getD (s .ps) (s .start + pixelAt s column y) 0 ≡ 1
 
-pub both : (a b : Bool) → a && b ≡ true → (a ≡ true) × (b ≡ true)
+both : (a b : Bool) → a && b ≡ true → (a ≡ true) × (b ≡ true)
 both true b e = (refl, e)
 both false b e = impossible cc
 
 module _ (s : Ones) (column y : ℕ) where
-  pub is-hit : (p : ℕ) → inked s p column y ≡ true → Hit s p column y
+  is-hit : (p : ℕ) → inked s p column y ≡ true → Hit s p column y
   is-hit p e =
       let a = both _ _ e in
       let b = both _ _ (a .1) in
@@ -42,7 +42,7 @@ module _ (s : Ones) (column y : ℕ) where
         one = eqb-true (getD (s .ps) (s .start + pixelAt s column y) 0) 1 (f .1);
       }
 
-  pub hit-inked : (p : ℕ) → Hit s p column y → inked s p column y ≡ true
+  hit-inked : (p : ℕ) → Hit s p column y → inked s p column y ≡ true
   hit-inked p h =
       rw (
         le-leb (s .top) y (h .below),
@@ -65,22 +65,18 @@ module _ (s : Ones) (column y : ℕ) where
       split true e = absurd (n (is-hit p e))
       split false e = refl
 
-  same-ink : (p q : ℕ) → (Hit s p column y → Hit s q column y) → (Hit s q column y → Hit s p column y) → inkAt s p column y ≡ inkAt s q column y
-  unfolding inkAt
-  same-ink p q to back = split (inked s p column y) (inked s q column y) refl refl
-    where
-      split : (t u : Bool) → inked s p column y ≡ t → inked s q column y ≡ u → pick t (put (s .value)) keep ≡ pick u (put (s .value)) keep
-      split true true e f = refl
-      split false false e f = refl
-      split true false e f = let g = hit-inked q (to (is-hit p e)) in impossible cc
-      split false true e f = let g = hit-inked p (back (is-hit q f)) in impossible cc
-
   -- more is drawn, and what is shown there was drawn before
   more-ink : (p q : ℕ) → p ≤ q → (Hit s q column y → pixelAt s column y < p) → inkAt s p column y ≡ inkAt s q column y
-  more-ink p q h k =
-      same-ink p q
-      (λ a. record { below = a .below; above = a .above; right = a .right; near = a .near; drawn = omega (arith, a .drawn); one = a .one })
-      (λ a. record { below = a .below; above = a .above; right = a .right; near = a .near; drawn = k a; one = a .one })
+  more-ink p q h k = split (inked s q column y) refl
+    where
+      with-drawn : (p q : ℕ) (a : Hit s p column y) → pixelAt s column y < q → Hit s q column y
+      with-drawn p q a d = record { below = a .below; above = a .above; right = a .right; near = a .near; drawn = d; one = a .one }
+
+      split : (t : Bool) → inked s q column y ≡ t → inkAt s p column y ≡ inkAt s q column y
+      split true e = let a = is-hit q e in hit-is p (with-drawn q p a (k a)) ∙ sym (hit-is q a)
+      split false e =
+          let out : Hit s q column y → ⊥ = λ a. let g = hit-inked q a in impossible cc in
+          hit-not p (λ a. out (with-drawn p q a (omega (arith, a .drawn)))) ∙ sym (hit-not q out)
 
   -- a pixel that is shown is one of the rows'
   in-rows : (p : ℕ) → s .first + s .visible ≤ s .wide → Hit s p column y → pixelAt s column y < s .rows * s .wide

@@ -1,5 +1,5 @@
 -- The drawing of rows: what holds at the head of each of its loops, and each step. Assumes nothing.
-use Rattle.integers.proofs.Prelude.{_≡_, sym, ap, subst, _∙_, List, ℕ, _+_, _-_, _*_, _≤_, _<_, max, add-mul, mul-le-mul-right, arith, lt-ltb, le-ltb}
+use Rattle.integers.proofs.Prelude.{_≡_, sym, ap, subst, _∙_, List, ℕ, _+_, _-_, _*_, _≤_, _<_, max, mul-le-mul-right, arith, lt-ltb, le-ltb}
 use Rattle.integers.proofs.Prelude.{length, getD}
 use borrow.Rule.Slice.PartMut.{midOf, putMid}
 use Rattle.definitions.specs.Framebuffer.{shown}

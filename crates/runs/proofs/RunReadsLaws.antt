@@ -2,12 +2,9 @@
 use Rattle.integers.proofs.Prelude.{_≡_, refl, sym, _∙_, Bool, true, false, List, [], ℕ, _+_, _-_, _*_, _≤_, _<_, eqb, length, drop, le-leb, lt-leb}
 use Rattle.integers.proofs.Prelude.{eq-eqb, ne-eqb}
 use Rattle.integers.specs.Integers.{pick}
-use Rattle.integers.proofs.Choices.{impossible}
 use Rattle.definitions.specs.Vocabulary.{FontReader, GlyphReader}
 use Rattle.definitions.specs.Bits.{Read, got, ends, bits, readAt}
 use Rattle.definitions.specs.Runs.{Pixels, pixels, cut, prepend, unlessCut, runs, glyphPixels, pixelsAfter, pixelsFrom}
-use Rattle.definitions.specs.Refusals.{success, refused}
-use Rattle.definitions.specs.Font.{withRuns}
 use Rattle.definitions.proofs.RunsLaws.{pairPixels, NewPair, runs-reads, after-reads}
 use Rattle.runs.specs.declared.Runs.{Runs}
 use Rattle.runs.specs.RunReads.{RunsRead, Pair, isWhole, unlessEnds, onPair, inFont, pairAt, nextPair}
@@ -84,14 +81,3 @@ module _ (font : List ℕ) (head : FontReader) (g : GlyphReader) where
   pub some-pixels : (count ≡ 0 → ⊥) → glyphPixels font head g ≡ runs (head .m0) (head .m1) count (drop (g .«bit_pos») (bits font))
   unfolding glyphPixels
   some-pixels h = simp (ne-eqb count 0 h)
-
--- ---- what the check says of a letter
-
-module _ (c : ℕ) (g : GlyphReader) where
-  pub runs-whole : (r : Pixels) → isWhole r ≡ true → withRuns c g r ≡ success g
-  runs-whole (pixels ps) e = refl
-  runs-whole cut e = impossible cc
-
-  pub runs-cut : (r : Pixels) → isWhole r ≡ false → withRuns c g r ≡ refused 8 c
-  runs-cut (pixels ps) e = impossible cc
-  runs-cut cut e = refl

@@ -1,7 +1,7 @@
 -- The law of a window: a shift and a remainder of it are the number of some of its bits. Assumes nothing.
 use Rattle.integers.proofs.Prelude.{_≡_, sym, ap, _∙_, List, [], _∷_, _++_, ℕ, zero, suc, _+_, _*_, _/_, _%_, _^_, _≤_, _<_, add-zero, div-one}
 use Rattle.integers.proofs.Prelude.{one-add, arith, take, drop, getD, take-nil, drop-nil, getD-drop, drop-drop}
-use lib.Pow.{shr-shr, mod-pow-add}
+use lib.Pow.{shr-shr}
 use Rattle.definitions.specs.Bits.{lowBits, bits, number}
 use Rattle.definitions.proofs.BitsLaws.{Small, double, power-suc, number-small, drop-bytes}
 use Rattle.runs.specs.Window.{window}

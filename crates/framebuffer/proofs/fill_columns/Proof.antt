@@ -1,5 +1,5 @@
 -- The invariant: the columns before `column` are filled where they are visible; ColumnLaws has the steps. Assumes nothing.
-use Rattle.integers.proofs.Prelude.{⊎-elim, _-_, _+_, _≤_, _<_, max, arith, length, needs}
+use Rattle.integers.proofs.Prelude.{⊎-elim, _-_, _+_, _≤_, max, arith, needs}
 use Rattle.framebuffer.specs.Columns.{Filled}
 use Rattle.framebuffer.proofs.ColumnLaws.{none-filled, skip-next, skip-rest, skip-none, fill-next}
 use Rattle.framebuffer.proofs.fill_columns.Statement.{statement}
