@@ -40,10 +40,10 @@ drop-bytes (suc i) (x ∷ font) =
 
 -- ---- the number of some bits in a row
 
-double : (k y : ℕ) → 2 ^ suc k * y ≡ 2 * (2 ^ k * y)
+pub double : (k y : ℕ) → 2 ^ suc k * y ≡ 2 * (2 ^ k * y)
 double k y = let e : 2 ^ suc k ≡ 2 * 2 ^ k = omega arith in rw e (mul-assoc 2 (2 ^ k) y)
 
-power-suc : (b x : ℕ) → x % 2 ^ suc b ≡ x % 2 + 2 * (x / 2 % 2 ^ b)
+pub power-suc : (b x : ℕ) → x % 2 ^ suc b ≡ x % 2 + 2 * (x / 2 % 2 ^ b)
 power-suc b x = let e = rw add-one at (mod-pow-add x b 1) in omega (arith, e)
 
 pub number-lowBits : (n x : ℕ) (more : List ℕ) (r b : ℕ) → r + b ≤ n → number (take b (drop r (lowBits n x ++ more))) ≡ x / 2 ^ r % 2 ^ b
@@ -144,7 +144,7 @@ read-longer font more at b n e =
 -- ---- the range of a number read
 
 -- a number of b bits is below 2 to the power b, wherever they stand
-abbrev Small : List ℕ → Type 0
+abbrev pub Small : List ℕ → Type 0
 Small s = (at b : ℕ) → number (take b (drop at s)) < 2 ^ b
 
 small-nil : Small []

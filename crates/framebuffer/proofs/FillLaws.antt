@@ -1,17 +1,18 @@
 -- A filled rectangle, row by row, and cut to the framebuffer. Assumes nothing.
-use Rattle.integers.proofs.Prelude.{_≡_, refl, sym, ap, _∙_, Bool, true, false, List, ℕ, _+_, _-_, _≤_, _<_, mul-le-mul-right, mul-le-mul, mul-comm}
-use Rattle.integers.proofs.Prelude.{zero-mul, zero-add, decLt, arith, ℤ, pos, natAbs, _-ℤ_, length, getD}
+use Rattle.integers.proofs.Prelude.{_≡_, refl, sym, ap, _∙_, Bool, true, false, List, ℕ, _+_, _-_, _*_, _≤_, _<_, mul-le-mul-right, mul-le-mul}
+use Rattle.integers.proofs.Prelude.{mul-comm, decLt, arith, ℤ, pos, length, getD, replicate, length-replicate, getD-replicate}
+use borrow.Rule.Slice.PartMut.{midOf, putMid}
 use Rattle.integers.specs.Integers.{pick}
-use Rattle.integers.proofs.Laws.{zarith, plus, minus, size}
-use Rattle.definitions.specs.Vocabulary.{Some, Rectangle, Transparent}
+use Rattle.integers.proofs.Laws.{zarith, plus}
+use Rattle.definitions.specs.Vocabulary.{Some, Rectangle}
 use Rattle.definitions.specs.Geometry.{left, top, right, bottom, Inside}
-use Rattle.definitions.specs.Picture.{Paint, keep, put, above, covers}
-use Rattle.definitions.specs.Framebuffer.{shown}
-use Rattle.definitions.proofs.PictureLaws.{covers-inside, inside-covers, rectangle-inside, rectangle-outside}
-use Rattle.definitions.proofs.FramebufferLaws.{same-picture, onto, shown-shown, blank, shown-blank}
-use Rattle.framebuffer.specs.Rows.{rowRectangle, rowPicture}
+use Rattle.definitions.specs.Picture.{Paint, keep, put, covers}
+use Rattle.definitions.specs.Framebuffer.{over, shown}
+use Rattle.definitions.proofs.PictureLaws.{covers-inside, inside-covers}
+use Rattle.definitions.proofs.FramebufferLaws.{length-shown, shown-at, same-picture, blank, shown-blank}
 use Rattle.framebuffer.specs.Areas.{BufferFits, clamped, area, AreaFits, fillPicture}
 use Rattle.framebuffer.proofs.RowLaws.{outside, row-of-pixel}
+use Rattle.framebuffer.proofs.PartLaws.{mid-length, part-is}
 use Rattle.framebuffer.proofs.ClampLaws.{clamped-is}
 
 module _ (color : ℕ) (r : Rectangle) (column row : ℤ) where
@@ -39,93 +40,64 @@ module _ (color : ℕ) (p q : Rectangle) (column row : ℤ) where
           fill-outside color p column row (outside p column row e)
           ∙ sym (fill-outside color q column row (λ i. outside p column row e (from i)))
 
--- A row of ones in one colour is that row filled.
-module _ (color : ℕ) (cells : List ℕ) (ones : (k : ℕ) → k < length cells → getD cells k 0 ≡ 1) (x y column row : ℤ) where
-  abbrev solid : Rectangle
-  solid = rowRectangle x y (length cells)
-
-  in-solid : Inside column row solid → rowPicture (Transparent color) cells x y column row ≡ put color
-  in-solid i =
-      let none : natAbs (row -ℤ y) ≡ 0 = omega (zarith, i .from-top, i .to-bottom, plus y (pos 1), size (row -ℤ y), minus row y) in
-      let k : natAbs (column -ℤ x) < length cells = omega (zarith, i .from-left, i .to-right, plus x (pos (length cells)), size (column -ℤ x), minus column x) in
-      rectangle-inside (Transparent color) column row cells solid i
-      ∙ rw (none, zero-mul, zero-add, ones (natAbs (column -ℤ x)) k)
-
-  ones-filled : rowPicture (Transparent color) cells x y column row ≡ fillPicture color (Some solid) column row
-  ones-filled = by (covers solid column row) refl
-    where
-      by : (t : Bool) → covers solid column row ≡ t → rowPicture (Transparent color) cells x y column row ≡ fillPicture color (Some solid) column row
-      by true e =
-          let i = covers-inside column row solid e in
-          in-solid i ∙ sym (fill-inside color solid column row i)
-      by false e =
-          rectangle-outside (Transparent color) column row cells solid (outside solid column row e)
-          ∙ sym (fill-outside color solid column row (outside solid column row e))
-
--- ---- one row more
-
-module _ (color left right top y : ℕ) (c : left ≤ right) (t : top ≤ y) (column row : ℤ) where
-  abbrev upper : Rectangle
-  upper = area left right top y
-
-  abbrev line : Rectangle
-  line = rowRectangle (pos left) (pos y) (right - left)
-
-  abbrev next : Rectangle
-  next = area left right top (y + 1)
-
-  upper-next : Inside column row upper → Inside column row next
-  upper-next i = record { from-left = i .from-left; to-right = i .to-right; from-top = i .from-top; to-bottom = omega (zarith, i .to-bottom) }
-
-  line-next : Inside column row line → Inside column row next
-  line-next i = record {
-    from-left = i .from-left;
-    to-right = i .to-right;
-    from-top = omega (zarith, i .from-top);
-    to-bottom = omega (zarith, i .to-bottom);
-  }
-
-  in-neither : (Inside column row upper → ⊥) → (Inside column row line → ⊥) → Inside column row next → ⊥
-  in-neither u l i = by (decLt (natAbs row) y)
-    where
-      by : Dec (natAbs row < y) → ⊥
-      by (yes p) = u record { from-left = i .from-left; to-right = i .to-right; from-top = i .from-top; to-bottom = omega (zarith, size row, i .from-top) }
-      by (no p) = l record {
-        from-left = i .from-left;
-        to-right = i .to-right;
-        from-top = omega (zarith, size row, i .from-top);
-        to-bottom = omega (zarith, i .to-bottom);
-      }
-
-  next-line : above (fillPicture color (Some line) column row) (fillPicture color (Some upper) column row) ≡ fillPicture color (Some next) column row
-  next-line = by (covers line column row) (covers upper column row) refl refl
-    where
-      by : (s t : Bool) → covers line column row ≡ s → covers upper column row ≡ t
-          → above (pick s (put color) keep) (pick t (put color) keep) ≡ fillPicture color (Some next) column row
-      by true t p q = sym (fill-inside color next column row (line-next (covers-inside column row line p)))
-      by false true p q = sym (fill-inside color next column row (upper-next (covers-inside column row upper q)))
-      by false false p q = sym (fill-outside color next column row (in-neither (outside upper column row q) (outside line column row p)))
+-- ---- row by row
 
 module _ {width : ℕ} (some : 0 < width) (color left right top : ℕ) (buffer : List ℕ) where
-  pub no-line-shown : shown width (fillPicture color (Some (area left right top top))) buffer ≡ buffer
-  no-line-shown =
+  -- the framebuffer with the rows before y filled
+  abbrev pub filledTo : ℕ → List ℕ
+  filledTo y = shown width (fillPicture color (Some (area left right top y))) buffer
+
+  pub no-row : filledTo top ≡ buffer
+  no-row =
       same-picture some (fillPicture color (Some (area left right top top))) blank buffer
       (λ column row c h. fill-outside color (area left right top top) (pos column) (pos row) (λ i. omega (zarith, i .from-top, i .to-bottom)))
       ∙ shown-blank width buffer
 
-  pub next-line-shown : (y : ℕ) (cells : List ℕ) → left ≤ right → top ≤ y → length cells ≡ right - left
-      → ((k : ℕ) → k < length cells → getD cells k 0 ≡ 1)
-      → shown width (rowPicture (Transparent color) cells (pos left) (pos y)) (shown width (fillPicture color (Some (area left right top y))) buffer)
-      ≡ shown width (fillPicture color (Some (area left right top (y + 1)))) buffer
-  next-line-shown y cells c t wide ones =
-      shown-shown width (rowPicture (Transparent color) cells (pos left) (pos y)) (fillPicture color (Some (area left right top y))) buffer
-      ∙ same-picture some (onto (rowPicture (Transparent color) cells (pos left) (pos y)) (fillPicture color (Some (area left right top y))))
-      (fillPicture color (Some (area left right top (y + 1)))) buffer
-      (λ column row d h.
-      ap (λ (p : Paint). above p (fillPicture color (Some (area left right top y)) (pos column) (pos row)))
-      (ones-filled color cells ones (pos left) (pos y) (pos column) (pos row)
-      ∙ ap (λ (n : ℕ). fillPicture color (Some (rowRectangle (pos left) (pos y) n)) (pos column) (pos row)) wide)
-      ∙ next-line color left right top y c t (pos column) (pos row))
+  module _ (y : ℕ) (c : left ≤ right) (t : top ≤ y) (w : right ≤ width) (b : y * width + width ≤ length buffer) where
+    abbrev upper : Rectangle
+    upper = area left right top y
+
+    abbrev next : Rectangle
+    next = area left right top (y + 1)
+
+    long : (k : ℕ) → length (filledTo k) ≡ length buffer
+    long k = length-shown width (fillPicture color (Some (area left right top k))) buffer
+
+    -- a pixel of the row
+    hit : (k : ℕ) → k < right - left → color ≡ getD (filledTo (y + 1)) (y * width + (left + k)) 0
+    hit k h =
+        let i : Inside (pos (left + k)) (pos y) next = record { from-left = omega zarith; to-right = omega zarith; from-top = omega zarith; to-bottom = omega zarith } in
+        sym (shown-at width (fillPicture color (Some next)) buffer (left + k) y (omega arith) (omega arith) ∙ rw (fill-inside color next (pos (left + k)) (pos y) i))
+
+    -- and another
+    kept : (column row : ℕ) → (y ≡ row → left ≤ column → column < left + (right - left) → ⊥)
+        → fillPicture color (Some upper) (pos column) (pos row) ≡ fillPicture color (Some next) (pos column) (pos row)
+    kept column row out =
+        fill-same color upper next (pos column) (pos row)
+        (λ i. record { from-left = i .from-left; to-right = i .to-right; from-top = i .from-top; to-bottom = omega (zarith, i .to-bottom) })
+        (λ i. split i (decLt row y))
+      where
+        split : Inside (pos column) (pos row) next → Dec (row < y) → Inside (pos column) (pos row) upper
+        split i (yes p) = record { from-left = i .from-left; to-right = i .to-right; from-top = i .from-top; to-bottom = omega (zarith, i .from-top) }
+        split i (no p) = absurd (out (omega (zarith, i .to-bottom, i .from-top)) (omega (zarith, i .from-left)) (omega (zarith, i .to-right)))
+
+    row-filled : putMid (y * width + left) (right - left) (filledTo y) (replicate (right - left) color) ≡ filledTo (y + 1)
+    row-filled =
+        part-is some y left (right - left) (filledTo y) (replicate (right - left) color) (filledTo (y + 1)) (omega arith) (omega (arith, long y))
+        (length-replicate (right - left) color) (long (y + 1) ∙ sym (long y))
+        (λ k h e. getD-replicate (right - left) k color 0 h ∙ hit k h)
+        (λ column row d l out.
+        let inside : row * width + column < length buffer = omega (arith, long y) in
+        shown-at width (fillPicture color (Some upper)) buffer column row d inside
+        ∙ ap (λ (p : Paint). over p (getD buffer (row * width + column) 0)) (kept column row out)
+        ∙ sym (shown-at width (fillPicture color (Some next)) buffer column row d inside))
+
+    -- The next row is filled: its n pixels were lent.
+    pub next-row : (n : ℕ) {old new : List ℕ} → n ≡ right - left → old ≡ filledTo y → new ≡ replicate (length (midOf (y * width + left) n old)) color
+        → putMid (y * width + left) n old new ≡ filledTo (y + 1)
+    next-row n e f g =
+        let l : length (midOf (y * width + left) (right - left) (filledTo y)) ≡ right - left = mid-length (y * width + left) (right - left) (filledTo y) (omega (arith, long y)) in
+        rw (g, f, e, l) row-filled
 
 -- ---- the part of a rectangle on the framebuffer
 

@@ -1,7 +1,5 @@
-pub mod PaintLaws
-pub mod PaintedLaws
+pub mod ColumnLaws
 pub mod RowLaws
 pub mod PartLaws
-pub mod ClipLaws
 pub mod ClampLaws
 pub mod FillLaws

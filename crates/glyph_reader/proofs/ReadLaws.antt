@@ -1,6 +1,6 @@
 -- The width's power of two as the code has it, and what the answers of the bit reader say of the read. Assumes nothing.
 use Rattle.integers.proofs.Prelude.{_≡_, refl, ap, _∙_, ℕ, _+_, _-_, _*_, _%_, _^_, _≤_, _<_, one-mul, mod-lt, lt-of-lt-of-le, arith, ℤ, pos, _-ℤ_}
-use Rattle.integers.proofs.Prelude.{w8, w32, Fits, SFits, toZ, ofZ, toZ-ofZ, toZ-pos}
+use Rattle.integers.proofs.Prelude.{w8, w32, SFits, toZ, ofZ, toZ-ofZ, toZ-pos}
 use lib.Pow.{pow-pos, pow-mono, shl-exact}
 use Rattle.integers.proofs.Choices.{impossible}
 use Rattle.integers.proofs.Laws.{zarith, minus, range}
@@ -25,8 +25,8 @@ power-pos e h = rw (power e h) (pow-pos e)
 pub remainder-is : (n e : ℕ) → e ≤ 8 → n % ((1 * 2 ^ e) % 2 ^ 32) ≡ n % 2 ^ e
 remainder-is n e h = rw (power e h)
 
-pub remainder-fits : (n e : ℕ) → e ≤ 8 → Fits w8 (n % ((1 * 2 ^ e) % 2 ^ 32))
-remainder-fits n e h = record { fits = rw (power e h) (lt-of-lt-of-le (mod-lt n (pow-pos e)) (pow-mono h)) }
+pub remainder-small : (j n e : ℕ) → e ≤ 8 → e ≤ j → n % ((1 * 2 ^ e) % 2 ^ 32) < 2 ^ j
+remainder-small j n e h k = rw (power e h) (lt-of-lt-of-le (mod-lt n (pow-pos e)) (pow-mono k))
 
 -- ---- a byte less a number, in 32 bits
 

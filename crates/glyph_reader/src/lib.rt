@@ -28,7 +28,7 @@ pub enum SignedRead {
 }
 
 // The byte at i, or 0 past the font's end.
-fn byte_or_zero(font: &[u8], i: usize) -> u32
+pub fn byte_or_zero(font: &[u8], i: usize) -> u32
     ensures { λ r. ⌜ (r ≡ getD (now (font .entry)) i 0) × (r ≤ 255) ⌝ }
 {
     if i < font.len() {

@@ -1,105 +1,70 @@
--- A glyph's box on the framebuffer: its visible rows show all that it shows. Assumes nothing.
-use Rattle.integers.proofs.Prelude.{_≡_, refl, sym, ap, _∙_, Bool, true, false, _&&_, _||_, List, ℕ, _+_, _*_, _≤_, _<_, mul-le-mul-right, mul-comm}
-use Rattle.integers.proofs.Prelude.{decLt, arith, eqb, ℤ, pos, natAbs, _+ℤ_, _-ℤ_, ltZ, leZ, length, getD, eqb-false}
+-- A glyph's box, and the part of it that lies on the framebuffer. Assumes nothing.
+use Rattle.integers.proofs.Prelude.{_≡_, sym, ap, Bool, true, false, _||_, List, ℕ, _≤_, _<_, arith, eqb, pos, length}
 use Rattle.integers.proofs.Choices.{impossible}
 use Rattle.integers.specs.Integers.{pick}
 use Rattle.integers.proofs.Laws.{zarith, plus}
-use Rattle.definitions.specs.Vocabulary.{None, Some, Rectangle, GlyphReader, FontColor}
-use Rattle.definitions.specs.Geometry.{left, top, right, bottom}
-use Rattle.definitions.specs.Picture.{keep, paintOf, rectanglePicture}
+use Rattle.definitions.specs.Vocabulary.{None, Some, Rectangle, GlyphReader, FontColor, Framebuffer}
+use Rattle.definitions.specs.Geometry.{left, top}
+use Rattle.definitions.specs.Picture.{rectanglePicture}
 use Rattle.definitions.specs.Framebuffer.{shown}
-use Rattle.definitions.proofs.PictureLaws.{rectangle-outside}
-use Rattle.definitions.proofs.FramebufferLaws.{same-picture, blank, shown-blank}
-use Rattle.framebuffer.specs.Rows.{firstRows}
-use Rattle.glyph_renderer.specs.declared.geometry.Rows.{Rows}
-use Rattle.framebuffer.specs.Areas.{BufferFits, clamped}
-use Rattle.glyph_renderer.specs.Visible.{visibleRows}
-use Rattle.glyph_renderer.specs.Drawing.{GlyphBox, GlyphArea}
-use Rattle.glyph_renderer.proofs.VisibleLaws.{rows-within, row-from-first, row-to-past}
+use Rattle.framebuffer.specs.Areas.{BufferFits}
+use Rattle.glyph_renderer.specs.declared.geometry.VisiblePart.{VisiblePart}
+use Rattle.glyph_renderer.specs.Visible.{visiblePart}
+use Rattle.glyph_renderer.specs.Drawing.{GlyphBox, GlyphArea, PartFits}
+use Rattle.glyph_renderer.proofs.VisibleLaws.{Seen, none-seen, seen-visible}
+use Rattle.glyph_renderer.proofs.RectangleLaws.{not-shown}
 
-module _ {width height : ℕ} (buffer : List ℕ) (f : BufferFits (length buffer) width height) (color : FontColor) (ps : List ℕ) (area : Rectangle)
-    {rows : Rows} (e : rows ≡ visibleRows (top area) (area .size .height) height) where
-  -- a pixel's row
-  in-height : (column row : ℕ) → row * width + column < length buffer → row < height
-  in-height column row h = split (decLt row height)
-    where
-      split : Dec (row < height) → row < height
-      split (yes p) = p
-      split (no p) = let q : height ≤ row = omega arith in absurd (omega (arith, f .area, mul-le-mul-right width q, mul-comm width height))
-
-  -- Rows before the first visible one show nothing.
-  pub hidden-rows : (k : ℕ) → k ≤ rows .first → shown width (rectanglePicture color ps (firstRows k area)) buffer ≡ buffer
-  hidden-rows k h =
-      let h′ : k ≤ clamped (pos 0 -ℤ top area) (area .size .height) = rw (ap (λ (r : Rows). r .first) e) at h in
-      same-picture (f .some) (rectanglePicture color ps (firstRows k area)) blank buffer
-      (λ column row c l.
-      rectangle-outside color (pos column) (pos row) ps (firstRows k area)
-      (λ i.
-      omega (
-        zarith,
-        i .to-bottom,
-        row-from-first (top area) (area .size .height) height row (i .from-top),
-        plus (top area) (pos k),
-        plus (top area)
-            (pos (clamped (pos 0 -ℤ top area) (area .size .height))),
-      )))
-      ∙ shown-blank width buffer
-
-  past-is : rows .past ≡ clamped (pos height -ℤ top area) (area .size .height)
-  past-is = ap (λ (r : Rows). r .past) e
-
-  -- A row of the framebuffer is above the box's bottom where it is above the last visible row's.
-  same-bottom : (row : ℕ) → row < height → ltZ (pos row) (top area +ℤ pos (rows .past)) ≡ ltZ (pos row) (bottom area)
-  same-bottom row h = rw past-is (split (ltZ (pos row) (bottom area)) refl)
-    where
-      split : (t : Bool) → ltZ (pos row) (bottom area) ≡ t → ltZ (pos row) (top area +ℤ pos (clamped (pos height -ℤ top area) (area .size .height))) ≡ t
-      split true p = omega (zarith, row-to-past (top area) (area .size .height) height row h (omega zarith))
-      split false p =
-          omega
-          (zarith, rows-within (top area) (area .size .height) height, plus (top area) (pos (area .size .height)), plus (top area) (pos (clamped (pos height -ℤ top area) (area .size .height))))
-
-  -- The rows up to the last visible one show the whole.
-  pub visible-rows : shown width (rectanglePicture color ps (firstRows (rows .past) area)) buffer ≡ shown width (rectanglePicture color ps area) buffer
-  visible-rows =
-      same-picture (f .some) (rectanglePicture color ps (firstRows (rows .past) area)) (rectanglePicture color ps area) buffer
-      (λ column row c l.
-      ap
-      (λ (t : Bool).
-      pick (leZ (left area) (pos column) && ltZ (pos column) (right area) && leZ (top area) (pos row) && t)
-      (paintOf color (getD ps (natAbs (pos row -ℤ top area) * area .size .width + natAbs (pos column -ℤ left area)) 0))
-      keep)
-      (same-bottom row (in-height column row l)))
-
--- ---- the box of a glyph
-
-some-area : (w h : ℕ) (r area : Rectangle) (s t : Bool) → eqb w 0 ≡ s → eqb h 0 ≡ t → pick (s || t) None (Some r) ≡ Some area
-    → (r ≡ area) × ((1 ≤ w) × (1 ≤ h))
-some-area w h r area true t p q e = impossible cc
-some-area w h r area false true p q e = impossible cc
-some-area w h r area false false p q e =
-    let a = eqb-false w 0 p in
-    let b = eqb-false h 0 q in
-    (cc, (omega arith, omega arith))
+some-area : (t : Bool) {r area : Rectangle} → pick t None (Some r) ≡ Some area → r ≡ area
+some-area true e = impossible cc
+some-area false e = cc
 
 pub box-area : (g : GlyphReader) (area : Rectangle) → GlyphBox g (Some area) → GlyphArea g area
 box-area g area b =
-    let s = some-area (g .«glyph_width») (g .«glyph_height») _ area (eqb (g .«glyph_width») 0) (eqb (g .«glyph_height») 0) refl refl (sym (b .is)) in
-    let w : area .size .width ≡ g .«glyph_width» = sym (ap (λ (r : Rectangle). r .size .width) (s .0)) in
-    let h : area .size .height ≡ g .«glyph_height» = sym (ap (λ (r : Rectangle). r .size .height) (s .0)) in
+    let s = some-area (eqb (g .«glyph_width») 0 || eqb (g .«glyph_height») 0) (sym (b .is)) in
+    let w : area .size .width ≡ g .«glyph_width» = sym (ap (λ (r : Rectangle). r .size .width) s) in
+    let h : area .size .height ≡ g .«glyph_height» = sym (ap (λ (r : Rectangle). r .size .height) s) in
     let c = b .reach .columns in
     let r = b .reach .rows in
     record {
       width = w;
       height = h;
-      wide = s .1 .0;
-      tall = s .1 .1;
       left = record { low = omega (zarith, c .low); high = omega (zarith, c .high, plus (left area) (pos (area .size .width))) };
       top = record { low = omega (zarith, r .low); high = omega (zarith, r .high, plus (top area) (pos (area .size .height))) };
     }
 
--- A visible row lies in the glyph, and so does its first pixel.
-pub visible-in : (top : ℤ) (h height : ℕ) {rows : Rows} → rows ≡ visibleRows top h height → rows .past ≤ h
-visible-in top h height e = rw e (rows-within top h height)
+module _ {g : GlyphReader} {r : Rectangle} (a : GlyphArea g r) (framebuffer : Framebuffer) {part : VisiblePart} (e : part ≡ visiblePart (r .«top_left») g framebuffer) where
+  pub columns-seen : part .columns .first < part .columns .past
+      → Seen (left r) (r .size .width) (framebuffer .width) (part .columns .first) (part .columns .past) (part .left)
+  columns-seen h = rw (e, a .width) (seen-visible (left r) (g .«glyph_width») (framebuffer .width) (rw e at h))
 
-pub first-pixel : (row w h : ℕ) → 1 ≤ w → row < h → row * w < w * h
-first-pixel row w h k l = let q : row + 1 ≤ h = omega arith in omega (arith, mul-le-mul-right w q, mul-comm w h)
+  pub rows-seen : part .rows .first < part .rows .past
+      → Seen (top r) (r .size .height) (framebuffer .height) (part .rows .first) (part .rows .past) (part .top)
+  rows-seen h = rw (e, a .height) (seen-visible (top r) (g .«glyph_height») (framebuffer .height) (rw e at h))
+
+  pub part-fits : {bytes : ℕ} → BufferFits bytes (framebuffer .width) (framebuffer .height)
+      → part .columns .first < part .columns .past → part .rows .first < part .rows .past → PartFits g part framebuffer bytes
+  part-fits f h k =
+      let x = columns-seen h in
+      let y = rows-seen k in
+      record {
+        some-columns = h;
+        some-rows = k;
+        in-width = omega (arith, x .within, a .width);
+        in-height = omega (arith, y .within, a .height);
+        right = x .ends;
+        bottom = y .ends;
+        window = f;
+      }
+
+  module _ (buffer : List ℕ) (f : BufferFits (length buffer) (framebuffer .width) (framebuffer .height)) (color : FontColor) (ps : List ℕ) where
+    -- Nothing is seen of a glyph beside the framebuffer,
+    pub beside : part .columns .past ≤ part .columns .first → shown (framebuffer .width) (rectanglePicture color ps r) buffer ≡ buffer
+    beside h =
+        not-shown buffer f color ps r (λ column row c d i.
+        none-seen (left r) (g .«glyph_width») (framebuffer .width) (rw e at h) column c (i .from-left) (rw (a .width) at (i .to-right)))
+
+    -- nor of one above or below it.
+    pub above-or-below : part .rows .past ≤ part .rows .first → shown (framebuffer .width) (rectanglePicture color ps r) buffer ≡ buffer
+    above-or-below h =
+        not-shown buffer f color ps r (λ column row c d i.
+        none-seen (top r) (g .«glyph_height») (framebuffer .height) (rw e at h) row d (i .from-top) (rw (a .height) at (i .to-bottom)))

@@ -1,3 +1,6 @@
 pub mod VisibleLaws
-pub mod RowsLaws
+pub mod InkLaws
+pub mod StateLaws
+pub mod PartLaws
+pub mod RectangleLaws
 pub mod BoxLaws

@@ -1,18 +1,26 @@
--- Which rows of a glyph lie on the framebuffer.
+-- Which part of a glyph lies on the framebuffer.
 use Prim.Native.Nat.{ℕ}
 use lib.IntN.{ℤ, pos, negsuc, _-ℤ_}
 use lib.Signed.{_≤ℤ_}
+use Rattle.definitions.specs.Vocabulary.{Point, GlyphReader, Framebuffer}
 use Rattle.framebuffer.specs.Areas.{clamped}
-use Rattle.glyph_renderer.specs.declared.geometry.Rows.{Rows}
+use Rattle.glyph_renderer.specs.declared.geometry.Visible.{Visible}
+use Rattle.glyph_renderer.specs.declared.geometry.VisiblePart.{VisiblePart}
 
 -- A place near enough that a glyph's end is a number of 32 bits.
 pub record EndFits (z : ℤ) : Type 0 where
   pub low : negsuc 1073741823 ≤ℤ z
   pub high : z ≤ℤ pos 1073741823
 
--- The rows of a glyph of that height which the framebuffer's rows, from 0 to before `height`, show.
-abbrev pub visibleRows : ℤ → ℕ → ℕ → Rows
-visibleRows top glyphHeight height = record {
-  first = clamped (pos 0 -ℤ top) glyphHeight;
-  past = clamped (pos height -ℤ top) glyphHeight;
+-- Of so many columns or rows of a glyph, of which the first lies at `start`, those that the framebuffer's, from 0 to before
+-- `limit`, show.
+abbrev pub visible : ℤ → ℕ → ℕ → Visible
+visible start size limit = record { first = clamped (pos 0 -ℤ start) size; past = clamped (pos limit -ℤ start) size }
+
+abbrev pub visiblePart : Point → GlyphReader → Framebuffer → VisiblePart
+visiblePart corner g framebuffer = record {
+  columns = visible (corner .x) (g .«glyph_width») (framebuffer .width);
+  rows = visible (corner .y) (g .«glyph_height») (framebuffer .height);
+  left = clamped (corner .x) (framebuffer .width);
+  top = clamped (corner .y) (framebuffer .height);
 }

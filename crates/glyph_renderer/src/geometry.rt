@@ -1,23 +1,48 @@
-// Which rows of a glyph lie on the framebuffer.
+// Which part of a glyph lies on the framebuffer.
 ghost use mathlib.Core.Path.{_≡_};
 ghost use Prim.Native.Nat.{_≤_};
-ghost use Rattle.glyph_renderer.specs.Visible.{EndFits, visibleRows};
+ghost use Rattle.glyph_renderer.specs.Visible.{EndFits, visible, visiblePart};
 use framebuffer::clamp;
+use framebuffer::fill::clamp_start;
+use types::framebuffer::Framebuffer;
+use types::geometry::Point;
+use types::glyph_reader::GlyphReader;
 
-// Rows of a glyph, from `first` to before `past`.
-pub struct Rows {
+// Columns or rows of a glyph, from `first` to before `past`.
+pub struct Visible {
     pub first: usize,
     pub past: usize,
 }
 
-// The rows of a glyph that lie on a framebuffer of that height, the first row of the glyph being its row `top`.
-pub fn get_visible_rows(top: i32, glyph_height: u8, height: usize) -> Rows
-    requires { ⌜ EndFits top × (height ≤ 256) ⌝ }
-    ensures { λ r. ⌜ r ≡ visibleRows top «glyph_height» height ⌝ }
+// The part of a glyph that lies on the framebuffer, and the column and row of the framebuffer where it begins.
+pub struct VisiblePart {
+    pub columns: Visible,
+    pub rows: Visible,
+    pub left: usize,
+    pub top: usize,
+}
+
+// The columns of a glyph of that width that lie on a framebuffer of the width `limit`, the first column of the glyph being its
+// column `start`. Rows go the same way, by the heights.
+fn get_visible(start: i32, size: u8, limit: usize) -> Visible
+    requires { ⌜ EndFits start × (limit ≤ 256) ⌝ }
+    ensures { λ r. ⌜ r ≡ visible start size limit ⌝ }
 {
-    let limit = glyph_height as usize;
-    Rows {
-        first: clamp(0 - (top as i64), limit),
-        past: clamp((height as i64) - (top as i64), limit),
+    Visible {
+        first: clamp(0 - (start as i64), size as usize),
+        past: clamp((limit as i64) - (start as i64), size as usize),
+    }
+}
+
+// The visible part of a glyph whose top left corner that is.
+pub fn get_visible_part(corner: Point, glyph: GlyphReader, framebuffer: Framebuffer) -> VisiblePart
+    requires { ⌜ (EndFits (corner .x) × EndFits (corner .y)) × ((framebuffer .width ≤ 256) × (framebuffer .height ≤ 256)) ⌝ }
+    ensures { λ r. ⌜ r ≡ visiblePart corner glyph framebuffer ⌝ }
+{
+    VisiblePart {
+        columns: get_visible(corner.x, glyph.glyph_width, framebuffer.width),
+        rows: get_visible(corner.y, glyph.glyph_height, framebuffer.height),
+        left: clamp_start(corner.x, framebuffer.width),
+        top: clamp_start(corner.y, framebuffer.height),
     }
 }

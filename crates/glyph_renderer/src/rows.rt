@@ -1,67 +1,75 @@
-// The rows of a glyph, drawn on the framebuffer.
+// The ones of a glyph, drawn on the framebuffer.
 ghost use mathlib.Core.Path.{_≡_};
+ghost use Prim.Native.Nat.{_-_};
+ghost use lib.ListN.{length};
 ghost use Rattle.definitions.specs.Font.{u8g2, pixelsOf};
 ghost use Rattle.definitions.specs.Framebuffer.{shown};
-ghost use Rattle.definitions.specs.Picture.{rectanglePicture};
-ghost use Rattle.framebuffer.specs.Rows.{firstRows};
-ghost use Rattle.glyph_renderer.specs.Drawing.{RowsFit};
-use crate::geometry::Rows;
-use framebuffer::draw_row;
-use runs::Place;
-use runs::checked;
+ghost use Rattle.glyph_renderer.specs.Drawing.{PartFits, onesPicture};
+ghost use Rattle.runs.specs.Stands.{CheckedGlyph};
+use crate::geometry::VisiblePart;
+use framebuffer::fill_columns;
 use runs::next_pair;
+use runs::seek;
 use types::font_reader::FontReader;
-use types::geometry::Rectangle;
+use types::framebuffer::Framebuffer;
 use types::glyph_reader::GlyphReader;
-use types::style::FontColor;
 
-// Draws rows of a glyph, `start` being the place of their first pixel and `area` the glyph's bounding box. A row's bits are
-// collected from the runs and then drawn as one; nothing is read after the last pixel.
+// a less b, or 0.
+fn less(a: usize, b: usize) -> usize
+    ensures { λ r. ⌜ r ≡ a - b ⌝ }
+{
+    if a < b {
+        return 0;
+    }
+    a - b
+}
+
+// Draws the ones of the visible part of a glyph whose runs were checked. A pair's ones go from a column to before another, both
+// counted from the current row's first column: from the glyph's width on they lie in later rows. Pairs before the first visible
+// row are passed over whole, and nothing is read after the last visible row.
 pub fn draw_rows(
     font: &[u8],
     head: FontReader,
     glyph: GlyphReader,
-    start: Place,
-    area: Rectangle,
-    rows: Rows,
-    color: FontColor,
+    part: VisiblePart,
+    value: u8,
+    framebuffer: Framebuffer,
     buffer: &mut [u8],
-    width: usize,
-    height: usize,
 )
-    requires { ⌜ RowsFit (now font) head glyph start area rows (now buffer) color width height ⌝ }
-    ensures { λ r. ⌜ now (buffer .exit) ≡ shown width (rectanglePicture color (pixelsOf (u8g2 (now (font .entry))) glyph) (firstRows (rows .past) area)) (now (buffer .entry)) ⌝ }
+    requires { ⌜ CheckedGlyph (now font) head glyph × PartFits glyph part framebuffer (length (now buffer)) ⌝ }
+    ensures { λ r. ⌜ now (buffer .exit) ≡ shown (framebuffer .width) (onesPicture (pixelsOf (u8g2 (now (font .entry))) glyph) glyph part value) (now (buffer .entry)) ⌝ }
 {
-    let mut bits = [0u8; 256];
+    let glyph_width = glyph.glyph_width as usize;
+    let visible = part.columns.past - part.columns.first;
+    let start = seek(font, head, glyph, part.rows.first * glyph_width);
     let mut runs = start.runs;
-    let mut offset = start.offset;
-    let mut column: usize = 0;
-    let mut row = rows.first;
-    'pairs: while row < rows.past {
-        while offset < runs.count() {
-            bits[column] = runs.pixel(offset);
-            offset += 1;
-            column += 1;
-            let glyph_width = glyph.glyph_width as usize;
-            if column == glyph_width {
-                let corner = area.top_left;
-                draw_row(
-                    &mut buffer[..],
-                    width,
-                    height,
-                    &bits[..glyph_width],
-                    corner.x,
-                    corner.y + (row as i32),
-                    color,
-                );
-                column = 0;
-                row += 1;
-                if row == rows.past {
-                    break 'pairs;
-                }
+    let mut from = less(runs.zeros, start.offset);
+    let mut to = runs.count() - start.offset;
+    let mut line = part.top * framebuffer.width + part.left;
+    let mut left = part.rows.past - part.rows.first;
+    'pairs: loop {
+        // the rows that the pair reaches the end of
+        while glyph_width <= to {
+            let end = line + visible;
+            fill_columns(
+                part.columns.first,
+                from,
+                glyph_width,
+                value,
+                &mut buffer[line..end],
+            );
+            from = less(from, glyph_width);
+            to -= glyph_width;
+            line += framebuffer.width;
+            left -= 1;
+            if left == 0 {
+                break 'pairs;
             }
         }
-        runs = checked(next_pair(font, head.m0, head.m1, runs));
-        offset = 0;
+        let end = line + visible;
+        fill_columns(part.columns.first, from, to, value, &mut buffer[line..end]);
+        runs = next_pair(font, head.m0, head.m1, runs);
+        from = to + runs.zeros;
+        to = from + runs.ones;
     }
 }

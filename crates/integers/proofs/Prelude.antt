@@ -6,7 +6,7 @@ pub use mathlib.Core.List.{List, [], _∷_, _++_, map, append-assoc, append-nil,
 pub use Prim.Native.Nat.{ℕ, _≤_, _<_, _+_, _-_, _*_, suc, zero, _/_, _^_, _%_, min, max}
 pub use native.Mathlib.Nat.{mul-le-mul-right, mul-le-mul, mul-comm, zero-add, add-zero, mod-lt, zero-mul, div-add-mod', mod-eq-of-lt, mul-assoc}
 pub use native.Mathlib.Nat.{suc-add, add-suc, div-eq-of-lt, div-le-self, div-one, lt-of-lt-of-le, mul-add-div-right, mul-add-mod-self-right, one-mul}
-pub use native.Mathlib.Nat.{pow-le-pow-right, pow-suc, sub-zero}
+pub use native.Mathlib.Nat.{add-mul, pow-le-pow-right, pow-suc, sub-zero}
 pub use native.Mathlib.Decide.{decLt}
 pub use native.Mathlib.Numerals.{add-one, one-add}
 pub use native.Mathlib.Omega.{arith}

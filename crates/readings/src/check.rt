@@ -96,13 +96,7 @@ fn clear_narrow(
     let old_box = dimensions.bounding_box;
     let bounding_box = narrowed(old_box);
     let framebuffer = place.framebuffer;
-    fill_box(
-        screen,
-        framebuffer.width,
-        framebuffer.height,
-        bounding_box,
-        place.background,
-    );
+    fill_box(bounding_box, place.background, framebuffer, screen);
 }
 
 // The step of the gauge with the fault put in.

@@ -43,13 +43,7 @@ fn clear_reading(font: &[u8], k: usize, place: Place, buffer: &mut [u8])
     };
     let bounding_box = d.bounding_box;
     let framebuffer = place.framebuffer;
-    fill_box(
-        buffer,
-        framebuffer.width,
-        framebuffer.height,
-        bounding_box,
-        place.background,
-    );
+    fill_box(bounding_box, place.background, framebuffer, buffer);
 }
 
 pub fn lay_ground(font: &[u8], place: Place, buffer: &mut [u8])

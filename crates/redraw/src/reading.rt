@@ -40,13 +40,7 @@ fn clear_reading(
     };
     let bounding_box = dimensions.bounding_box;
     let framebuffer = place.framebuffer;
-    fill_box(
-        buffer,
-        framebuffer.width,
-        framebuffer.height,
-        bounding_box,
-        place.background,
-    );
+    fill_box(bounding_box, place.background, framebuffer, buffer);
 }
 
 // Draws a text of which every character draws, and of any other nothing.

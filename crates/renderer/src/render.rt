@@ -97,9 +97,8 @@ fn draw_answer(
                 glyph,
                 glyph_box,
                 color,
+                framebuffer,
                 &mut buffer[..],
-                framebuffer.width,
-                framebuffer.height,
             );
         }
         Answer::Nothing => {}

@@ -1,2 +1,4 @@
+pub mod WindowLaws
+pub mod PairLaws
 pub mod RunReadsLaws
 pub mod StandsLaws

@@ -1,25 +1,25 @@
 -- A reader of runs that stands at a pixel of a glyph whose runs the font has: which pixel that is, and that the reader goes
 -- on to the next pixel and to the next pair. Assumes nothing.
-use Rattle.integers.proofs.Prelude.{_≡_, refl, sym, ap, subst, _∙_, true, List, ℕ, _+_, _-_, _*_, _≤_, _<_, sub-zero, arith, ltb, getD, drop}
-use Rattle.integers.proofs.Prelude.{getD-drop, drop-drop}
+use Rattle.integers.proofs.Prelude.{_≡_, refl, sym, ap, _∙_, Bool, true, false, List, ℕ, _+_, _-_, _*_, _≤_, _<_, sub-zero, arith, ltb, length, getD}
+use Rattle.integers.proofs.Prelude.{drop, getD-drop, drop-drop, ltb-true}
 use Rattle.integers.proofs.Choices.{impossible}
 use Rattle.integers.specs.Integers.{pick}
 use Rattle.definitions.specs.Vocabulary.{FontReader, GlyphReader}
-use Rattle.definitions.specs.Header.{header}
-use Rattle.definitions.specs.Runs.{Pixels, pixels, cut, glyphPixels}
 use Rattle.definitions.specs.Font.{u8g2, pixelList, pixelsOf}
+use Rattle.definitions.specs.Runs.{Pixels, pixels, cut, glyphPixels}
 use Rattle.definitions.proofs.RunsLaws.{pixel-in-pair, pixels-after-pair}
 use Rattle.runs.specs.declared.Runs.{Runs}
-use Rattle.runs.specs.declared.RunsRead.{RunsRead}
-use Rattle.runs.specs.declared.RunsRead.the-variants.{Pair, Ends}
-use Rattle.runs.specs.RunReads.{isWhole, onPair, pairAt, nextPair}
-use Rattle.runs.specs.Stands.{Stands, StandsAt}
-use Rattle.runs.proofs.RunReadsLaws.{first-place, next-place, next-gives, glyph-gives}
+use Rattle.runs.specs.RunReads.{Pair, Ends, isWhole, onPair, inFont, pairAt, nextPair}
+use Rattle.runs.specs.Stands.{Stands, StandsAt, CheckedGlyph}
+use Rattle.runs.proofs.RunReadsLaws.{given, first-gives, next-gives, some-pixels}
 
--- a pair that leads to pixels
-paired : (r : RunsRead) (rest : Runs → Pixels) (ps : List ℕ) → onPair rest r ≡ pixels ps → (q : Runs) × ((r ≡ Pair q) × (rest q ≡ pixels ps))
-paired (Pair q) rest ps e = (q, (refl, e))
-paired Ends rest ps e = impossible cc
+-- a pair that leads to pixels is one that the font has
+had : (font : List ℕ) (q : Runs) (rest : Runs → Pixels) (ps : List ℕ) → onPair rest (inFont font q) ≡ pixels ps → (q .«bit_pos» < 8 * length font) × (rest q ≡ pixels ps)
+had font q rest ps = split (ltb (q .«bit_pos») (8 * length font)) refl
+  where
+    split : (t : Bool) → ltb (q .«bit_pos») (8 * length font) ≡ t → onPair rest (pick t (Pair q) Ends) ≡ pixels ps → (q .«bit_pos» < 8 * length font) × (rest q ≡ pixels ps)
+    split true h e = (ltb-true (q .«bit_pos») (8 * length font) h, e)
+    split false h e = impossible cc
 
 module _ {font : List ℕ} {m0 m1 n : ℕ} {ps : List ℕ} {runs : Runs} {offset i : ℕ} (s : Stands font m0 m1 n ps runs offset i) where
   -- The pixel at which it stands.
@@ -29,39 +29,24 @@ module _ {font : List ℕ} {m0 m1 n : ℕ} {ps : List ℕ} {runs : Runs} {offset
       ∙ sym (getD-drop (s .before) ps offset 0)
       ∙ pixel-in-pair font m0 m1 (n - s .before) (runs .zeros) (runs .ones) (runs .«bit_pos») (drop (s .before) ps) offset h (omega (arith, s .index)) (s .rest)
 
-  -- One pixel on.
-  pub stands-on : Stands font m0 m1 n ps runs (offset + 1) (i + 1)
-  stands-on = record { before = s .before; index = omega (arith, s .index); rest = s .rest; place = s .place }
+  -- Some pixels on.
+  pub stands-on : (k : ℕ) → Stands font m0 m1 n ps runs (offset + k) (i + k)
+  stands-on k = record { before = s .before; index = omega (arith, s .index); rest = s .rest; place = s .place }
 
-  -- The pair is passed: there is a next one, and where it stands in that.
-  next : runs .zeros + runs .ones ≤ offset → i < n
-      → (q : Runs) × ((nextPair font m0 m1 runs ≡ Pair q) × Stands font m0 m1 n ps q (offset - (runs .zeros + runs .ones)) i)
-  next h k =
+  -- The pair is passed: the font has a next one, and it stands in that.
+  pub stands-next : {q : Runs} → runs .zeros + runs .ones ≤ offset → i < n → inFont font q ≡ nextPair font m0 m1 runs
+      → Stands font m0 m1 n ps q (offset - (runs .zeros + runs .ones)) i
+  stands-next {q} h k e =
       let c = runs .zeros + runs .ones in
       let after = pixels-after-pair font m0 m1 (n - s .before) (runs .zeros) (runs .ones) (runs .«bit_pos») (drop (s .before) ps) (omega (arith, s .index)) (s .rest) in
-      let e : n - s .before - c ≡ n - (s .before + c) = omega arith in
-      let p = paired (nextPair font m0 m1 runs) _ (drop c (drop (s .before) ps)) (sym (next-gives font m0 m1 (n - s .before - c) runs) ∙ after) in (
-        p .0,
-        (
-          p .1 .0,
-          record {
-            before = s .before + c;
-            index = omega (arith, s .index);
-            rest = rw (← e) (p .1 .1 ∙ ap pixels (drop-drop c (s .before) ps));
-            place = next-place font m0 m1 runs (p .0) (p .1 .0) .1;
-          },
-        ),
-      )
-
-  pub next-known : runs .zeros + runs .ones ≤ offset → i < n → nextPair font m0 m1 runs ≡ Ends → ⊥
-  next-known h k e = let p = next h k in let z : _≡_ {A = ℕ} 0 1 = cc (p .1 .0) in omega arith
-
-  pub stands-next : runs .zeros + runs .ones ≤ offset → i < n → {q : Runs} → nextPair font m0 m1 runs ≡ Pair q
-      → Stands font m0 m1 n ps q (offset - (runs .zeros + runs .ones)) i
-  stands-next h k {q} e =
-      let p = next h k in
-      let same : p .0 ≡ q = cc (p .1 .0) in
-      subst (λ (r : Runs). Stands font m0 m1 n ps r (offset - (runs .zeros + runs .ones)) i) same (p .1 .1)
+      let fewer : n - s .before - c ≡ n - (s .before + c) = omega arith in
+      let p = had font q (given font m0 m1 (n - s .before - c)) (drop c (drop (s .before) ps)) (rw e (sym (next-gives font m0 m1 (n - s .before - c) runs) ∙ after)) in
+      record {
+        before = s .before + c;
+        index = omega (arith, s .index);
+        rest = rw (← fewer) (p .1 ∙ ap pixels (drop-drop c (s .before) ps));
+        place = p .0;
+      }
 
 -- ---- a glyph whose runs the font has
 
@@ -69,34 +54,12 @@ whole : (r : Pixels) → isWhole r ≡ true → r ≡ pixels (pixelList r)
 whole (pixels ps) e = refl
 whole cut e = impossible cc
 
-module _ (font : List ℕ) (head : FontReader) (g : GlyphReader) (e : head ≡ header font) (w : isWhole (glyphPixels font head g) ≡ true) where
-  pub whole-pixels : glyphPixels font head g ≡ pixels (pixelsOf (u8g2 font) g)
-  whole-pixels = rw (← e) (whole (glyphPixels font head g) w)
-
-  -- There is a first pair, and counted from it a pixel is where it is among all.
-  first : (i : ℕ) → i < g .«glyph_width» * g .«glyph_height»
-      → (q : Runs) × ((pairAt font (head .m0) (head .m1) (g .«bit_pos») ≡ Pair q) × StandsAt font head g q i i)
-  first i h =
-      let n = g .«glyph_width» * g .«glyph_height» in
-      let p = paired (pairAt font (head .m0) (head .m1) (g .«bit_pos»)) _ (pixelsOf (u8g2 font) g) (sym (glyph-gives font head g (λ z. omega arith)) ∙ whole-pixels) in (
-        p .0,
-        (
-          p .1 .0,
-          record {
-            before = 0;
-            index = omega arith;
-            rest = rw sub-zero (p .1 .1);
-            place = first-place font (head .m0) (head .m1) (g .«bit_pos») (p .0) (p .1 .0) .1;
-          },
-        ),
-      )
-
-  module _ (i : ℕ) (h : i < g .«glyph_width» * g .«glyph_height») where
-    pub first-known : pairAt font (head .m0) (head .m1) (g .«bit_pos») ≡ Ends → ⊥
-    first-known f = let p = first i h in let z : _≡_ {A = ℕ} 0 1 = cc (p .1 .0) in omega arith
-
-    pub stands-first : {q : Runs} → pairAt font (head .m0) (head .m1) (g .«bit_pos») ≡ Pair q → StandsAt font head g q i i
-    stands-first {q} f =
-        let p = first i h in
-        let same : p .0 ≡ q = cc (p .1 .0) in
-        subst (λ (r : Runs). StandsAt font head g r i i) same (p .1 .1)
+-- Counted from the first pair a pixel is where it is among all.
+pub stands-first : {font : List ℕ} {head : FontReader} {g : GlyphReader} {i : ℕ} {q : Runs} → CheckedGlyph font head g → i < g .«glyph_width» * g .«glyph_height»
+    → inFont font q ≡ pairAt font (head .m0) (head .m1) (g .«bit_pos») → StandsAt font head g q i i
+stands-first {font} {head} {g} {i} {q} c h e =
+    let n = g .«glyph_width» * g .«glyph_height» in
+    let all : glyphPixels font head g ≡ pixels (pixelsOf (u8g2 font) g) = rw (← c .opened .read) (whole (glyphPixels font head g) (c .whole)) in
+    let p = had font q (given font (head .m0) (head .m1) n) (pixelsOf (u8g2 font) g)
+    (rw e (sym (some-pixels font head g (λ z. omega arith) ∙ first-gives font (head .m0) (head .m1) n (g .«bit_pos»)) ∙ all)) in
+    record { before = 0; index = omega arith; rest = rw sub-zero (p .1); place = p .0 }

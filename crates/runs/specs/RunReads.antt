@@ -1,15 +1,18 @@
 -- The reading of runs, pair by pair, as the code does it: each pair from the bit at which its numbers begin.
 use mathlib.Core.Bool.{Bool, true, false}
 use mathlib.Core.List.{List}
-use Prim.Native.Nat.{ℕ, _+_, _*_, _≤_}
-use lib.Dec.{eqb}
+use Prim.Native.Nat.{ℕ, _+_, _*_, _/_, _%_, _^_, _≤_}
+use lib.Dec.{ltb, eqb}
 use lib.ListN.{length}
 use Rattle.integers.specs.Integers.{pick}
 use Rattle.definitions.specs.Bits.{Read, got, ends, readAt}
 use Rattle.definitions.specs.Runs.{Pixels, pixels, cut}
 use Rattle.runs.specs.declared.Runs.{Runs}
-use Rattle.runs.specs.declared.RunsRead.{RunsRead}
-use Rattle.runs.specs.declared.RunsRead.the-variants.{Pair, Ends}
+
+-- A pair of runs, or the font ends.
+pub data RunsRead : Type 0 where
+  Pair : Runs → RunsRead
+  Ends : RunsRead
 
 -- what a reader of runs may count on: the widths of the runs and the place are within limits
 pub record Readable (font : List ℕ) (m0 m1 at : ℕ) : Type 0 where
@@ -17,6 +20,11 @@ pub record Readable (font : List ℕ) (m0 m1 at : ℕ) : Type 0 where
   pub ones : m1 ≤ 8
   pub most : length font ≤ 1048576
   pub place : at ≤ 8 * length font
+
+-- the numbers of a pair are bytes
+pub record Short (runs : Runs) : Type 0 where
+  pub zeros : runs .zeros ≤ 255
+  pub ones : runs .ones ≤ 255
 
 -- whether the font reaches to a glyph's last pixel
 abbrev pub isWhole : Pixels → Bool
@@ -45,3 +53,11 @@ nextPair font m0 m1 runs =
     pick (eqb repeat 1)
     (Pair (record { zeros = runs .zeros; ones = runs .ones; «bit_pos» = runs .«bit_pos» + 1 }))
     (pairAt font m0 m1 (runs .«bit_pos» + 1)))
+
+-- The pair whose numbers are the lowest bits of a number.
+abbrev pub pairOf : ℕ → ℕ → ℕ → ℕ → Runs
+pairOf bits m0 m1 next = record { zeros = bits % 2 ^ m0; ones = bits / 2 ^ m0 % 2 ^ m1; «bit_pos» = next }
+
+-- A pair that is read with zeros past the font's end: it is one if the font has the bit after it.
+abbrev pub inFont : List ℕ → Runs → RunsRead
+inFont font runs = pick (ltb (runs .«bit_pos») (8 * length font)) (Pair runs) Ends

@@ -1,127 +1,106 @@
 // A glyph's runs (01, "Runs"), pair by pair.
+mod window;
+
 ghost use mathlib.Core.Path.{_≡_};
 ghost use Prim.Native.Nat.{_+_, _*_, _≤_, _<_};
-ghost use lib.Dec.{ltb};
-ghost use lib.ListN.{length};
-ghost use Rattle.integers.specs.Integers.{pick};
+ghost use lib.ListN.{length, drop};
+ghost use Rattle.definitions.specs.Bits.{bits as fontBits};
 ghost use Rattle.definitions.specs.Header.{Opened};
-ghost use Rattle.definitions.specs.Runs.{glyphPixels};
-ghost use Rattle.runs.specs.RunReads.{Readable, isWhole, pairAt, nextPair};
+ghost use Rattle.definitions.specs.Runs.{runs as runPixels, glyphPixels};
+ghost use Rattle.runs.specs.RunReads.{Readable, Short, isWhole, pairOf, inFont, pairAt, nextPair};
 ghost use Rattle.runs.specs.Stands.{CheckedGlyph, StandsAt};
-ghost use Rattle.runs.specs.declared.RunsRead.the-variants.{Pair, Ends};
-use glyph_reader::BitReader;
-use glyph_reader::UnsignedRead;
 use types::font_reader::FontReader;
 use types::glyph_reader::GlyphReader;
+use window::bytes_at;
 
-// A zero run and a one run, and the bit of the font after their numbers.
+// A zero run and a one run, and the bit of the font after their numbers. One bit must be left after each read, so the font has
+// the pair if it has that bit: one test for a pair. What is read past the font's end is zeros.
 pub struct Runs {
-    pub zeros: u8,
-    pub ones: u8,
+    pub zeros: usize,
+    pub ones: usize,
     pub bit_pos: usize,
 }
 
 impl Runs {
     // the pixels of both
     pub fn count(self) -> usize
+        requires { ⌜ Short self ⌝ }
         ensures { λ r. ⌜ r ≡ self .zeros + self .ones ⌝ }
     {
-        (self.zeros as usize) + (self.ones as usize)
-    }
-
-    // the pixel after so many of them: the zeros come first
-    pub fn pixel(self, offset: usize) -> u8
-        ensures { λ r. ⌜ r ≡ pick (ltb offset (self .zeros)) 0 1 ⌝ }
-    {
-        if offset < (self.zeros as usize) {
-            return 0;
-        }
-        1
+        self.zeros + self.ones
     }
 }
 
-// A pair of runs, or the font ends.
-pub enum RunsRead {
-    Pair(Runs),
-    Ends,
+// Both numbers of a pair, m0 and m1 bits wide: the lowest bits of `bits`.
+fn pair_of(bits: u32, m0: u8, m1: u8, bit_pos: usize) -> Runs
+    requires { ⌜ (m0 ≤ 8) × (m1 ≤ 8) ⌝ }
+    ensures { λ r. ⌜ r ≡ pairOf bits m0 m1 «bit_pos» ⌝ }
+{
+    Runs {
+        zeros: (bits % (1u32 << m0)) as usize,
+        ones: ((bits >> m0) % (1u32 << m1)) as usize,
+        bit_pos,
+    }
 }
 
-// Both numbers of a pair, m0 and m1 bits wide.
-pub fn read_pair(font: &[u8], m0: u8, m1: u8, start: usize) -> RunsRead
+// The first pair of a glyph.
+fn first_pair(font: &[u8], m0: u8, m1: u8, start: usize) -> Runs
     requires { ⌜ Readable (now font) m0 m1 start ⌝ }
-    ensures { λ r. ⌜ r ≡ pairAt (now (font .entry)) m0 m1 start ⌝ }
+    ensures { λ r. ⌜ (inFont (now (font .entry)) r ≡ pairAt (now (font .entry)) m0 m1 start) × Short r ⌝ }
 {
-    let reader = BitReader { bit_pos: start };
-    let UnsignedRead::Value(zeros, after_zeros) = reader.read_unsigned(font, m0) else {
-        return RunsRead::Ends;
-    };
-    let UnsignedRead::Value(ones, after_ones) = after_zeros.read_unsigned(font, m1) else {
-        return RunsRead::Ends;
-    };
-    RunsRead::Pair(Runs {
-        zeros,
-        ones,
-        bit_pos: after_ones.bit_pos,
-    })
+    let end = start + (m0 as usize) + (m1 as usize);
+    pair_of(bytes_at(font, start / 8) >> (start % 8), m0, m1, end)
 }
 
-// The pair after a pair: one bit says whether it is repeated or a new one follows.
-pub fn next_pair(font: &[u8], m0: u8, m1: u8, runs: Runs) -> RunsRead
-    requires { ⌜ Readable (now font) m0 m1 (runs .«bit_pos») ⌝ }
-    ensures { λ r. ⌜ r ≡ nextPair (now (font .entry)) m0 m1 runs ⌝ }
+// The pair after a pair: one bit says whether it is repeated or a new one follows. The bit is tested before the word is
+// shifted, so that the compiler shifts only for a new pair.
+pub fn next_pair(font: &[u8], m0: u8, m1: u8, runs: Runs) -> Runs
+    requires { ⌜ Readable (now font) m0 m1 (runs .«bit_pos») × Short runs ⌝ }
+    ensures { λ r. ⌜ (inFont (now (font .entry)) r ≡ nextPair (now (font .entry)) m0 m1 runs) × (Short r × (runs .«bit_pos» < r .«bit_pos»)) ⌝ }
 {
-    let reader = BitReader {
-        bit_pos: runs.bit_pos,
-    };
-    let UnsignedRead::Value(repeat, after_repeat) = reader.read_unsigned(font, 1) else {
-        return RunsRead::Ends;
-    };
-    if repeat == 1 {
-        return RunsRead::Pair(Runs {
+    let start = runs.bit_pos;
+    let word = bytes_at(font, start / 8);
+    let shift = start % 8;
+    if (word >> shift) % 2 == 1 {
+        return Runs {
             zeros: runs.zeros,
             ones: runs.ones,
-            bit_pos: after_repeat.bit_pos,
-        });
+            bit_pos: start + 1,
+        };
     }
-    read_pair(font, m0, m1, after_repeat.bit_pos)
+    let end = start + 1 + (m0 as usize) + (m1 as usize);
+    pair_of(word >> (shift + 1), m0, m1, end)
 }
 
-// Whether the font has all of a glyph's runs. The pixels are counted, run by run, and none is looked at.
+// Whether the font has so many pixels of a glyph whose runs begin at the bit `start`. The pixels are counted, run by run, and
+// none is looked at.
+fn has_pixels(font: &[u8], m0: u8, m1: u8, start: usize, pixels: usize) -> bool
+    requires { ⌜ Readable (now font) m0 m1 start ⌝ }
+    ensures { λ r. ⌜ r ≡ isWhole (runPixels m0 m1 pixels (drop start (fontBits (now (font .entry))))) ⌝ }
+{
+    let limit = font.len() * 8;
+    let mut runs = first_pair(font, m0, m1, start);
+    let mut missing = pixels;
+    while runs.bit_pos < limit {
+        if missing <= runs.count() {
+            return true;
+        }
+        missing -= runs.count();
+        runs = next_pair(font, m0, m1, runs);
+    }
+    false
+}
+
+// Whether the font has all of a glyph's runs.
 pub fn check_runs(font: &[u8], head: FontReader, glyph: GlyphReader) -> bool
     requires { ⌜ Opened (now font) head × (glyph .«bit_pos» ≤ 8 * length (now font)) ⌝ }
     ensures { λ r. ⌜ r ≡ isWhole (glyphPixels (now (font .entry)) head glyph) ⌝ }
 {
-    let mut missing = (glyph.glyph_width as usize) * (glyph.glyph_height as usize);
-    if missing == 0 {
+    let pixels = (glyph.glyph_width as usize) * (glyph.glyph_height as usize);
+    if pixels == 0 {
         return true;
     }
-    let RunsRead::Pair(first) = read_pair(font, head.m0, head.m1, glyph.bit_pos) else {
-        return false;
-    };
-    let mut runs = first;
-    while runs.count() < missing {
-        missing -= runs.count();
-        let RunsRead::Pair(next) = next_pair(font, head.m0, head.m1, runs) else {
-            return false;
-        };
-        runs = next;
-    }
-    true
-}
-
-// The pair of a read before which the font cannot end, as the runs were checked.
-pub fn checked(read: RunsRead) -> Runs
-    requires { ⌜ (read ≡ Ends → ⊥) ⌝ }
-    ensures { λ r. ⌜ read ≡ Pair r ⌝ }
-{
-    let RunsRead::Pair(runs) = read else {
-        return Runs {
-            zeros: 0,
-            ones: 0,
-            bit_pos: 0,
-        };
-    };
-    runs
+    has_pixels(font, head.m0, head.m1, glyph.bit_pos, pixels)
 }
 
 // A place among a glyph's pixels: so many pixels into a pair.
@@ -130,16 +109,16 @@ pub struct Place {
     pub offset: usize,
 }
 
-// The place of a glyph's pixel: whole pairs are passed over.
+// The place of a pixel of a glyph whose runs were checked: whole pairs are passed over.
 pub fn seek(font: &[u8], head: FontReader, glyph: GlyphReader, pixel: usize) -> Place
     requires { ⌜ CheckedGlyph (now font) head glyph × (pixel < glyph .«glyph_width» * glyph .«glyph_height») ⌝ }
-    ensures { λ r. ⌜ StandsAt (now (font .entry)) head glyph (r .runs) (r .offset) pixel × (r .offset < r .runs .zeros + r .runs .ones) ⌝ }
+    ensures { λ r. ⌜ StandsAt (now (font .entry)) head glyph (r .runs) (r .offset) pixel × ((r .offset < r .runs .zeros + r .runs .ones) × Short (r .runs)) ⌝ }
 {
-    let mut runs = checked(read_pair(font, head.m0, head.m1, glyph.bit_pos));
+    let mut runs = first_pair(font, head.m0, head.m1, glyph.bit_pos);
     let mut offset = pixel;
     while runs.count() <= offset {
         offset -= runs.count();
-        runs = checked(next_pair(font, head.m0, head.m1, runs));
+        runs = next_pair(font, head.m0, head.m1, runs);
     }
     Place { runs, offset }
 }

@@ -14,12 +14,12 @@ returns : tie.Need-returns
 returns c =
     let a = c .before .before .before .before .before .before .before .before .args in
     c .before .before .fill-rectangle .ensures
-    ∙ ap (λ (b : BoundingBox). shown (a .width) (fillPicture (a .color) b) (a .buffer .now)) (sym (c .before .before .before .before .before .bounding-box .given .1))
+    ∙ ap (λ (b : BoundingBox). shown (a .framebuffer .width) (fillPicture (a .color) b) (a .buffer .now)) (sym (c .before .before .before .before .before .bounding-box .given .1))
 
 returns-2 : tie.Need-returns-2
 returns-2 c =
     let a = c .before .before .before .args in
-    sym (ap (λ (b : BoundingBox). shown (a .width) (fillPicture (a .color) b) (a .buffer .now)) (c .enum-told .given .1) ∙ shown-blank (a .width) (a .buffer .now))
+    sym (ap (λ (b : BoundingBox). shown (a .framebuffer .width) (fillPicture (a .color) b) (a .buffer .now)) (c .enum-told .given .1) ∙ shown-blank (a .framebuffer .width) (a .buffer .now))
 
 pub fill-box-spec : {M : Type 1} → statement M
 fill-box-spec =

@@ -2,7 +2,7 @@
 use Rattle.integers.proofs.Prelude.{_/_, _<_, arith, getD, needs}
 use Rattle.definitions.proofs.BitsLaws.{read-ends, read-bytes}
 use Rattle.glyph_reader.specs.BitReads.{unsignedRead}
-use Rattle.glyph_reader.proofs.ReadLaws.{power-pos, remainder-is, remainder-fits}
+use Rattle.glyph_reader.proofs.ReadLaws.{power-pos, remainder-is, remainder-small}
 use Rattle.glyph_reader.proofs.BitReader.read_unsigned.Statement.{statement}
 use Rattle.glyph_reader.proofs.BitReader.read_unsigned.Tie as tie
 
@@ -16,7 +16,7 @@ rem-value : tie.Need-rem-value
 rem-value c = power-pos _ (omega arith)
 
 cast-value-2 : tie.Need-cast-value-2
-cast-value-2 c = remainder-fits _ _ (omega arith)
+cast-value-2 c = record { fits = remainder-small 8 _ _ (omega arith) (omega arith) }
 
 returns-2 : tie.Need-returns-2
 unfolding unsignedRead

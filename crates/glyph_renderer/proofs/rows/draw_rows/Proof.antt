@@ -1,158 +1,205 @@
--- The invariant is `Drawn` (RowsLaws): the rows drawn, the columns collected, and where the reader of runs stands. Each pair
--- takes at least one bit of the font.
-use Rattle.integers.proofs.Prelude.{_≡_, refl, sym, _∙_, List, ℕ, _+_, _-_, _*_, _≤_, _<_, arith, length, take, set, length-set, needs}
-use Rattle.runs.proofs.RunReadsLaws.{next-place}
-use Rattle.glyph_renderer.proofs.RowsLaws.{Drawn, none-drawn, left-is, top-fits, row-place, row-length, row-reach, next-column, next-row, pair-known, next-runs}
+-- The invariant of both loops: where the loop begins at a state (StateLaws), it goes on at one. Assumes nothing.
+use Rattle.integers.proofs.Prelude.{_≡_, refl, ap, _∙_, List, ℕ, _+_, _-_, _*_, _≤_, mul-le-mul, arith, length, needs}
+use Rattle.definitions.specs.Vocabulary.{FontReader, Framebuffer}
+use Rattle.definitions.specs.Font.{u8g2, pixelsOf}
+use Rattle.runs.specs.declared.Runs.{Runs}
+use Rattle.runs.specs.RunReads.{Short}
+use Rattle.glyph_renderer.specs.declared.geometry.VisiblePart.{VisiblePart}
+use Rattle.glyph_renderer.specs.Ink.{Ones}
+use Rattle.glyph_renderer.specs.Drawing.{onesOf}
+use Rattle.glyph_renderer.proofs.StateLaws.{Lies, At, at-start, part-in, at-row, all-rows, at-next}
+use Rattle.glyph_renderer.proofs.PartLaws.{first-pixel, part-lies, part-small, line-small}
 use Rattle.glyph_renderer.proofs.rows.draw_rows.Statement.{statement}
 use Rattle.glyph_renderer.proofs.rows.draw_rows.Tie as tie
 
+-- from one state to another, whatever the glyph's pixels and the framebuffer at the call
+abbrev Leads : List ℕ → FontReader → VisiblePart → ℕ → Framebuffer → ℕ → List ℕ → Runs → (from to line left : ℕ)
+    → List ℕ → Runs → (from to line left : ℕ) → Type 0
+Leads font head part value framebuffer wide buffer₀ runs₀ from₀ to₀ line₀ left₀ buffer runs from to line left =
+    (n : ℕ) (ps entry : List ℕ)
+    → Lies (onesOf ps wide part value) n (framebuffer .width) entry
+    → At font (head .m0) (head .m1) n (onesOf ps wide part value) (framebuffer .width) entry buffer₀ runs₀ from₀ to₀ line₀ left₀
+    → At font (head .m0) (head .m1) n (onesOf ps wide part value) (framebuffer .width) entry buffer runs from to line left
+
 abbrev Inv-loop : tie.InvT-loop
-Inv-loop font head glyph area rows color buffer₀ width height bits₀ runs offset₀ column₀ row₀ buffer bits offset column row =
-    (row < rows .past)
-    × ((length buffer ≡ length buffer₀)
-    × ((old : List ℕ) → Drawn font head glyph area color width old buffer₀ bits₀ runs offset₀ column₀ row₀ → Drawn font head glyph area color width old buffer bits runs offset column row))
+Inv-loop font head part value framebuffer buffer₀ glyph-width visible runs from₀ to₀ line₀ left₀ buffer from to line left =
+    (length buffer ≡ length buffer₀) × Leads font head part value framebuffer glyph-width buffer₀ runs from₀ to₀ line₀ left₀ buffer runs from to line left
 
 abbrev μ-loop : tie.MeasureT-loop
-μ-loop font head glyph area rows color buffer₀ width height bits₀ runs offset₀ column₀ row₀ buffer bits offset column row =
-    runs .zeros + runs .ones - offset
+μ-loop font head part value framebuffer buffer₀ glyph-width visible runs from₀ to₀ line₀ left₀ buffer from to line left = to
 
 abbrev Inv-pairs : tie.InvT-pairs
-Inv-pairs font head glyph area rows color buffer₀ width height bits₀ runs₀ offset₀ column₀ row₀ buffer bits runs offset column row =
-    (row ≤ rows .past)
-    × ((length buffer ≡ length buffer₀) × Drawn font head glyph area color width buffer₀ buffer bits runs offset column row)
+Inv-pairs font head part value framebuffer buffer₀ glyph-width visible runs₀ from₀ to₀ line₀ left₀ buffer runs from to line left =
+    Short runs
+    × ((length buffer ≡ length buffer₀) × Leads font head part value framebuffer glyph-width buffer₀ runs₀ from₀ to₀ line₀ left₀ buffer runs from to line left)
 
 abbrev μ-pairs : tie.MeasureT-pairs
-μ-pairs font head glyph area rows color buffer₀ width height bits₀ runs₀ offset₀ column₀ row₀ buffer bits runs offset column row =
+μ-pairs font head part value framebuffer buffer₀ glyph-width visible runs₀ from₀ to₀ line₀ left₀ buffer runs from to line left =
     8 * length font - runs .«bit_pos»
 
--- where the function, the loop over a pair's pixels and a pixel's collecting begin
-abbrev start : tie.At-loop Inv-loop μ-loop Inv-pairs μ-pairs → tie.Start Inv-loop μ-loop Inv-pairs μ-pairs
-start l = l .before .before .before .before .before .before .before
+-- where the function and the outer loop begin
+abbrev start : tie.After-struct-known8 Inv-loop μ-loop Inv-pairs μ-pairs → tie.Start Inv-loop μ-loop Inv-pairs μ-pairs
+start c = c .before .before .before .before .before .before .before .before .before .before .before .before .before .before
 
-abbrev loop : tie.After-pixel Inv-loop μ-loop Inv-pairs μ-pairs → tie.At-loop Inv-loop μ-loop Inv-pairs μ-pairs
-loop x = x .before .before .before
+abbrev ones : tie.Start Inv-loop μ-loop Inv-pairs μ-pairs → Ones
+ones s = let a = s .args in onesOf (pixelsOf (u8g2 (a .font .now)) (a .glyph)) (a .glyph .«glyph_width») (a .part) (a .value)
 
-abbrev pixel : tie.After-draw-row Inv-loop μ-loop Inv-pairs μ-pairs → tie.After-pixel Inv-loop μ-loop Inv-pairs μ-pairs
-pixel c = c .before .before .before .before .before .before .before .before .before
+lies : (s : tie.Start Inv-loop μ-loop Inv-pairs μ-pairs) → let a = s .args in
+    Lies (ones s) (a .glyph .«glyph_width» * a .glyph .«glyph_height») (a .framebuffer .width) (a .buffer .now)
+lies s = part-lies (s .pre .1) _ _ refl
 
-narrow : (s : tie.Start Inv-loop μ-loop Inv-pairs μ-pairs) → s .args .glyph .«glyph_width» ≤ 255
-narrow s = search needs
+-- the calls before the loops
+abbrev less : tie.After-struct-known8 Inv-loop μ-loop Inv-pairs μ-pairs → tie.After-less Inv-loop μ-loop Inv-pairs μ-pairs
+less c = c .before .before .before .before .before .before
 
-short : (s : tie.Start Inv-loop μ-loop Inv-pairs μ-pairs) → s .args .glyph .«glyph_height» ≤ 255
-short s = search needs
+abbrev seek : tie.After-struct-known8 Inv-loop μ-loop Inv-pairs μ-pairs → tie.After-seek Inv-loop μ-loop Inv-pairs μ-pairs
+seek c = less c .before .before
 
--- what is drawn and collected
-here : (l : tie.At-loop Inv-loop μ-loop Inv-pairs μ-pairs) → let a = start l .args in let now = l .loop in
-    Drawn (a .font .now) (a .head) (a .glyph) (a .area) (a .color) (a .width) (a .buffer .now) (now .buffer) (now .bits) (l .before .before .before .pairs .runs) (now .offset) (now .column) (now .row)
-here l = l .loop .inv .1 .1 _ (l .before .before .before .pairs .inv .1 .1)
+initial : (c : tie.After-struct-known8 Inv-loop μ-loop Inv-pairs μ-pairs) → let s = start c in let a = s .args in let place = seek c .seek .result in
+    At (a .font .now) (a .head .m0) (a .head .m1) (a .glyph .«glyph_width» * a .glyph .«glyph_height») (ones s) (a .framebuffer .width) (a .buffer .now)
+    (a .buffer .now) (place .runs) (less c .less .result) (c .before .before .before .before .before .count .result - place .offset)
+    (a .part .top * a .framebuffer .width + a .part .left) (a .part .rows .past - a .part .rows .first)
+initial c =
+    let s = start c in
+    let place = seek c .seek in
+    at-start (lies s) (omega (arith, s .pre .1 .some-rows)) (omega (arith, place .ensures .1 .0)) (place .ensures .0) (less c .less .ensures)
+    (ap (λ (k : ℕ). k - place .result .offset) (c .before .before .before .before .before .count .ensures))
 
-same-size : (l : tie.At-loop Inv-loop μ-loop Inv-pairs μ-pairs) → length (l .loop .buffer) ≡ length (start l .args .buffer .now)
-same-size l = l .loop .inv .1 .0 ∙ l .before .before .before .pairs .inv .1 .0
+-- where the inner loop stands
+known : (c : tie.At-loop Inv-loop μ-loop Inv-pairs μ-pairs) → let s = start (c .before .before) in let a = s .args in
+    At (a .font .now) (a .head .m0) (a .head .m1) (a .glyph .«glyph_width» * a .glyph .«glyph_height») (ones s) (a .framebuffer .width) (a .buffer .now)
+    (c .loop .buffer) (c .before .pairs .runs) (c .loop .from) (c .loop .to) (c .loop .line) (c .loop .left)
+known c =
+    let l = lies (start (c .before .before)) in
+    c .loop .inv .1 _ _ _ l (c .before .pairs .inv .1 .1 _ _ _ l (initial (c .before .before)))
 
-row-small : (l : tie.At-loop Inv-loop μ-loop Inv-pairs μ-pairs) → l .loop .row < 256
-row-small l = omega (arith, l .loop .inv .0, start l .pre .within, short (start l))
+-- the row's part lies on the framebuffer
+room : (c : tie.At-loop Inv-loop μ-loop Inv-pairs μ-pairs) → c .loop .line + (ones (start (c .before .before)) .visible) ≤ length (c .loop .buffer)
+room c = omega (arith, c .loop .inv .0, c .before .pairs .inv .1 .0, part-in (lies (start (c .before .before))) (known c))
 
--- the row with the pixel
-cells : tie.After-pixel Inv-loop μ-loop Inv-pairs μ-pairs → List ℕ
-cells x = let l = loop x in take (start l .args .glyph .«glyph_width») (set (l .loop .bits) (l .loop .column) (x .pixel .result))
+-- .. and is small
+small : (c : tie.At-loop Inv-loop μ-loop Inv-pairs μ-pairs) → c .loop .line + (ones (start (c .before .before)) .visible) ≤ 65536
+small c = omega (arith, room c, c .loop .inv .0, c .before .pairs .inv .1 .0, part-small (start (c .before .before) .pre .1))
 
-cells-length : (x : tie.After-pixel Inv-loop μ-loop Inv-pairs μ-pairs) → length (cells x) ≡ start (loop x) .args .glyph .«glyph_width»
-unfolding cells
-cells-length x = let l = loop x in row-length (start l .pre) (here l) (l .loop .inv .0) (x .pixel .result) (narrow (start l))
+mul-seek : tie.Need-mul-seek Inv-loop μ-loop Inv-pairs μ-pairs
+mul-seek c =
+    let s = c .before .before .before .before .before in
+    let w : s .args .glyph .«glyph_width» ≤ 255 = search needs in
+    let h : s .args .glyph .«glyph_height» ≤ 255 = search needs in
+    omega (arith, first-pixel (s .pre .1), mul-le-mul w h)
+
+seek-requires : tie.Need-seek-requires Inv-loop μ-loop Inv-pairs μ-pairs
+seek-requires c κs = let p = c .before .before .before .before .before .pre in (p .0, first-pixel (p .1))
+
+mul-line : tie.Need-mul-line Inv-loop μ-loop Inv-pairs μ-pairs
+mul-line c = omega (arith, line-small (c .before .before .before .before .before .before .before .before .before .before .before .before .pre .1))
+
+add-line : tie.Need-add-line Inv-loop μ-loop Inv-pairs μ-pairs
+add-line c = omega (arith, line-small (c .before .before .before .before .before .before .before .before .before .before .before .before .before .pre .1))
+
+sub-left : tie.Need-sub-left Inv-loop μ-loop Inv-pairs μ-pairs
+sub-left c = omega (arith, start c .pre .1 .some-rows)
 
 pairs-holds : tie.Need-pairs-holds Inv-loop μ-loop Inv-pairs μ-pairs
-pairs-holds c = (c .before .before .before .pre .order, (refl, none-drawn (c .before .before .before .pre) refl))
+pairs-holds c = (seek c .seek .ensures .1 .1, (refl, λ n ps entry l a. a))
 
 loop-holds : tie.Need-loop-holds Inv-loop μ-loop Inv-pairs μ-pairs
-loop-holds c = (omega arith, (refl, λ old d. d))
+loop-holds c = (refl, λ n ps entry l a. a)
 
-array-write-bits : tie.Need-array-write-bits Inv-loop μ-loop Inv-pairs μ-pairs
-array-write-bits c = omega (arith, here (loop c) .in-row, narrow (start (loop c)))
+add-end : tie.Need-add-end Inv-loop μ-loop Inv-pairs μ-pairs
+add-end c = omega (arith, small (c .before))
 
-add-column : tie.Need-add-column Inv-loop μ-loop Inv-pairs μ-pairs
-add-column c = omega (arith, here (loop c) .in-row, narrow (start (loop c)))
+part-fill-columns-end : tie.Need-part-fill-columns-end Inv-loop μ-loop Inv-pairs μ-pairs
+part-fill-columns-end c = let r = room (c .before) in search needs
 
-array-share-prefix-bits : tie.Need-array-share-prefix-bits Inv-loop μ-loop Inv-pairs μ-pairs
-array-share-prefix-bits c =
-    let x = c .before .before .before .before in
-    let l = loop x in
-    omega (arith, length-set (l .loop .bits) (l .loop .column) (x .pixel .result), here l .size, narrow (start l))
+add-line-2 : tie.Need-add-line-2 Inv-loop μ-loop Inv-pairs μ-pairs
+add-line-2 c =
+    let l = c .before .before .before .before .before .before .before in
+    let f = start (l .before .before) .pre .1 .window in
+    omega (arith, small l, f .wide, f .high)
 
-slice-aggregate-draw-row : tie.Need-slice-aggregate-draw-row Inv-loop μ-loop Inv-pairs μ-pairs
-unfolding cells
-slice-aggregate-draw-row c = sym (cells-length (c .before .before .before .before .before))
+sub-left-2 : tie.Need-sub-left-2 Inv-loop μ-loop Inv-pairs μ-pairs
+sub-left-2 c = omega (arith, known (c .before .before .before .before .before .before .before) .some)
 
-cast-draw-row : tie.Need-cast-draw-row Inv-loop μ-loop Inv-pairs μ-pairs
-cast-draw-row c = omega (arith, row-small (c .before .before .before .before .before .before .before .before))
-
-add-draw-row : tie.Need-add-draw-row Inv-loop μ-loop Inv-pairs μ-pairs
-add-draw-row c = let l = c .before .before .before .before .before .before .before .before .before .before in top-fits (start l .pre) (l .loop .row) (row-small l)
-
-draw-row-requires : tie.Need-draw-row-requires Inv-loop μ-loop Inv-pairs μ-pairs
-unfolding cells
-draw-row-requires c κs =
-    let x = c .before .before .before .before .before .before .before .before in
-    let l = loop x in
-    rw (left-is (start l .pre))
-    (row-reach (start l .pre) (here l) (l .loop .inv .0) (same-size l) (cells-length x) (narrow (start l)))
-
--- what the row's drawing left, whatever was drawn on
-row-drawn : (c : tie.After-draw-row Inv-loop μ-loop Inv-pairs μ-pairs)
-    → let x = pixel c in let l = loop x in let a = start l .args in let o = l .before .before .before .pairs in let bits = set (l .loop .bits) (l .loop .column) (x .pixel .result) in
-    l .loop .column + 1 ≡ a .glyph .«glyph_width»
-    → (old : List ℕ)
-    → Drawn (a .font .now) (a .head) (a .glyph) (a .area) (a .color) (a .width) old (o .buffer) (o .bits) (o .runs) (o .offset) (o .column) (o .row)
-    → Drawn (a .font .now) (a .head) (a .glyph) (a .area) (a .color) (a .width) old (c .draw-row .last .0) bits (o .runs) (l .loop .offset + 1) 0 (l .loop .row + 1)
-unfolding cells
-row-drawn c e old d =
-    let x = pixel c in
-    let l = loop x in
-    let s = start l in
-    next-row (s .pre) (l .loop .inv .1 .1 old d) (l .loop .inv .0) (omega (arith, x .before .if2 .taken, x .before .before .count .ensures)) _ (x .pixel .ensures) (narrow s) e _
-    (c .draw-row .ensures ∙ row-place (s .pre) (l .loop .row) (row-small l) (cells x) (l .loop .buffer))
+loop-less : tie.Need-loop-less Inv-loop μ-loop Inv-pairs μ-pairs
+loop-less c =
+    let p = start (c .before .before .before .before .before .before .before .before .before .before) .pre .1 in
+    omega (arith, p .some-columns, p .in-width, c .before .before .before .before .before .before .before .loop-test .taken)
 
 loop-again : tie.Need-loop-again Inv-loop μ-loop Inv-pairs μ-pairs
-loop-again c = (omega arith, (search needs, row-drawn (c .before .before .before .before) (c .before .before .before .before .before .before .before .before .before .before .before .if3 .taken)))
+loop-again c =
+    let l = c .before .before .before .before .before .before .before .before in
+    let s = start (l .before .before) in
+    let k : l .loop .line + ones s .visible - l .loop .line ≡ ones s .visible = omega arith in (
+      c .before .before .before .before .buffer .given .1 ∙ l .loop .inv .0,
+      λ n ps entry lies begin.
+          let at = l .loop .inv .1 n ps entry lies begin in
+          rw (c .before .before .less2 .ensures)
+          (at-row lies at k
+          (c .before .before .before .before .before .before .before .loop-test .taken) (omega (arith, at .some, c .if1 .left)) (c .before .before .before .before .before .fill-columns .ensures)),
+    )
 
-loop-again-2 : tie.Need-loop-again-2 Inv-loop μ-loop Inv-pairs μ-pairs
-loop-again-2 c =
-    let x = c .before .before in
-    let l = loop x in
-    let s = start l in
-    (l .loop .inv .0, (l .loop .inv .1 .0, λ old d. next-column (s .pre) (l .loop .inv .1 .1 old d) (l .loop .inv .0) (omega arith) _ (x .pixel .ensures) (narrow s) (c .if3 .left)))
+add-end-2 : tie.Need-add-end-2 Inv-loop μ-loop Inv-pairs μ-pairs
+add-end-2 c = omega (arith, small (c .before))
 
-checked-requires : tie.Need-checked-requires Inv-loop μ-loop Inv-pairs μ-pairs
-checked-requires c κs = let l = c .before .before .before in λ e. pair-known (start l .pre) (here l) (l .loop .inv .0) (omega arith) (sym (c .next-pair .ensures) ∙ e)
+part-fill-columns-end-2 : tie.Need-part-fill-columns-end-2 Inv-loop μ-loop Inv-pairs μ-pairs
+part-fill-columns-end-2 c = let r = room (c .before) in search needs
+
+next-pair-requires : tie.Need-next-pair-requires Inv-loop μ-loop Inv-pairs μ-pairs
+next-pair-requires c κs =
+    let l = c .before .before .before .before .before in
+    let p = known l .stands .place in
+    let short = l .before .pairs .inv .0 in
+    let checked = start (l .before .before) .pre .0 in
+    search needs
+
+-- the pair's end lies less than two runs after the row's
+next-in : (c : tie.After-next-pair Inv-loop μ-loop Inv-pairs μ-pairs)
+    → c .before .before .before .before .before .before .loop .to + (c .next-pair .result .zeros + c .next-pair .result .ones) ≤ 765
+next-in c =
+    let s = start (c .before .before .before .before .before .before .before .before) in
+    let w : s .args .glyph .«glyph_width» ≤ 255 = search needs in
+    let short = c .next-pair .ensures .1 .0 in
+    omega (arith, c .before .before .before .before .before .loop-test .left, short .zeros, short .ones)
+
+add-from : tie.Need-add-from Inv-loop μ-loop Inv-pairs μ-pairs
+add-from c = omega (arith, next-in (c .before))
+
+add-to : tie.Need-add-to Inv-loop μ-loop Inv-pairs μ-pairs
+add-to c = omega (arith, next-in (c .before .before))
 
 pairs-less : tie.Need-pairs-less Inv-loop μ-loop Inv-pairs μ-pairs
-pairs-less c =
-    let l = c .before .before .before .before in
-    let a = start l .args in
-    omega (arith, next-place (a .font .now) (a .head .m0) (a .head .m1) (l .before .before .before .pairs .runs) _ (sym (c .before .next-pair .ensures) ∙ c .checked .ensures))
+pairs-less c = omega (arith, known (c .before .before .before .before .before .before .before .before) .stands .place, c .before .before .next-pair .ensures .1 .1)
 
 pairs-again : tie.Need-pairs-again Inv-loop μ-loop Inv-pairs μ-pairs
 pairs-again c =
-    let l = c .before .before .before .before in
-    (omega arith, (same-size l, next-runs (start l .pre) (here l) (l .loop .inv .0) (omega arith) (sym (c .before .next-pair .ensures) ∙ c .checked .ensures)))
+    let l = c .before .before .before .before .before .before .before .before in
+    let s = start (l .before .before) in
+    let next = c .before .before .next-pair .ensures in
+    let k : l .loop .line + ones s .visible - l .loop .line ≡ ones s .visible = omega arith in (
+      next .1 .0,
+      (
+        c .before .before .before .before .buffer2 .given .1 ∙ l .loop .inv .0 ∙ l .before .pairs .inv .1 .0,
+        λ n ps entry lies begin.
+            let at = l .loop .inv .1 n ps entry lies (l .before .pairs .inv .1 .1 n ps entry lies begin) in
+            at-next lies at k
+            (c .before .before .before .before .before .before .before .loop-test .left) (next .0) (c .before .before .before .before .before .fill-columns2 .ensures),
+      ),
+    )
 
 returns : tie.Need-returns Inv-loop μ-loop Inv-pairs μ-pairs
 returns c =
-    let o = c .before .before .pairs in
-    let e : o .row ≡ c .before .before .before .before .before .before .args .rows .past = omega arith in
-    o .inv .1 .1 .buffer ∙ rw e
-
-returns-2 : tie.Need-returns-2 Inv-loop μ-loop Inv-pairs μ-pairs
-returns-2 c =
-    let q = c .before .before .before .before in
-    let l = loop (pixel q) in
-    let e : l .loop .row + 1 ≡ start l .args .rows .past = omega arith in
-    row-drawn q (c .before .before .before .before .before .before .before .before .before .before .before .if3 .taken) _ (l .before .before .before .pairs .inv .1 .1) .buffer ∙ rw e
+    let l = c .before .before .before .before .before .before .before .before in
+    let s = start (l .before .before) in
+    let k : l .loop .line + ones s .visible - l .loop .line ≡ ones s .visible = omega arith in
+    let at = known l in
+    all-rows (lies s) at k (c .before .before .before .before .before .before .before .loop-test .taken) (omega (arith, at .some, c .if1 .taken))
+    (c .before .before .before .before .before .fill-columns .ensures)
 
 pub draw-rows-spec : {M : Type 1} → statement M
 draw-rows-spec =
     tie.close
-    (tie.spec Inv-loop μ-loop Inv-pairs μ-pairs pairs-holds loop-holds (λ c κs. search needs) (λ c κs. search needs)
-    array-write-bits (λ c. search needs) add-column (λ c. search needs) array-share-prefix-bits slice-aggregate-draw-row
-    cast-draw-row add-draw-row draw-row-requires (λ c. search needs) (λ c. search needs) loop-again (λ c. search needs)
-    loop-again-2 (λ c κs. search needs) checked-requires pairs-less pairs-again (λ c. search needs) returns (λ c. search needs)
-    returns-2)
+    (tie.spec Inv-loop μ-loop Inv-pairs μ-pairs (λ c. search needs) (λ c. search needs) mul-seek seek-requires (λ c κs. search needs) (λ c κs. search needs)
+    (λ c. search needs) mul-line add-line sub-left pairs-holds loop-holds add-end (λ c. search needs) (λ c. search needs) part-fill-columns-end
+    (λ c κs. search needs) (λ c κs. search needs) add-line-2 sub-left-2 loop-less loop-again add-end-2 (λ c. search needs) (λ c. search needs)
+    part-fill-columns-end-2 (λ c κs. search needs) next-pair-requires add-from add-to pairs-less pairs-again (λ c. search needs) returns)
