@@ -6,7 +6,7 @@ use Prim.Native.Nat.{ℕ, suc}
 use lib.IntN.{ℤ, pos}
 use lib.ListN.{set}
 use Rattle.definitions.specs.Vocabulary.{Error, BoundingBox, None, Some, Point, Rectangle, RenderedDimensions, FontColor, Transparent, WithBackground, Placement}
-use Rattle.definitions.specs.Refusals.{Outcome, success, refused, number, codePoint}
+use Rattle.definitions.specs.Refusals.{Outcome, success, refused, errorNumber, codePoint}
 use Rattle.definitions.specs.Text.{point}
 use Rattle.definitions.specs.Calls.{placed}
 use Rattle.c_values.specs.declared.reply.Reply.{Reply}
@@ -29,7 +29,7 @@ refusedReply n c = record {
 }
 
 abbrev pub errorReply : Error → Reply
-errorReply e = refusedReply (number e) (codePoint e)
+errorReply e = refusedReply (errorNumber e) (codePoint e)
 
 abbrev pub boxedReply : Point → Rectangle → Reply
 boxedReply advance r = record {

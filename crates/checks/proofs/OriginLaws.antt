@@ -12,7 +12,7 @@ use Rattle.definitions.specs.Utf8.{decode, isUtf8, newlines}
 use Rattle.definitions.specs.VerticalOffset.{verticalOffset}
 use Rattle.definitions.specs.Limits.{textCause, coordinateOff, positionCause}
 use Rattle.definitions.specs.Font.{u8g2}
-use Rattle.definitions.specs.Calls.{openFont, Request, measureCauses, characters, origin}
+use Rattle.definitions.specs.Calls.{openFont, Request, measureCauses, codePointsOf, origin}
 use Rattle.definitions.proofs.RefusalLaws.{or-false, none-applies, succeeded, passed as causes-passed, each-off}
 use Rattle.definitions.proofs.ComesLaws.{comes-stopped}
 use Rattle.definitions.proofs.OpenedLaws.{passes-font, opened}
@@ -44,7 +44,7 @@ not-false false e = impossible cc
 pub record TextLimits (text : List ℕ) : Type 0 where
   pub short : length text ≤ 4096
   pub utf8 : isUtf8 (decode text) ≡ true
-  pub count : newlines (characters text) ≤ 4096
+  pub count : newlines (codePointsOf text) ≤ 4096
 
 pub text-limits : (text : List ℕ) → textCause text .applies ≡ false → TextLimits text
 text-limits text e =
@@ -54,7 +54,7 @@ text-limits text e =
     record {
       short = short;
       utf8 = utf8;
-      count = omega (arith, newlines-length (characters text), character-count text (utf8-characters (decode text) utf8));
+      count = omega (arith, newlines-length (codePointsOf text), character-count text (utf8-characters (decode text) utf8));
     }
 
 pub record PositionLimits (position : Point) (lineHeight : ℕ) : Type 0 where
@@ -79,14 +79,14 @@ position-limits position lineHeight e =
 
 module _ (ascent descent : ℤ) (r : Request) where
   abbrev pub offset : ℤ
-  offset = verticalOffset (r .anchor) (pos (newlines (characters (r .text)) * r .lineHeight)) ascent descent
+  offset = verticalOffset (r .anchor) (pos (newlines (codePointsOf (r .text)) * r .lineHeight)) ascent descent
 
   abbrev begins : Point
   begins = originBy ascent descent r
 
   module _ (f : SFits w8 ascent) (g : SFits w8 descent) (a : TextLimits (r .text)) (b : PositionLimits (r .position) (r .lineHeight)) where
     pub offset-near : (negsuc 268431487 ≤ℤ offset) × (offset ≤ℤ pos 128)
-    offset-near = offset-limits (newlines (characters (r .text)) * r .lineHeight) f g (r .anchor) (newlines-most (a .count) (b .line))
+    offset-near = offset-limits (newlines (codePointsOf (r .text)) * r .lineHeight) f g (r .anchor) (newlines-most (a .count) (b .line))
 
     pub origin-checked : Checked (r .text) begins (r .lineHeight)
     origin-checked =

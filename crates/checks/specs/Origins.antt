@@ -12,7 +12,7 @@ use Rattle.definitions.specs.Utf8.{decode, isUtf8, newlines}
 use Rattle.definitions.specs.VerticalOffset.{verticalOffset}
 use Rattle.definitions.specs.Text.{point}
 use Rattle.definitions.specs.Limits.{textCause, positionCause}
-use Rattle.definitions.specs.Calls.{Request, characters}
+use Rattle.definitions.specs.Calls.{Request, codePointsOf}
 use Rattle.checks.specs.declared.origin.OriginResult.{OriginResult}
 use Rattle.checks.specs.declared.origin.OriginResult.the-variants.{Ok, Err}
 
@@ -21,7 +21,7 @@ abbrev pub originBy : ℤ → ℤ → Request → Point
 originBy ascent descent r =
     point
     (r .position .x)
-    (r .position .y +ℤ verticalOffset (r .anchor) (pos (newlines (characters (r .text)) * r .lineHeight)) ascent descent)
+    (r .position .y +ℤ verticalOffset (r .anchor) (pos (newlines (codePointsOf (r .text)) * r .lineHeight)) ascent descent)
 
 -- .. unless 01's cause 4 or 5 applies
 abbrev pub checkedOrigin : ℤ → ℤ → Request → Outcome Point

@@ -16,7 +16,7 @@ use Rattle.definitions.specs.Font.{Font, u8g2, measuredAnswer, withRuns,
 use Rattle.definitions.specs.Picture.{Paint, textPicture}
 use Rattle.definitions.specs.Framebuffer.{over, sideOff, framebufferCause}
 use Rattle.definitions.specs.Limits.{textCause, positionCause, backgroundOff, backgroundCause}
-use Rattle.definitions.specs.Calls.{Request, characters, origin, laid, measureCauses, measuredText, measure, drawCauses, drawnText, draw, drawBuffer}
+use Rattle.definitions.specs.Calls.{Request, codePointsOf, origin, laid, measureCauses, measuredText, measure, drawCauses, drawnText, draw, drawBuffer}
 use Rattle.definitions.specs.Agreement.{Ground, WithinLimits, drawn, after, pixel, width, height, results, KeptOutside, Agree, ThirdDemand}
 use Rattle.definitions.proofs.RefusalLaws.{went-on, none-applies, succeeded, NoneApplies, each-off, all-off, any-parts, parts-any, or-false}
 use Rattle.definitions.proofs.OpenedLaws.{opened-by-causes}
@@ -199,7 +199,7 @@ module _ (f g : Font) (h : f ⊑ g) (r : Request) (no-skips : r .skip ≡ false)
   follows-laid : (k : Font) → origin k r ≡ origin f r → (answers : ℕ → Answer) → Follows (drawnAnswer f false) answers → laid k r answers ≡ drawnText f r
   follows-laid k same answers follows =
       rw (same, no-skips)
-      (same-layout follows (r .lineHeight) (origin f r) (characters (r .text)) (point (pos 0) (pos 0)) (d .advance) (rw no-skips at (advance-and-box .0)))
+      (same-layout follows (r .lineHeight) (origin f r) (codePointsOf (r .text)) (point (pos 0) (pos 0)) (d .advance) (rw no-skips at (advance-and-box .0)))
 
   same-text : drawnText g r ≡ drawnText f r
   same-text = ap (λ (s : Bool). laid g r (drawnAnswer g s)) no-skips ∙ follows-laid g (same-origin h r) (drawnAnswer g false) (drawn-follows h)
@@ -214,7 +214,7 @@ module _ (f g : Font) (h : f ⊑ g) (r : Request) (no-skips : r .skip ≡ false)
       same-pixels-picture color (pixelsOf f) (pixelsOf g) (drawnText f r .glyphs)
       (each-glyph (λ k. pixelsOf f k ≡ pixelsOf g k) (drawnAnswer f (r .skip))
       (λ c k e. same-pixels h c k (rw no-skips at e))
-      (r .lineHeight) (origin f r) (characters (r .text)) (point (pos 0) (pos 0)))
+      (r .lineHeight) (origin f r) (codePointsOf (r .text)) (point (pos 0) (pos 0)))
       column row
       ∙ ap (λ (l : Layout). textPicture color (pixelsOf g) (l .glyphs) column row) (sym same-text)
 

@@ -11,7 +11,7 @@ use Rattle.definitions.specs.VerticalOffset.{verticalOffset}
 use Rattle.definitions.specs.Utf8.{newlines}
 use Rattle.definitions.specs.Limits.{textCause, coordinateOff, positionCause}
 use Rattle.definitions.specs.Font.{Font, measuredAnswer}
-use Rattle.definitions.specs.Calls.{Request, placed, request, characters, origin, laid, measureCauses, measuredText, measure}
+use Rattle.definitions.specs.Calls.{Request, placed, request, codePointsOf, origin, laid, measureCauses, measuredText, measure}
 use Rattle.definitions.proofs.RefusalLaws.{or-false, none-applies, succeeded, NoneApplies, each-off, all-off, any-parts, parts-any}
 use Rattle.definitions.proofs.TextLaws.{moved, join-all-moved}
 
@@ -86,10 +86,10 @@ module _ (x y : ℤ) (font : Font) (r : Request) where
 
   origin-moved : origin font movedRequest ≡ movedPoint x y (origin font r)
   origin-moved =
-      rw (sum-moved y (r .position .y) (verticalOffset (r .anchor) (pos (newlines (characters (r .text)) * r .lineHeight)) (font .ascent) (font .descent)))
+      rw (sum-moved y (r .position .y) (verticalOffset (r .anchor) (pos (newlines (codePointsOf (r .text)) * r .lineHeight)) (font .ascent) (font .descent)))
 
   pub text-moved : (answers : ℕ → Answer) → laid font movedRequest answers ≡ movedLayout x y (laid font r answers)
-  text-moved answers = rw origin-moved (layout-moved x y answers (r .lineHeight) (origin font r) (characters (r .text)) (point (pos 0) (pos 0)))
+  text-moved answers = rw origin-moved (layout-moved x y answers (r .lineHeight) (origin font r) (codePointsOf (r .text)) (point (pos 0) (pos 0)))
 
   -- Measuring at a place moved is measuring, moved, where both places are within the limits.
   pub measure-moved : anyApplies (measureCauses font r) ≡ false → anyApplies (measureCauses font movedRequest) ≡ false

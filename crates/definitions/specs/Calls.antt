@@ -89,19 +89,19 @@ abbrev pub plain : List ℕ → Placement → Request
 plain text p = request text p Left
 
 -- The letters of a text.
-abbrev pub characters : List ℕ → List ℕ
-characters text = codePoints (decode text)
+abbrev pub codePointsOf : List ℕ → List ℕ
+codePointsOf text = codePoints (decode text)
 
 -- The place moved by the anchor, t being the newlines times the line height.
 abbrev pub origin : Font → Request → Point
 origin font r =
     point
     (r .position .x)
-    (r .position .y +ℤ verticalOffset (r .anchor) (pos (newlines (characters (r .text)) * r .lineHeight)) (font .ascent) (font .descent))
+    (r .position .y +ℤ verticalOffset (r .anchor) (pos (newlines (codePointsOf (r .text)) * r .lineHeight)) (font .ascent) (font .descent))
 
 -- its letters from there on, by what each of them shows
 abbrev pub laid : Font → Request → (ℕ → Answer) → Layout
-laid font r answers = layout answers (r .lineHeight) (origin font r) (point (pos 0) (pos 0)) (characters (r .text))
+laid font r answers = layout answers (r .lineHeight) (origin font r) (point (pos 0) (pos 0)) (codePointsOf (r .text))
 
 -- ---- measuring
 
@@ -126,7 +126,7 @@ boxOfLayout l advance = andThen advance (λ a. success (joinAll (l .glyphs)))
 
 abbrev pub alignedText : Font → Request → Layout
 alignedText font r =
-    aligned (measuredAnswer font (r .skip)) (r .lineHeight) (r .align) (origin font r) (characters (r .text))
+    aligned (measuredAnswer font (r .skip)) (r .lineHeight) (r .align) (origin font r) (codePointsOf (r .text))
 
 unfoldable pub measureAligned : Font → Request → Outcome BoundingBox
 measureAligned font r = unlessRefused (measureCauses font r) (let l = alignedText font r in boxOfLayout l (l .advance))

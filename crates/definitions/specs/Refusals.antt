@@ -18,15 +18,15 @@ andThen (success a) rest = rest a
 andThen (refused n c) rest = refused n c
 
 -- 01's number of each case of the error type
-abbrev pub number : Error → ℕ
-number FontLength = 1
-number FontHeader = 2
-number FramebufferSize = 3
-number TextEncoding = 4
-number PositionOrLineHeight = 5
-number BackgroundColorNotSupported = 6
-number (GlyphNotFound c) = 7
-number (FontEnds c) = 8
+abbrev pub errorNumber : Error → ℕ
+errorNumber FontLength = 1
+errorNumber FontHeader = 2
+errorNumber FramebufferSize = 3
+errorNumber TextEncoding = 4
+errorNumber PositionOrLineHeight = 5
+errorNumber BackgroundColorNotSupported = 6
+errorNumber (GlyphNotFound c) = 7
+errorNumber (FontEnds c) = 8
 
 -- the code point that is returned with it: 0 where no letter is to blame
 abbrev pub codePoint : Error → ℕ
@@ -40,7 +40,7 @@ codePoint (GlyphNotFound c) = c
 codePoint (FontEnds c) = c
 
 abbrev pub refusal : {A : Type 0} → Error → Outcome A
-refusal e = refused (number e) (codePoint e)
+refusal e = refused (errorNumber e) (codePoint e)
 
 -- A cause that is tested before any letter: its number, and whether it applies to the call.
 pub record Cause : Type 0 where

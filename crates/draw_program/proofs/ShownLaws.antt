@@ -1,8 +1,8 @@
 -- What is drawn can be shown. Assumes nothing.
 use Rattle.integers.proofs.Prelude.{_≡_, subst, List, ℕ, _+_, _*_, _≤_, _<_, mul-le-mul-right, mul-comm, arith, length, take, length-take-le}
 use Rattle.definitions.specs.Vocabulary.{Size, FontColor}
-use Rattle.pictures.specs.declared.whole.Drawing.{Drawing}
-use Rattle.pictures.specs.declared.whole.Drawing.the-variants.{Drawn, Blank, TooLarge, Refused}
+use Rattle.pictures.specs.declared.whole.DrawResult.{DrawResult}
+use Rattle.pictures.specs.declared.whole.DrawResult.the-variants.{Drawn, Blank, TooLarge, Refused}
 use Rattle.pictures.specs.Drawings.{IsDrawing}
 use Rattle.pictures.proofs.DrawingLaws.{area-most}
 use Rattle.draw_program.specs.Shown.{Showable}
@@ -14,7 +14,7 @@ row-within width height y h = omega (arith, mul-le-mul-right width h, mul-comm w
 
 -- ---- what is shown
 
-pub showable : (font text : List ℕ) (lineHeight : ℕ) (color : FontColor) (before after : List ℕ) (d : Drawing)
+pub showable : (font text : List ℕ) (lineHeight : ℕ) (color : FontColor) (before after : List ℕ) (d : DrawResult)
     → IsDrawing font text lineHeight color before after d → Showable d
 showable font text lineHeight color before after (Drawn d size) (r, (e, k)) =
     (subst (λ (s : Size). s .width ≤ 256) e (k .wide), subst (λ (s : Size). s .height ≤ 256) e (k .high))

@@ -9,8 +9,8 @@ use crate::marks::color;
 use crate::marks::print_rows;
 use crate::options::Options;
 use font_file::FontFile;
-use pictures::whole::Drawing;
-use pictures::whole::draw_text;
+use pictures::whole::DrawResult;
+use pictures::whole::draw_whole;
 use types::error::Error;
 use types::geometry::RenderedDimensions;
 use types::geometry::Size;
@@ -47,14 +47,14 @@ fn show_too_large(size: Size) {
     printing::text(b" pixels, and a framebuffer has at most 256 by 256\n");
 }
 
-fn show(drawing: Drawing, pgm: bool, buffer: &[u8])
+fn show(drawing: DrawResult, pgm: bool, buffer: &[u8])
     requires { ⌜ Showable drawing × (length (now buffer) ≡ 65536) ⌝ }
 {
     match drawing {
-        Drawing::Refused(error) => printing::refusal_line(error),
-        Drawing::Blank(dimensions) => answer(dimensions),
-        Drawing::TooLarge(rectangle) => show_too_large(rectangle.size),
-        Drawing::Drawn(dimensions, size) => show_drawn(dimensions, size, pgm, buffer),
+        DrawResult::Refused(error) => printing::refusal_line(error),
+        DrawResult::Blank(dimensions) => answer(dimensions),
+        DrawResult::TooLarge(rectangle) => show_too_large(rectangle.size),
+        DrawResult::Drawn(dimensions, size) => show_drawn(dimensions, size, pgm, buffer),
     }
 }
 
@@ -63,7 +63,7 @@ fn draw_input(font: &[u8], options: Options, input: i32) {
     let mut text = [0u8; 4097];
     let n = io::read_full(input, &mut text);
     let mut buffer = [EMPTY; 65536];
-    let drawing = draw_text(font, &text[..n], color(options.background), &mut buffer);
+    let drawing = draw_whole(font, &text[..n], color(options.background), &mut buffer);
     show(drawing, options.pgm, &buffer);
 }
 

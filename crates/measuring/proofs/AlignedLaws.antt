@@ -6,7 +6,7 @@ use Rattle.definitions.specs.Refusals.{Outcome, success, refused, Cause, unless
 use Rattle.definitions.specs.Text.{dimensions}
 use Rattle.definitions.specs.TextSteps.{measureLines}
 use Rattle.definitions.specs.Font.{Font, u8g2, measuredAnswer}
-use Rattle.definitions.specs.Calls.{openFont, Request, placed, plain, characters, origin, measureCauses, measure, alignedText, measureAligned}
+use Rattle.definitions.specs.Calls.{openFont, Request, placed, plain, codePointsOf, origin, measureCauses, measure, alignedText, measureAligned}
 use Rattle.definitions.proofs.TextLaws.{measure-lines, boxAlone, box-of-layout, left-dimensions}
 use Rattle.definitions.proofs.Utf8Laws.{position}
 use Rattle.checks.proofs.OriginLaws.{tested, origin-is, call-refused, call-goes-on}
@@ -16,11 +16,11 @@ use Rattle.measuring.specs.Aligned.{alignedDimensions}
 
 module _ (font : List ℕ) {head : FontReader} (opens : openFont font ≡ success head) (r : Request) where
   pub aligned-is : {o : Point} → tested font opens r ≡ success o
-      → measureLines (measuredAnswer (u8g2 font) (r .skip)) (r .align) (r .lineHeight) o (characters (r .text)) ≡ alignedDimensions (u8g2 font) r
+      → measureLines (measuredAnswer (u8g2 font) (r .skip)) (r .align) (r .lineHeight) o (codePointsOf (r .text)) ≡ alignedDimensions (u8g2 font) r
   unfolding alignedDimensions
   aligned-is {o} e =
-      ap (λ (p : Point). measureLines (measuredAnswer (u8g2 font) (r .skip)) (r .align) (r .lineHeight) p (characters (r .text))) (sym (origin-is font opens r e))
-      ∙ measure-lines (measuredAnswer (u8g2 font) (r .skip)) (r .align) (r .lineHeight) (origin (u8g2 font) r) (characters (r .text))
+      ap (λ (p : Point). measureLines (measuredAnswer (u8g2 font) (r .skip)) (r .align) (r .lineHeight) p (codePointsOf (r .text))) (sym (origin-is font opens r e))
+      ∙ measure-lines (measuredAnswer (u8g2 font) (r .skip)) (r .align) (r .lineHeight) (origin (u8g2 font) r) (codePointsOf (r .text))
       ∙ sym (call-goes-on font opens r _ e)
 
   pub aligned-refused : {n c : ℕ} → tested font opens r ≡ refused n c → refused n c ≡ alignedDimensions (u8g2 font) r
@@ -44,7 +44,7 @@ module _ (font : Font) (r : Request) where
   unfolding alignedDimensions measure
   plain-is-left =
       ap (unlessRefused (measureCauses font r))
-      (left-dimensions (measuredAnswer font (r .skip)) (r .lineHeight) (origin font r) (characters (r .text)))
+      (left-dimensions (measuredAnswer font (r .skip)) (r .lineHeight) (origin font r) (codePointsOf (r .text)))
 
   -- aligned measuring answers with the box
   pub aligned-box : boxAlone (alignedDimensions font r) ≡ measureAligned font r

@@ -17,7 +17,7 @@ use Rattle.definitions.specs.Runs.{Pixels, pixels, cut}
 use Rattle.definitions.specs.Font.{Font, u8g2, measuredAnswer, withRuns, drawable, drawnAnswer}
 use Rattle.definitions.specs.Framebuffer.{sideOff, framebufferCause}
 use Rattle.definitions.specs.Limits.{coordinateOff, positionCause, backgroundCause}
-use Rattle.definitions.specs.Calls.{Request, characters, origin, laid, measureCauses, measuredText, measure, draw}
+use Rattle.definitions.specs.Calls.{Request, codePointsOf, origin, laid, measureCauses, measuredText, measure, draw}
 use Rattle.definitions.specs.Agreement.{limits, on}
 use Rattle.pictures.specs.Whole.{atZero, whole, measuredAtZero, opposite, roomFor, drawnWhole, inCorner, boxed, SeenWhole}
 use Rattle.definitions.proofs.OpenedLaws.{opened-limits}
@@ -241,7 +241,7 @@ module _ (font : List ℕ) (opened : Opened font (header font)) (lineHeight : �
 
 -- ---- drawing at the opposite of the corner
 
-few-characters : (text : List ℕ) → (ltb 4096 (length text) || not (isUtf8 (decode text))) ≡ false → length (characters text) ≤ 4096
+few-characters : (text : List ℕ) → (ltb 4096 (length text) || not (isUtf8 (decode text))) ≡ false → length (codePointsOf text) ≤ 4096
 few-characters text e =
     let l = or-false (ltb 4096 (length text)) (not (isUtf8 (decode text))) e in
     omega (arith, ltb-false 4096 (length text) (l .0), character-count text (utf8-characters (decode text) (not-false (isUtf8 (decode text)) (l .1))))
@@ -281,7 +281,7 @@ module _ (font text : List ℕ) (lineHeight : ℕ) (advance : Point) (r : Rectan
       let l = measuredText (u8g2 font) asked in
       let box = dimensions-success (joinAll (l .glyphs)) (l .advance) (boxed advance r) (at-zero .1) .1 in
       subst NearBox box
-      (near-text font (opened-limits font (off .0) (off .1 .0)) lineHeight low (characters text) 0 atZero (omega (arith, few-characters text (off .1 .1 .0))) start)
+      (near-text font (opened-limits font (off .0) (off .1 .0)) lineHeight low (codePointsOf text) 0 atZero (omega (arith, few-characters text (off .1 .1 .0))) start)
 
   stands : positionCause (opposite r) lineHeight .applies ≡ false
   stands =
@@ -311,7 +311,7 @@ module _ (font text : List ℕ) (lineHeight : ℕ) (advance : Point) (r : Rectan
       cc (x, y)
 
   seen-answer : SeenWhole advance r answers
-  seen-answer = subst (SeenWhole advance r) (sym moved-there) (by (alike-or-cut (u8g2 font) lineHeight (origin (u8g2 font) asked) (characters text) atZero))
+  seen-answer = subst (SeenWhole advance r) (sym moved-there) (by (alike-or-cut (u8g2 font) lineHeight (origin (u8g2 font) asked) (codePointsOf text) atZero))
     where
       by : AlikeOrCut (drawnAt atZero) (measuredText (u8g2 font) asked)
           → SeenWhole advance r (movedDimensions (pos 0 -ℤ left r) (pos 0 -ℤ top r) (dimensions (drawnAt atZero)))

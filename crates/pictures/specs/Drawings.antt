@@ -8,8 +8,8 @@ use lib.ListN.{take, drop}
 use Rattle.definitions.specs.Vocabulary.{Framebuffer, None, Point, Rectangle, RenderedDimensions, FontColor}
 use Rattle.definitions.specs.Refusals.{Outcome, success, refusal}
 use Rattle.pictures.specs.Whole.{measuredAtZero, drawnWhole, shownWhole, boxed, SeenWhole}
-use Rattle.pictures.specs.declared.whole.Drawing.{Drawing}
-use Rattle.pictures.specs.declared.whole.Drawing.the-variants.{Drawn, Blank, TooLarge, Refused}
+use Rattle.pictures.specs.declared.whole.DrawResult.{DrawResult}
+use Rattle.pictures.specs.declared.whole.DrawResult.the-variants.{Drawn, Blank, TooLarge, Refused}
 
 -- The text was measured at (0, 0), and its box is r. A default line height is at most 128.
 pub record Measured (font text : List ℕ) (lineHeight : ℕ) (r : Rectangle) : Type 0 where
@@ -39,7 +39,7 @@ pub record Called (font text : List ℕ) (lineHeight : ℕ) (color : FontColor) 
   pub seen : SeenWhole advance r o
 
 -- Where nothing was drawn the buffer stays.
-abbrev pub IsDrawing : List ℕ → List ℕ → ℕ → FontColor → List ℕ → List ℕ → Drawing → Type 0
+abbrev pub IsDrawing : List ℕ → List ℕ → ℕ → FontColor → List ℕ → List ℕ → DrawResult → Type 0
 IsDrawing font text lineHeight color before after (Drawn d size) =
     (r : Rectangle) × ((r .size ≡ size) × Called font text lineHeight color before after r (success d))
 IsDrawing font text lineHeight color before after (Blank d) =

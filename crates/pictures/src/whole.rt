@@ -26,7 +26,7 @@ use types::style::FontColor;
 use types::style::Placement;
 use types::style::VerticalPosition;
 
-pub enum Drawing {
+pub enum DrawResult {
     // the answer and the framebuffer's size; its pixels begin the buffer
     Drawn(RenderedDimensions, Size),
     // the text has no pixel
@@ -81,7 +81,7 @@ fn draw_box(
     rectangle: Rectangle,
     color: FontColor,
     buffer: &mut [u8],
-) -> Drawing
+) -> DrawResult
     requires { ⌜ Measured (now font) (now text) «line_height» rectangle × (length (now buffer) ≡ 65536) ⌝ }
     ensures { λ r. ⌜ IsDrawing (now (font .entry)) (now (text .entry)) «line_height» color (now (buffer .entry))
         (now (buffer .exit)) r ⌝ }
@@ -90,10 +90,10 @@ fn draw_box(
     let width = size.width as usize;
     let height = size.height as usize;
     if 256 < width {
-        return Drawing::TooLarge(rectangle);
+        return DrawResult::TooLarge(rectangle);
     }
     if 256 < height {
-        return Drawing::TooLarge(rectangle);
+        return DrawResult::TooLarge(rectangle);
     }
     let n = width * height;
     let answer = draw_at_corner(
@@ -106,8 +106,8 @@ fn draw_box(
         &mut buffer[..n],
     );
     match answer {
-        DimensionsResult::Err(error) => Drawing::Refused(error),
-        DimensionsResult::Ok(dimensions) => Drawing::Drawn(dimensions, size),
+        DimensionsResult::Err(error) => DrawResult::Refused(error),
+        DimensionsResult::Ok(dimensions) => DrawResult::Drawn(dimensions, size),
     }
 }
 
@@ -118,7 +118,7 @@ fn draw_measured(
     line_height: u32,
     color: FontColor,
     buffer: &mut [u8],
-) -> Drawing
+) -> DrawResult
     requires { ⌜ («line_height» ≤ 128) × (length (now buffer) ≡ 65536) ⌝ }
     ensures { λ r. ⌜ IsDrawing (now (font .entry)) (now (text .entry)) «line_height» color (now (buffer .entry))
         (now (buffer .exit)) r ⌝ }
@@ -130,11 +130,11 @@ fn draw_measured(
         ignore_unknown_chars: false,
     };
     match get_rendered_dimensions(font, text, placement) {
-        DimensionsResult::Err(error) => Drawing::Refused(error),
+        DimensionsResult::Err(error) => DrawResult::Refused(error),
         DimensionsResult::Ok(dimensions) => {
             let bounding_box = dimensions.bounding_box;
             match bounding_box {
-                BoundingBox::None => Drawing::Blank(dimensions),
+                BoundingBox::None => DrawResult::Blank(dimensions),
                 BoundingBox::Some(rectangle) => {
                     draw_box(font, text, line_height, rectangle, color, buffer)
                 }
@@ -144,13 +144,13 @@ fn draw_measured(
 }
 
 // Draws the text with the font's default line height, into the beginning of a buffer for the largest framebuffer.
-pub fn draw_text(font: &[u8], text: &[u8], color: FontColor, buffer: &mut [u8]) -> Drawing
+pub fn draw_whole(font: &[u8], text: &[u8], color: FontColor, buffer: &mut [u8]) -> DrawResult
     requires { ⌜ length (now buffer) ≡ 65536 ⌝ }
     ensures { λ r. ⌜ IsDrawing (now (font .entry)) (now (text .entry)) (header (now (font .entry)) .«line_height») color
         (now (buffer .entry)) (now (buffer .exit)) r ⌝ }
 {
     match new_from_raw_data(font) {
-        FontReaderResult::Err(error) => Drawing::Refused(error),
+        FontReaderResult::Err(error) => DrawResult::Refused(error),
         FontReaderResult::Ok(head) => draw_measured(font, text, head.line_height, color, buffer),
     }
 }

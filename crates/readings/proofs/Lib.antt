@@ -1,4 +1,4 @@
-pub mod TextLaws
+pub mod ReadingLaws
 pub mod GroundLaws
 pub mod NarrowLaws
 pub mod AloneLaws

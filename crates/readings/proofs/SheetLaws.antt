@@ -16,7 +16,7 @@ use Rattle.angles.specs.AngleText.{degreesThen, angleText}
 use Rattle.redraw.specs.Drawing.{drawn, after, groundOf}
 use Rattle.buffers.specs.Differences.{differences}
 use Rattle.redraw.specs.Redraw.{wholeOr, readingOn, redrawCauses, redrawn, redrawnBuffer, taken}
-use Rattle.redraw.specs.Steps.{Setting, settingOf, Reading, readingOf, asked, on, Screen as StepScreen, alone, showing, ClearFor}
+use Rattle.redraw.specs.Steps.{Setting, settingOf, Reading, readingOf, inSetting, groundIn, Screen, alone, showing, ClearFor}
 use Rattle.redraw.proofs.RedrawLaws.{drawn-measured, causesOf, drawn-early, drawn-late}
 use Rattle.buffers.proofs.DifferenceLaws.{none-if-same}
 use Rattle.redraw.proofs.StepsLaws.{Sized, bare-sized, answers-alone, sized-next, length-left, Shown, bare-shown, nothing-shown, step-shows}
@@ -26,7 +26,7 @@ use Rattle.readings.specs.declared.values.Totals.{Totals}
 use Rattle.readings.specs.Readings.{readingText, reading}
 use Rattle.readings.specs.Ground.{ClearTo}
 use Rattle.readings.proofs.NarrowLaws.{faultless}
-use Rattle.readings.specs.Sheet.{toFill, stepBuffer, Screen, screenOf, answerOn, screenAfter, wanted, differing, screenAt, Finds, refusedOne, drawnOne, tallied, Few, totalsTo, refusedTo, Sound}
+use Rattle.readings.specs.Sheet.{toFill, stepBuffer, SheetState, screenOf, answerOn, screenAfter, wanted, differing, screenAt, Finds, refusedOne, drawnOne, tallied, Few, totalsTo, refusedTo, Sound}
 
 pub at-most : (n : ℕ) → pick (eqb n 0) 0 1 ≤ 1
 at-most n = by (eqb n 0)
@@ -71,11 +71,11 @@ module _ (narrow : Bool) (font : List ℕ) (place : Place) (ground : List ℕ) w
   -- ---- what is known of a screen, with the fault or without
 
   -- The reading that it is to show is `old`; where there is none, that is the text without letters.
-  record Known (s : Screen) : Type 0 where
+  record Known (s : SheetState) : Type 0 where
     old : Reading
     text-is : old .text ≡ readingText (s .old)
     sized : Sized setting ground record { old = old; bytes = s .bytes }
-    shows : readingOn font (asked setting old) (on setting ground) ≡ wanted font place ground (s .old)
+    shows : readingOn font (inSetting setting old) (groundIn setting ground) ≡ wanted font place ground (s .old)
 
   unfoldable start-known : Known (screenOf 901 ground)
   start-known = record {
@@ -85,7 +85,7 @@ module _ (narrow : Bool) (font : List ℕ) (place : Place) (ground : List ℕ) w
     shows = nothing-shown setting ground (Transparent 0) ∙ sym (nothing-shown setting ground (place .color));
   }
 
-  module _ {s : Screen} (known : Known s) (k : ℕ) where
+  module _ {s : SheetState} (known : Known s) (k : ℕ) where
     -- Whatever it is drawn over, a reading is answered as alone on the ground.
     as-alone : answerOn font place s k ≡ drawn font (reading place k) (groundOf place ground)
     as-alone =
@@ -116,7 +116,7 @@ module _ (narrow : Bool) (font : List ℕ) (place : Place) (ground : List ℕ) w
         texts true = refl
         texts false = known .text-is
 
-        shown : (b : Bool) → readingOn font (asked setting (pick b (inColor k) (known .old))) (on setting ground) ≡ wanted font place ground (pick b k (s .old))
+        shown : (b : Bool) → readingOn font (inSetting setting (pick b (inColor k) (known .old))) (groundIn setting ground) ≡ wanted font place ground (pick b k (s .old))
         shown true = refl
         shown false = known .shows
 
@@ -127,7 +127,7 @@ module _ (narrow : Bool) (font : List ℕ) (place : Place) (ground : List ℕ) w
           ap (λ (b : Bool). stepBuffer b font (readingText (s .old)) (reading place k) (place .background) (groundOf place (s .bytes))) honest
           ∙ faultless font (readingText (s .old)) (reading place k) (place .background) (groundOf place (s .bytes))
           ∙ ap (λ (t : List ℕ). redrawnBuffer font t (reading place k) (place .background) (groundOf place (s .bytes))) (sym (known .text-is))
-          ∙ ap (λ (s : StepScreen). s .bytes) (step-shows setting ground (known .sized) h (inColor k))
+          ∙ ap (λ (s : Screen). s .bytes) (step-shows setting ground (known .sized) h (inColor k))
 
       next-shown : Shown setting ground record { old = pick is-taken (inColor k) (known .old); bytes = screenAfter narrow font place s k .bytes }
       next-shown = by is-taken next-bytes-are
@@ -139,7 +139,7 @@ module _ (narrow : Bool) (font : List ℕ) (place : Place) (ground : List ℕ) w
 
   -- ---- all readings
 
-  abbrev before : ℕ → Screen
+  abbrev before : ℕ → SheetState
   before k = screenAt narrow font place ground k
 
   unfoldable all-known : (k : ℕ) → Known (before k)
@@ -273,7 +273,7 @@ module _ (narrow : Bool) (font : List ℕ) (place : Place) (ground : List ℕ) w
     unfolding screenAt
     after-is =
         let suc-is : suc k ≡ k + 1 = omega arith in
-        ap (λ (s : Screen). screenAfter narrow font place s k) here ∙ ap before suc-is
+        ap (λ (s : SheetState). screenAfter narrow font place s k) here ∙ ap before suc-is
 
     pub next-screen : screenOf (found .old) exit ≡ before (k + 1)
     next-screen =
@@ -285,6 +285,6 @@ module _ (narrow : Bool) (font : List ℕ) (place : Place) (ground : List ℕ) w
         let suc-is : suc k ≡ k + 1 = omega arith in
         h
         ∙ ap (λ (t : Totals). tallied t (dimensionsOutcome (found .answer)) (found .differing)) e
-        ∙ ap (λ (o : Outcome RenderedDimensions). tallied (totals k) o (found .differing)) (finds .answer ∙ ap (λ (s : Screen). answerOn font place s k) here)
-        ∙ ap (tallied (totals k) (answerOn font place (before k) k)) (finds .differing ∙ ap (λ (s : Screen). differing font place ground s k) (after-is ∙ ap before (sym suc-is)))
+        ∙ ap (λ (o : Outcome RenderedDimensions). tallied (totals k) o (found .differing)) (finds .answer ∙ ap (λ (s : SheetState). answerOn font place s k) here)
+        ∙ ap (tallied (totals k) (answerOn font place (before k) k)) (finds .differing ∙ ap (λ (s : SheetState). differing font place ground s k) (after-is ∙ ap before (sym suc-is)))
         ∙ ap totals suc-is

@@ -43,18 +43,18 @@ stepBuffer narrow font old new color p =
 -- ---- one reading after the other
 
 -- what the screen holds, and the number of the reading that the next step is to clear: 901, which has no text, where there is none
-pub record Screen : Type 0 where
+pub record SheetState : Type 0 where
   pub old : ℕ
   pub bytes : List ℕ
 
-abbrev pub screenOf : ℕ → List ℕ → Screen
+abbrev pub screenOf : ℕ → List ℕ → SheetState
 screenOf old bytes = record { old = old; bytes = bytes }
 
 -- reading k over what the screen holds
-abbrev pub answerOn : List ℕ → Place → Screen → ℕ → Outcome RenderedDimensions
+abbrev pub answerOn : List ℕ → Place → SheetState → ℕ → Outcome RenderedDimensions
 answerOn font place s k = redrawn font (readingText (s .old)) (reading place k) (groundOf place (s .bytes))
 
-abbrev pub screenAfter : Bool → List ℕ → Place → Screen → ℕ → Screen
+abbrev pub screenAfter : Bool → List ℕ → Place → SheetState → ℕ → SheetState
 screenAfter narrow font place s k = record {
   old = pick (taken (answerOn font place s k)) k (s .old);
   bytes = stepBuffer narrow font (readingText (s .old)) (reading place k) (place .background) (groundOf place (s .bytes));
@@ -65,16 +65,16 @@ abbrev pub wanted : List ℕ → Place → List ℕ → ℕ → List ℕ
 wanted font place ground k = readingOn font (reading place k) (groundOf place ground)
 
 -- the pixels in which it differs from that
-abbrev pub differing : List ℕ → Place → List ℕ → Screen → ℕ → ℕ
+abbrev pub differing : List ℕ → Place → List ℕ → SheetState → ℕ → ℕ
 differing font place ground s k = differences (s .bytes) (wanted font place ground k)
 
 -- the screen before reading k
-unfoldable pub screenAt : Bool → List ℕ → Place → List ℕ → ℕ → Screen
+unfoldable pub screenAt : Bool → List ℕ → Place → List ℕ → ℕ → SheetState
 screenAt narrow font place ground zero = record { old = 901; bytes = ground }
 screenAt narrow font place ground (suc k) = screenAfter narrow font place (screenAt narrow font place ground k) k
 
 -- What is found of a step: its answer, the reading to clear next, and how many pixels differ.
-pub record Finds (narrow : Bool) (font : List ℕ) (place : Place) (ground : List ℕ) (s : Screen) (k : ℕ) (found : Found) (exit : List ℕ) : Type 0 where
+pub record Finds (narrow : Bool) (font : List ℕ) (place : Place) (ground : List ℕ) (s : SheetState) (k : ℕ) (found : Found) (exit : List ℕ) : Type 0 where
   pub answer : dimensionsOutcome (found .answer) ≡ answerOn font place s k
   pub old : found .old ≡ screenAfter narrow font place s k .old
   pub bytes : exit ≡ screenAfter narrow font place s k .bytes

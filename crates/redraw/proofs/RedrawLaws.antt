@@ -14,7 +14,7 @@ use Rattle.definitions.specs.Framebuffer.{over, shown, sideOff}
 use Rattle.definitions.specs.Text.{joinAll, point, dimensions}
 use Rattle.definitions.specs.TextSteps.{measureFrom, drawFrom, start}
 use Rattle.definitions.specs.Limits.{textCause, positionCause, backgroundCause}
-use Rattle.definitions.specs.Calls.{characters, origin, drawCauses, drawnText, draw, drawBuffer}
+use Rattle.definitions.specs.Calls.{codePointsOf, origin, drawCauses, drawnText, draw, drawBuffer}
 use Rattle.definitions.specs.Agreement.{Ground, on, limits, WithinLimits, pixel, KeptOutside, width, height}
 use Rattle.redraw.specs.Drawing.{Drawing, asks, withText, drawn, after, measured}
 use Rattle.definitions.proofs.FramebufferLaws.{length-shown, shown-at, same-pixels}
@@ -175,7 +175,7 @@ module _ (font : List ℕ) (r : Drawing) (p : Ground) where
   drawn-late e =
       let l = drawnText (u8g2 font) (asks r) in
       ap taken (none-applies (dimensions l) causesOf e)
-      ∙ late-taken (dimensions l) (late-drawn font false (r .lineHeight) (origin (u8g2 font) (asks r)) (point (pos 0) (pos 0)) (joinAll (l .glyphs)) (characters (r .text)))
+      ∙ late-taken (dimensions l) (late-drawn font false (r .lineHeight) (origin (u8g2 font) (asks r)) (point (pos 0) (pos 0)) (joinAll (l .glyphs)) (codePointsOf (r .text)))
 
   module _ (old : List ℕ) (fine : textCause old .applies ≡ false) where
     -- The old text being one that can be drawn, the step is refused as the drawing is ..
@@ -194,16 +194,16 @@ module _ (font : List ℕ) (r : Drawing) (p : Ground) where
     abbrev at : Point
     at = origin (u8g2 font) (asks r)
 
-    pub answer-by-letters : measureFrom (drawnAnswer (u8g2 font) false) (r .lineHeight) at start (characters (r .text)) ≡ drawn font r p
+    pub answer-by-letters : measureFrom (drawnAnswer (u8g2 font) false) (r .lineHeight) at start (codePointsOf (r .text)) ≡ drawn font r p
     unfolding draw
     answer-by-letters =
-        measure-from (drawnAnswer (u8g2 font) false) (r .lineHeight) at (characters (r .text)) start
+        measure-from (drawnAnswer (u8g2 font) false) (r .lineHeight) at (codePointsOf (r .text)) start
         ∙ sym (none-applies (dimensions (drawnText (u8g2 font) (asks r))) causesOf unrefused)
 
-    pub bytes-by-letters : drawFrom (width p) (r .color) (pixelsOf (u8g2 font)) (drawnAnswer (u8g2 font) false) (r .lineHeight) at start (p .before) (characters (r .text)) ≡ after font r p
+    pub bytes-by-letters : drawFrom (width p) (r .color) (pixelsOf (u8g2 font)) (drawnAnswer (u8g2 font) false) (r .lineHeight) at start (p .before) (codePointsOf (r .text)) ≡ after font r p
     unfolding drawBuffer
     bytes-by-letters =
-        draw-from (width p) (r .color) (pixelsOf (u8g2 font)) (drawnAnswer (u8g2 font) false) (r .lineHeight) at (characters (r .text)) start (p .before)
+        draw-from (width p) (r .color) (pixelsOf (u8g2 font)) (drawnAnswer (u8g2 font) false) (r .lineHeight) at (codePointsOf (r .text)) start (p .before)
         ∙ rw unrefused
 
 -- ---- the step, as the code goes
@@ -244,11 +244,11 @@ module _ (font old : List ℕ) (new : Drawing) (background : ℕ) (p : Ground) w
         all-off (causesOf font new bare) (off .0, (off .1 .0, (size, off .1 .1 .1 .1)))
 
     abbrev letters : List ℕ → Outcome RenderedDimensions
-    letters text = measureFrom (drawnAnswer (u8g2 font) false) (new .lineHeight) (originOf font text new) start (characters text)
+    letters text = measureFrom (drawnAnswer (u8g2 font) false) (new .lineHeight) (originOf font text new) start (codePointsOf text)
 
     abbrev lettersOn : List ℕ → List ℕ
     lettersOn bytes = drawFrom (width p) (new .color) (pixelsOf (u8g2 font)) (drawnAnswer (u8g2 font) false) (new .lineHeight)
-        (originOf font (new .text) new) start bytes (characters (new .text))
+        (originOf font (new .text) new) start bytes (codePointsOf (new .text))
 
     pub answers : {answer : Outcome RenderedDimensions} → answer ≡ letters (new .text) → answer ≡ redrawn font old new p
     unfolding redrawn

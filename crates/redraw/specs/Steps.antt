@@ -8,8 +8,7 @@ use Rattle.definitions.specs.Vocabulary.{Framebuffer, Point, RenderedDimensions
 use Rattle.definitions.specs.Refusals.{Outcome, success}
 use Rattle.definitions.specs.Font.{u8g2}
 use Rattle.definitions.specs.Limits.{backgroundOff}
-use Rattle.definitions.specs.Agreement.{Ground}
-use Rattle.definitions.specs.Agreement as agreement
+use Rattle.definitions.specs.Agreement.{Ground, on}
 use Rattle.redraw.specs.Drawing.{Drawing, drawn}
 use Rattle.redraw.specs.declared.place.Place.{Place}
 use Rattle.redraw.specs.Redraw.{readingOn, AllOf, redrawn, redrawnBuffer, taken}
@@ -41,11 +40,11 @@ pub record Reading : Type 0 where
 abbrev pub readingOf : List ℕ → FontColor → Reading
 readingOf text color = record { text = text; color = color }
 
-abbrev pub asked : Setting → Reading → Drawing
-asked f r = record { text = r .text; position = f .position; anchor = f .anchor; color = r .color; lineHeight = f .lineHeight }
+abbrev pub inSetting : Setting → Reading → Drawing
+inSetting f r = record { text = r .text; position = f .position; anchor = f .anchor; color = r .color; lineHeight = f .lineHeight }
 
-abbrev pub on : Setting → List ℕ → Ground
-on f bytes = agreement.on (f .framebuffer) bytes
+abbrev pub groundIn : Setting → List ℕ → Ground
+groundIn f bytes = on (f .framebuffer) bytes
 
 -- The screen, and the reading that the next step is to clear.
 pub record Screen : Type 0 where
@@ -58,28 +57,28 @@ bare ground = record { old = record { text = []; color = Transparent 0 }; bytes 
 
 -- What a step answers, and the screen after it. The next step is to clear the new reading if this one was taken.
 abbrev pub stepAnswer : Setting → Screen → Reading → Outcome RenderedDimensions
-stepAnswer f s new = redrawn (f .font) (s .old .text) (asked f new) (on f (s .bytes))
+stepAnswer f s new = redrawn (f .font) (s .old .text) (inSetting f new) (groundIn f (s .bytes))
 
-abbrev pub step : Setting → Screen → Reading → Screen
-step f s new = record {
+abbrev pub stepOn : Setting → Screen → Reading → Screen
+stepOn f s new = record {
   old = pick (taken (stepAnswer f s new)) new (s .old);
-  bytes = redrawnBuffer (f .font) (s .old .text) (asked f new) (f .background) (on f (s .bytes));
+  bytes = redrawnBuffer (f .font) (s .old .text) (inSetting f new) (f .background) (groundIn f (s .bytes));
 }
 
 -- the screen after a list of steps, and what each of them answered
-unfoldable pub steps : Setting → Screen → List Reading → Screen
-steps f s [] = s
-steps f s (r ∷ rs) = steps f (step f s r) rs
+unfoldable pub stepsOn : Setting → Screen → List Reading → Screen
+stepsOn f s [] = s
+stepsOn f s (r ∷ rs) = stepsOn f (stepOn f s r) rs
 
 unfoldable pub answers : Setting → Screen → List Reading → List (Outcome RenderedDimensions)
 answers f s [] = []
-answers f s (r ∷ rs) = stepAnswer f s r ∷ answers f (step f s r) rs
+answers f s (r ∷ rs) = stepAnswer f s r ∷ answers f (stepOn f s r) rs
 
 -- ---- what the screen is to show
 
 -- what a reading drawn alone on the ground answers
 abbrev pub alone : Setting → List ℕ → Reading → Outcome RenderedDimensions
-alone f ground r = drawn (f .font) (asked f r) (on f ground)
+alone f ground r = drawn (f .font) (inSetting f r) (groundIn f ground)
 
 -- the last reading that none of the causes 1 to 6 refuses, or `old` where there is none
 unfoldable pub lastTaken : Setting → List ℕ → Reading → List Reading → Reading
@@ -88,11 +87,11 @@ lastTaken f ground old (r ∷ rs) = lastTaken f ground (pick (taken (alone f gro
 
 -- The screen shows a reading on the ground, whole or not at all.
 abbrev pub showing : Setting → List ℕ → Reading → Screen
-showing f ground r = record { old = r; bytes = readingOn (f .font) (asked f r) (on f ground) }
+showing f ground r = record { old = r; bytes = readingOn (f .font) (inSetting f r) (groundIn f ground) }
 
 -- Where a reading stands, the ground is background ..
 abbrev pub ClearFor : Setting → List ℕ → Reading → Type 0
-ClearFor f ground r = (d : RenderedDimensions) → alone f ground r ≡ success d → AllOf (f .background) (on f ground) (d .«bounding_box»)
+ClearFor f ground r = (d : RenderedDimensions) → alone f ground r ≡ success d → AllOf (f .background) (groundIn f ground) (d .«bounding_box»)
 
 -- .. and so it is for each of them.
 abbrev pub ClearForAll : Setting → List ℕ → List Reading → Type 0
@@ -104,5 +103,5 @@ ClearForAll f ground (r ∷ rs) = ClearFor f ground r × ClearForAll f ground rs
 abbrev pub LeavesReading : Setting → List ℕ → Reading → List ℕ → Outcome RenderedDimensions → List ℕ → Type 0
 LeavesReading f old new entry answer exit =
     (ground : List ℕ) (color : FontColor) → backgroundOff color (u8g2 (f .font) .background) ≡ false → ClearFor f ground (readingOf old color)
-    → entry ≡ readingOn (f .font) (asked f (readingOf old color)) (on f ground)
-    → exit ≡ pick (taken answer) (readingOn (f .font) (asked f new) (on f ground)) entry
+    → entry ≡ readingOn (f .font) (inSetting f (readingOf old color)) (groundIn f ground)
+    → exit ≡ pick (taken answer) (readingOn (f .font) (inSetting f new) (groundIn f ground)) entry

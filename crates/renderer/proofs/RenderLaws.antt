@@ -13,7 +13,7 @@ use Rattle.definitions.specs.Font.{u8g2, withRuns, drawable, drawnAnswer, pixel
 use Rattle.definitions.specs.Picture.{textPicture}
 use Rattle.definitions.specs.Framebuffer.{shown, framebufferCause}
 use Rattle.definitions.specs.Limits.{textCause, positionCause, backgroundCause}
-use Rattle.definitions.specs.Calls.{openFont, Request, characters, origin, drawnText, drawCauses, draw, drawBuffer}
+use Rattle.definitions.specs.Calls.{openFont, Request, codePointsOf, origin, drawnText, drawCauses, draw, drawBuffer}
 use Rattle.definitions.proofs.OpenedLaws.{passes-font}
 use Rattle.definitions.proofs.ComesLaws.{Comes, comes-none, comes-off, comes-on, comes-passed, comes-stopped}
 use Rattle.definitions.proofs.RefusalLaws.{succeeded}
@@ -181,13 +181,13 @@ module _ (font : List ℕ) (r : Request) (color : FontColor) (p : Framebuffer) (
 
         pub drawn-whole : colorCause .applies ≡ false
             → Defined
-            (measureFrom (drawnAnswer (u8g2 font) (r .skip)) (r .lineHeight) o start (characters (r .text)))
-            (drawFrom (p .width) color (pixelsOf (u8g2 font)) (drawnAnswer (u8g2 font) (r .skip)) (r .lineHeight) o start buffer (characters (r .text)))
+            (measureFrom (drawnAnswer (u8g2 font) (r .skip)) (r .lineHeight) o start (codePointsOf (r .text)))
+            (drawFrom (p .width) color (pixelsOf (u8g2 font)) (drawnAnswer (u8g2 font) (r .skip)) (r .lineHeight) o start buffer (codePointsOf (r .text)))
         drawn-whole e =
             let place = origin (u8g2 font) r in
             let same : place ≡ o = origin-is font opens r passes in
             let answers = drawnAnswer (u8g2 font) (r .skip) in
-            let cs = characters (r .text) in
+            let cs = codePointsOf (r .text) in
             let whole = after-position (comes-off colorCause e comes-none) in (
               ap (λ (q : Point). measureFrom answers (r .lineHeight) q start cs) (sym same)
                   ∙ measure-from answers (r .lineHeight) place cs start

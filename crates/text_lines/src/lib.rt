@@ -4,7 +4,7 @@ ghost use Prim.Native.Nat.{_≤_};
 ghost use Rattle.definitions.specs.Header.{Opened};
 ghost use Rattle.definitions.specs.TextSteps.{start, movedBox, withLine, nextLine, lineStep, linesDimensions, measureLines};
 ghost use Rattle.definitions.specs.Font.{u8g2, measuredAnswer};
-ghost use Rattle.definitions.specs.Calls.{characters, dimensionsOutcome};
+ghost use Rattle.definitions.specs.Calls.{codePointsOf, dimensionsOutcome};
 ghost use Rattle.text_lines.specs.Lines.{asState, stateOutcome};
 ghost use Rattle.checks.specs.Origins.{Checked};
 ghost use Rattle.layout.specs.Ranges.{Near, LineInReach, LineHasRoom};
@@ -158,7 +158,7 @@ pub fn measure_lines(
     requires { ⌜ Opened (now font) head × Checked (now text) (pen .origin) (pen .«line_height») ⌝ }
     ensures { λ r. ⌜ dimensionsOutcome r ≡ measureLines (measuredAnswer (u8g2 (now (font .entry)))
         (pen .«ignore_unknown_chars»)) «horizontal_align» (pen .«line_height») (pen .origin)
-        (characters (now (text .entry))) ⌝ }
+        (codePointsOf (now (text .entry))) ⌝ }
 {
     let mut state = LineState {
         line: empty_line(),

@@ -1,11 +1,11 @@
 // What 01 returns with a refusal: a number and a code point.
 ghost use mathlib.Core.Path.{_≡_};
-ghost use Rattle.definitions.specs.Refusals.{number, codePoint};
+ghost use Rattle.definitions.specs.Refusals.{errorNumber, codePoint};
 use types::error::Error;
 
 // 01's number of a refusal.
 pub fn error_number(e: Error) -> u32
-    ensures { λ r. ⌜ r ≡ number e ⌝ }
+    ensures { λ r. ⌜ r ≡ errorNumber e ⌝ }
 {
     match e {
         Error::FontLength => 1,

@@ -1,6 +1,6 @@
 -- A font of more than 65,536 bytes, one that does not open, or what measuring answers.
 use Rattle.integers.proofs.Prelude.{sym, ap, _∙_, arith, needs}
-use Rattle.definitions.specs.Refusals.{number, codePoint}
+use Rattle.definitions.specs.Refusals.{errorNumber, codePoint}
 use Rattle.definitions.specs.Calls.{fontReaderOutcome}
 use Rattle.measure_line.proofs.LineLaws.{font-too-long, font-refused, font-opens}
 use Rattle.measure_line.proofs.measured.Statement.{statement}
@@ -14,7 +14,7 @@ returns-2 c =
     let a = c .before .before .before .before .before .before .before .args in
     let e = c .before .error .given .0 .0 in
     sym
-    (font-refused (a .font .now) (a .text .now) (omega arith) (number e) (codePoint e)
+    (font-refused (a .font .now) (a .text .now) (omega arith) (errorNumber e) (codePoint e)
     (sym (c .before .before .before .new-from-raw-data .ensures) ∙ ap fontReaderOutcome (c .before .error .given .1)))
 
 returns-3 : tie.Need-returns-3

@@ -5,7 +5,7 @@ use Rattle.draw_program.proofs.program.draw_input.Statement.{statement}
 use Rattle.draw_program.proofs.program.draw_input.Tie as tie
 
 show-requires : tie.Need-show-requires
-show-requires c κs = (showable _ _ _ _ _ _ (c .before .before .draw-text .result) (c .before .before .draw-text .ensures), search needs)
+show-requires c κs = (showable _ _ _ _ _ _ (c .before .before .draw-whole .result) (c .before .before .draw-whole .ensures), search needs)
 
 pub draw-input-spec : {M : Type 1} → statement M
 draw-input-spec =

@@ -6,7 +6,7 @@ use Rattle.integers.specs.Integers.{pick}
 use Rattle.definitions.specs.Vocabulary.{Error}
 use Rattle.types.specs.declared.error.Error.the-variants.{FontLength, FontHeader, FramebufferSize, TextEncoding, PositionOrLineHeight, BackgroundColorNotSupported, GlyphNotFound, FontEnds}
 use Rattle.types.proofs.error.Error.{the-type}
-use Rattle.definitions.specs.Refusals.{number, codePoint, refusal}
+use Rattle.definitions.specs.Refusals.{errorNumber, codePoint, refusal}
 use Rattle.definitions.specs.Text.{Answer, nothing, stops, answer}
 use Rattle.layout.proofs.render_actions.skip_unknown.Statement.{statement}
 use Rattle.layout.proofs.render_actions.skip_unknown.Tie as tie
@@ -25,7 +25,7 @@ stays true l = refl
 stays false l = refl
 
 -- any error but the seventh variant, whose tag is 6
-others-stop : (skip : Bool) (e : Error) → OneOf (0 ∷ 1 ∷ 2 ∷ 3 ∷ 4 ∷ 5 ∷ 7 ∷ []) (tagOf the-type e) → stops (number e) (codePoint e) ≡ answer skip (refusal e)
+others-stop : (skip : Bool) (e : Error) → OneOf (0 ∷ 1 ∷ 2 ∷ 3 ∷ 4 ∷ 5 ∷ 7 ∷ []) (tagOf the-type e) → stops (errorNumber e) (codePoint e) ≡ answer skip (refusal e)
 others-stop skip FontLength k = stays skip (stops 1 0)
 others-stop skip FontHeader k = stays skip (stops 2 0)
 others-stop skip FramebufferSize k = stays skip (stops 3 0)

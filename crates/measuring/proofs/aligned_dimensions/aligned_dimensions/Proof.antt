@@ -1,7 +1,7 @@
 -- A font that opens and a text with its place within the limits leave measuring; else the call is refused as they are.
 use Rattle.integers.proofs.Prelude.{_≡_, sym, ap, _∙_, w8, SFits, toZ-ofZ, needs}
 use Rattle.definitions.specs.Vocabulary.{FontReader}
-use Rattle.definitions.specs.Refusals.{success, number, codePoint}
+use Rattle.definitions.specs.Refusals.{success, errorNumber, codePoint}
 use Rattle.definitions.specs.Calls.{openFont, Request, request, fontReaderOutcome}
 use Rattle.definitions.proofs.OpenedLaws.{opened, open-refused}
 use Rattle.checks.specs.Origins.{originOutcome}
@@ -51,7 +51,7 @@ unfolding alignedDimensions
 returns c =
     let e = c .before .error .given .0 .0 in
     sym
-    (open-refused _ _ (number e) (codePoint e)
+    (open-refused _ _ (errorNumber e) (codePoint e)
     (sym (c .before .before .before .new-from-raw-data .ensures) ∙ ap fontReaderOutcome (c .before .error .given .1)))
 
 returns-2 : tie.Need-returns-2

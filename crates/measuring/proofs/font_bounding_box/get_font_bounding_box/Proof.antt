@@ -1,7 +1,7 @@
 -- A font that opens has a box that is not negative; one that does not open is refused as opening is.
 use Rattle.integers.proofs.Prelude.{_≡_, sym, _∙_, ap, needs}
 use Rattle.definitions.specs.Vocabulary.{FontReader}
-use Rattle.definitions.specs.Refusals.{success, number, codePoint}
+use Rattle.definitions.specs.Refusals.{success, errorNumber, codePoint}
 use Rattle.definitions.specs.Header.{Opened}
 use Rattle.definitions.specs.Calls.{openFont, fontBoundingBox, fontBox, fontReaderOutcome}
 use Rattle.definitions.proofs.OpenedLaws.{opened, open-refused, open-goes-on}
@@ -27,7 +27,7 @@ unfolding fontBoundingBox
 returns c =
     let e = c .before .error .given .0 .0 in
     sym
-    (open-refused _ _ (number e) (codePoint e)
+    (open-refused _ _ (errorNumber e) (codePoint e)
     (sym (c .before .before .before .new-from-raw-data .ensures) ∙ ap fontReaderOutcome (c .before .error .given .1)))
 
 returns-2 : tie.Need-returns-2

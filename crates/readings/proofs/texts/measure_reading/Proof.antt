@@ -2,7 +2,7 @@
 use Rattle.integers.proofs.Prelude.{ap, _∙_, false, List, ℕ, needs}
 use Rattle.definitions.specs.Font.{u8g2}
 use Rattle.definitions.specs.Calls.{plain, measure}
-use Rattle.readings.proofs.TextLaws.{to-the-end}
+use Rattle.readings.proofs.ReadingLaws.{to-the-end}
 use Rattle.readings.proofs.texts.measure_reading.Statement.{statement}
 use Rattle.readings.proofs.texts.measure_reading.Tie as tie
 

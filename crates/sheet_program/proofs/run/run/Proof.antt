@@ -1,6 +1,6 @@
 -- The screen and the totals are those of the first k readings, and SheetLaws has what holds of all.
 use Rattle.integers.proofs.Prelude.{_≡_, refl, sym, ap, subst, _∙_, _*_, _-_, _≤_, _<_, arith, length, length-take-le, needs}
-use Rattle.readings.specs.Sheet.{Screen, screenOf, screenAt, totalsTo, Sound}
+use Rattle.readings.specs.Sheet.{SheetState, screenOf, screenAt, totalsTo, Sound}
 use Rattle.sheet_program.proofs.FitLaws.{used-band, cell-size}
 use Rattle.readings.proofs.SheetLaws.{start-screen, start-totals, few, next-screen, next-totals, sound}
 use Rattle.sheet_program.proofs.run.run.Statement.{statement}
@@ -82,7 +82,7 @@ returns c =
     let t = e .1 ∙ ap (totalsTo (a .trial .narrow) (a .font .now) (a .trial .place) (a .ground .now)) all in (
       t,
       (
-        ap (λ (s : Screen). s .bytes) (e .0 ∙ ap (screenAt (a .trial .narrow) (a .font .now) (a .trial .place) (a .ground .now)) all),
+        ap (λ (s : SheetState). s .bytes) (e .0 ∙ ap (screenAt (a .trial .narrow) (a .font .now) (a .trial .place) (a .ground .now)) all),
         λ clear. subst (Sound (a .trial .narrow) (a .font .now) (a .trial .place) (a .ground .now)) (sym t) (sound (a .trial .narrow) (a .font .now) (a .trial .place) (a .ground .now) clear),
       ),
     )

@@ -1,11 +1,11 @@
--- `draw_text` meets its contract: a font that does not open is not measured, and its line height is at most 128. Assumes nothing.
+-- `draw_whole` meets its contract: a font that does not open is not measured, and its line height is at most 128. Assumes nothing.
 use Rattle.integers.proofs.Prelude.{refl, sym, ap, subst, _∙_, inl, ℕ, arith, needs}
 use Rattle.definitions.specs.Header.{header}
 use Rattle.definitions.specs.Calls.{fontReaderOutcome}
 use Rattle.pictures.proofs.DrawingLaws.{opening-refused, is-default, default-low}
 use Rattle.pictures.specs.Drawings.{IsDrawing}
-use Rattle.pictures.proofs.whole.draw_text.Statement.{statement}
-use Rattle.pictures.proofs.whole.draw_text.Tie as tie
+use Rattle.pictures.proofs.whole.draw_whole.Statement.{statement}
+use Rattle.pictures.proofs.whole.draw_whole.Tie as tie
 
 draw-measured-requires : tie.Need-draw-measured-requires
 draw-measured-requires c κs =
@@ -30,8 +30,8 @@ returns-2 c =
     (is-default (a .font .now) _ opens)
     (call .ensures)
 
-pub draw-text-spec : {M : Type 1} → statement M
-draw-text-spec =
+pub draw-whole-spec : {M : Type 1} → statement M
+draw-whole-spec =
     tie.close
     (tie.spec (λ c κs. search needs) (λ c. search needs) (λ c. search needs) draw-measured-requires returns (λ c. search needs)
     returns-2)
