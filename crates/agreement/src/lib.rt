@@ -8,7 +8,7 @@ use measuring::rendered_dimensions::get_rendered_dimensions;
 use renderer::render::render;
 use types::framebuffer::Framebuffer;
 use types::results::DimensionsResult;
-use types::style::FontColor;
+use types::style::FontStyle;
 use types::style::Placement;
 
 // What each of the four calls answered.
@@ -26,17 +26,18 @@ pub fn draw_twice_and_measure(
     second_font: &[u8],
     text: &[u8],
     placement: Placement,
-    color: FontColor,
+    style: FontStyle,
     first_framebuffer: Framebuffer,
     first_buffer: &mut [u8],
     second_framebuffer: Framebuffer,
     second_buffer: &mut [u8],
 ) -> Answers
     ensures called { λ r. ⌜ asResults r (now («first_buffer» .exit)) (now («second_buffer» .exit)) ≡ results
-        (u8g2 (now («first_font» .entry))) (u8g2 (now («second_font» .entry))) (plain (now (text .entry)) placement) color
+        (u8g2 (now («first_font» .entry))) (u8g2 (now («second_font» .entry)))
+        (plain (now (text .entry)) placement (style .«vertical_pos»)) (style .color)
         (on «first_framebuffer» (now («first_buffer» .entry))) (on «second_framebuffer» (now («second_buffer» .entry))) ⌝ }
     ensures agree { λ r. ⌜ ThirdDemand (now («first_font» .entry)) (now («second_font» .entry))
-        (plain (now (text .entry)) placement) (on «first_framebuffer» (now («first_buffer» .entry)))
+        (plain (now (text .entry)) placement (style .«vertical_pos»)) (on «first_framebuffer» (now («first_buffer» .entry)))
         (on «second_framebuffer» (now («second_buffer» .entry))) (asResults r (now («first_buffer» .exit))
         (now («second_buffer» .exit))) ⌝ }
 {
@@ -44,7 +45,7 @@ pub fn draw_twice_and_measure(
         first_font,
         text,
         placement,
-        color,
+        style,
         first_framebuffer,
         &mut first_buffer[..],
     );
@@ -52,12 +53,13 @@ pub fn draw_twice_and_measure(
         second_font,
         text,
         placement,
-        color,
+        style,
         second_framebuffer,
         &mut second_buffer[..],
     );
-    let first_measured = get_rendered_dimensions(first_font, text, placement);
-    let second_measured = get_rendered_dimensions(second_font, text, placement);
+    let vertical_pos = style.vertical_pos;
+    let first_measured = get_rendered_dimensions(first_font, text, placement, vertical_pos);
+    let second_measured = get_rendered_dimensions(second_font, text, placement, vertical_pos);
     Answers {
         first,
         second,

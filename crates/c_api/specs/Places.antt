@@ -5,14 +5,13 @@ use Rattle.definitions.specs.Vocabulary.{Framebuffer}
 use Rattle.definitions.specs.Text.{point}
 use Rattle.redraw.specs.declared.place.Place.{Place}
 use Rattle.c_values.specs.declared.codes.Meaning.{Meaning}
-use Rattle.c_values.specs.Replies.{inkOf}
+use Rattle.c_values.specs.Replies.{styleOf}
 
 abbrev pub placeBy : Meaning → ℤ → ℤ → ℕ → ℕ → ℕ → ℕ → Framebuffer → Place
 placeBy m x y lineHeight fg bg background framebuffer = record {
   position = point x y;
-  «vertical_pos» = m .«vertical_pos»;
+  style = styleOf m fg bg;
   «line_height» = lineHeight;
-  color = inkOf (m .background) fg bg;
   background = background;
   framebuffer = framebuffer;
 }

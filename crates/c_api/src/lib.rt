@@ -15,8 +15,8 @@ ghost use Rattle.c_values.specs.Replies.{Answers, inkOf, placedBy, drawnBy, box
 ghost use Rattle.c_values.specs.Headers.{Opens};
 ghost use Rattle.c_api.specs.Places.{placeBy};
 use c_values::codes::Codes;
-use c_values::codes::color_of;
 use c_values::codes::known_codes;
+use c_values::codes::style_of;
 use c_values::header::store_header;
 use c_values::reply::of_bounding_box;
 use c_values::reply::of_dimensions;
@@ -80,8 +80,8 @@ pub extern "C" fn papayahelm_measure(
     out: &mut [i64],
 ) -> u32
     ensures { λ r. ⌜ Answers (meaningOf anchor 0 skip 0 (length (now (out .entry))))
-        (λ m. textReply (measure (u8g2 (now (font .entry))) (plain (now (text .entry)) (placedBy m x y «line_height»)))) r
-        (now (out .entry)) (now (out .exit)) ⌝ }
+        (λ m. textReply (measure (u8g2 (now (font .entry))) (plain (now (text .entry)) (placedBy m x y «line_height»)
+        (m .«vertical_pos»)))) r (now (out .entry)) (now (out .exit)) ⌝ }
 {
     let Codes::Known(m) = known_codes(anchor, 0, skip, 0, out.len()) else {
         return BAD_ARGUMENT;
@@ -89,11 +89,10 @@ pub extern "C" fn papayahelm_measure(
     let vertical_pos = m.vertical_pos;
     let placement = Placement {
         position: Point { x, y },
-        vertical_pos,
         line_height,
         ignore_unknown_chars: m.skip,
     };
-    let result = get_rendered_dimensions(font, text, placement);
+    let result = get_rendered_dimensions(font, text, placement, vertical_pos);
     store(out, of_dimensions(result))
 }
 
@@ -112,7 +111,7 @@ pub extern "C" fn papayahelm_measure_aligned(
 ) -> u32
     ensures { λ r. ⌜ Answers (meaningOf anchor align skip 0 (length (now (out .entry))))
         (λ m. alignedReply (measureAligned (u8g2 (now (font .entry))) (request (now (text .entry))
-        (placedBy m x y «line_height») (m .«horizontal_align»)))) r (now (out .entry)) (now (out .exit)) ⌝ }
+        (placedBy m x y «line_height») (m .«vertical_pos») (m .«horizontal_align»)))) r (now (out .entry)) (now (out .exit)) ⌝ }
 {
     let Codes::Known(m) = known_codes(anchor, align, skip, 0, out.len()) else {
         return BAD_ARGUMENT;
@@ -121,11 +120,16 @@ pub extern "C" fn papayahelm_measure_aligned(
     let horizontal_align = m.horizontal_align;
     let placement = Placement {
         position: Point { x, y },
-        vertical_pos,
         line_height,
         ignore_unknown_chars: m.skip,
     };
-    let result = get_rendered_dimensions_aligned(font, text, placement, horizontal_align);
+    let result = get_rendered_dimensions_aligned(
+        font,
+        text,
+        placement,
+        vertical_pos,
+        horizontal_align,
+    );
     store(out, of_bounding_box(result))
 }
 
@@ -148,25 +152,24 @@ pub extern "C" fn papayahelm_draw(
     out: &mut [i64],
 ) -> u32
     ensures answered { λ r. ⌜ Answers (meaningOf anchor 0 skip background (length (now (out .entry))))
-        (λ m. textReply (draw (u8g2 (now (font .entry))) (plain (now (text .entry)) (placedBy m x y «line_height»))
-        (inkOf (m .background) fg bg) (sized width height) (now (buffer .entry)))) r (now (out .entry)) (now (out .exit)) ⌝ }
+        (λ m. textReply (draw (u8g2 (now (font .entry))) (plain (now (text .entry)) (placedBy m x y «line_height»)
+        (m .«vertical_pos»)) (inkOf (m .background) fg bg) (sized width height) (now (buffer .entry)))) r (now (out .entry))
+        (now (out .exit)) ⌝ }
     ensures shown { λ r. ⌜ now (buffer .exit) ≡ drawnBy (meaningOf anchor 0 skip background (length (now (out .entry))))
-        (λ m. drawBuffer (u8g2 (now (font .entry))) (plain (now (text .entry)) (placedBy m x y «line_height»))
-        (inkOf (m .background) fg bg) (sized width height) (now (buffer .entry))) (now (buffer .entry)) ⌝ }
+        (λ m. drawBuffer (u8g2 (now (font .entry))) (plain (now (text .entry)) (placedBy m x y «line_height»)
+        (m .«vertical_pos»)) (inkOf (m .background) fg bg) (sized width height) (now (buffer .entry))) (now (buffer .entry)) ⌝ }
 {
     let Codes::Known(m) = known_codes(anchor, 0, skip, background, out.len()) else {
         return BAD_ARGUMENT;
     };
-    let color = color_of(m, fg, bg);
-    let vertical_pos = m.vertical_pos;
+    let style = style_of(m, fg, bg);
     let placement = Placement {
         position: Point { x, y },
-        vertical_pos,
         line_height,
         ignore_unknown_chars: m.skip,
     };
     let framebuffer = Framebuffer { width, height };
-    let result = render(font, text, placement, color, framebuffer, buffer);
+    let result = render(font, text, placement, style, framebuffer, buffer);
     store(out, of_dimensions(result))
 }
 
@@ -203,13 +206,11 @@ pub extern "C" fn papayahelm_redraw(
     let Codes::Known(m) = known_codes(anchor, 0, 0, background, out.len()) else {
         return BAD_ARGUMENT;
     };
-    let color = color_of(m, fg, bg);
-    let vertical_pos = m.vertical_pos;
+    let style = style_of(m, fg, bg);
     let place = Place {
         position: Point { x, y },
-        vertical_pos,
+        style,
         line_height,
-        color,
         background: clear_color,
         framebuffer: Framebuffer { width, height },
     };

@@ -5,7 +5,7 @@ use mathlib.Core.Bool.{Bool, true, false}
 use Prim.Native.Nat.{ℕ, suc}
 use lib.IntN.{ℤ, pos}
 use lib.ListN.{set}
-use Rattle.definitions.specs.Vocabulary.{Error, BoundingBox, None, Some, Point, Rectangle, RenderedDimensions, FontColor, Transparent, WithBackground, Placement}
+use Rattle.definitions.specs.Vocabulary.{Error, BoundingBox, None, Some, Point, Rectangle, RenderedDimensions, FontColor, Transparent, WithBackground, FontStyle, Placement}
 use Rattle.definitions.specs.Refusals.{Outcome, success, refused, errorNumber, codePoint}
 use Rattle.definitions.specs.Text.{point}
 use Rattle.definitions.specs.Calls.{placed}
@@ -107,4 +107,7 @@ inkOf false fg bg = Transparent fg
 
 -- Where a text stands.
 abbrev pub placedBy : Meaning → ℤ → ℤ → ℕ → Placement
-placedBy m x y lineHeight = placed (point x y) (m .«vertical_pos») lineHeight (m .skip)
+placedBy m x y lineHeight = placed (point x y) lineHeight (m .skip)
+
+abbrev pub styleOf : Meaning → ℕ → ℕ → FontStyle
+styleOf m fg bg = record { color = inkOf (m .background) fg bg; «vertical_pos» = m .«vertical_pos» }

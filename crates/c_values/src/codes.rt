@@ -1,8 +1,9 @@
 // What the codes of a call mean: numbers from 0 in the order of an enum's variants.
 ghost use mathlib.Core.Path.{_≡_};
 ghost use Rattle.c_values.specs.Codes.{anchorOf, alignmentOf, flagOf, meaningOf};
-ghost use Rattle.c_values.specs.Replies.{inkOf};
+ghost use Rattle.c_values.specs.Replies.{styleOf};
 use types::style::FontColor;
+use types::style::FontStyle;
 use types::style::HorizontalAlignment;
 use types::style::VerticalPosition;
 
@@ -93,12 +94,19 @@ pub fn known_codes(anchor_code: u32, align: u32, skip: u32, background: u32, roo
     })
 }
 
-// The colour of a drawing: with a background colour or transparent.
-pub fn color_of(m: Meaning, fg: u8, bg: u8) -> FontColor
-    ensures { λ r. ⌜ r ≡ inkOf (m .background) fg bg ⌝ }
+// The style of a drawing: with a background colour or transparent.
+pub fn style_of(m: Meaning, fg: u8, bg: u8) -> FontStyle
+    ensures { λ r. ⌜ r ≡ styleOf m fg bg ⌝ }
 {
+    let vertical_pos = m.vertical_pos;
     if m.background {
-        return FontColor::WithBackground { fg, bg };
+        return FontStyle {
+            color: FontColor::WithBackground { fg, bg },
+            vertical_pos,
+        };
     }
-    FontColor::Transparent(fg)
+    FontStyle {
+        color: FontColor::Transparent(fg),
+        vertical_pos,
+    }
 }

@@ -19,6 +19,7 @@ use types::results::DimensionsResult;
 use types::results::FontReaderResult;
 use types::results::RectangleResult;
 use types::style::FontColor;
+use types::style::FontStyle;
 use types::style::HorizontalAlignment;
 use types::style::Placement;
 use types::style::VerticalPosition;
@@ -119,7 +120,7 @@ fn draw_or_redraw(
     font: &[u8],
     text: &[u8],
     placement: Placement,
-    color: FontColor,
+    style: FontStyle,
     buffer: &mut [u8],
 ) -> DimensionsResult
     requires { ⌜ at ≤ 1048576 ⌝ }
@@ -129,16 +130,14 @@ fn draw_or_redraw(
         height: number(file, at + 44) as usize,
     };
     if number(file, at) == 4 {
-        return render(font, text, placement, color, framebuffer, buffer);
+        return render(font, text, placement, style, framebuffer, buffer);
     }
     let old_len = least(number(file, at + 56) as usize, text.len());
     let position = placement.position;
-    let vertical_pos = placement.vertical_pos;
     let place = Place {
         position,
-        vertical_pos,
+        style,
         line_height: placement.line_height,
-        color,
         background: byte(file, at + 60),
         framebuffer,
     };
@@ -156,16 +155,19 @@ fn answer_draw(
 )
     requires { ⌜ at ≤ 1048576 ⌝ }
 {
-    let color = font_color(
-        number(file, at + 28),
-        byte(file, at + 32),
-        byte(file, at + 36),
-    );
+    let style = FontStyle {
+        color: font_color(
+            number(file, at + 28),
+            byte(file, at + 32),
+            byte(file, at + 36),
+        ),
+        vertical_pos: vertical_pos(number(file, at + 12)),
+    };
     let width = number(file, at + 40) as usize;
     let height = number(file, at + 44) as usize;
     let fill = byte(file, at + 48);
     framebuffers::fill(&mut buffer[..], fill);
-    let result = draw_or_redraw(file, at, font, text, placement, color, &mut buffer[..]);
+    let result = draw_or_redraw(file, at, font, text, placement, style, &mut buffer[..]);
     print_dimensions(result);
     framebuffers::print(&buffer[..], fill, width, height);
 }
@@ -201,15 +203,14 @@ pub fn answer(file: &[u8], at: usize, font: &[u8], text: &[u8], buffer: &mut [u8
             x: signed_number(file, at + 4),
             y: signed_number(file, at + 8),
         },
-        vertical_pos: anchor,
         line_height: number(file, at + 20),
         ignore_unknown_chars: number(file, at + 24) == 1,
     };
     match kind {
         0 => answer_open(font),
         1 => answer_font_box(font, anchor),
-        2 => print_dimensions(get_rendered_dimensions(font, text, placement)),
-        3 => print_aligned(get_rendered_dimensions_aligned(font, text, placement, align)),
+        2 => print_dimensions(get_rendered_dimensions(font, text, placement, anchor)),
+        3 => print_aligned(get_rendered_dimensions_aligned(font, text, placement, anchor, align)),
         _ => answer_draw_on_part(file, at, font, text, placement, buffer),
     }
 }

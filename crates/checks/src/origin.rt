@@ -11,6 +11,7 @@ use content::vertical_offset::compute_vertical_offset;
 use types::error::Error;
 use types::geometry::Point;
 use types::style::Placement;
+use types::style::VerticalPosition;
 
 // What a checked text is set with: where it begins, how far below a line the next one lies, and whether unknown characters are
 // skipped.
@@ -25,13 +26,18 @@ pub enum OriginResult {
     Err(Error),
 }
 
-pub fn text_origin(ascent: i8, descent: i8, text: &[u8], placement: Placement) -> Point
+pub fn text_origin(
+    ascent: i8,
+    descent: i8,
+    text: &[u8],
+    placement: Placement,
+    vertical_pos: VerticalPosition,
+) -> Point
     requires { ⌜ (textCause (now text) .applies ≡ false) × (positionCause (placement .position) (placement .«line_height»)
         .applies ≡ false) ⌝ }
-    ensures { λ r. ⌜ r ≡ originBy ascent descent (plain (now (text .entry)) placement) ⌝ }
+    ensures { λ r. ⌜ r ≡ originBy ascent descent (plain (now (text .entry)) placement «vertical_pos») ⌝ }
 {
     let position = placement.position;
-    let vertical_pos = placement.vertical_pos;
     let newline_count = get_newline_count(text);
     let offset = compute_vertical_offset(
         vertical_pos,
@@ -47,8 +53,14 @@ pub fn text_origin(ascent: i8, descent: i8, text: &[u8], placement: Placement) -
 }
 
 // The origin, or 01's cause 4 or 5, in this order.
-pub fn checked_origin(ascent: i8, descent: i8, text: &[u8], placement: Placement) -> OriginResult
-    ensures { λ r. ⌜ originOutcome r ≡ checkedOrigin ascent descent (plain (now (text .entry)) placement) ⌝ }
+pub fn checked_origin(
+    ascent: i8,
+    descent: i8,
+    text: &[u8],
+    placement: Placement,
+    vertical_pos: VerticalPosition,
+) -> OriginResult
+    ensures { λ r. ⌜ originOutcome r ≡ checkedOrigin ascent descent (plain (now (text .entry)) placement «vertical_pos») ⌝ }
 {
     let bad_text = has_bad_text(text);
     let bad_position = has_bad_position(placement);
@@ -58,5 +70,5 @@ pub fn checked_origin(ascent: i8, descent: i8, text: &[u8], placement: Placement
     if bad_position {
         return OriginResult::Err(Error::PositionOrLineHeight);
     }
-    OriginResult::Ok(text_origin(ascent, descent, text, placement))
+    OriginResult::Ok(text_origin(ascent, descent, text, placement, vertical_pos))
 }

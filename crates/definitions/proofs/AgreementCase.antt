@@ -24,7 +24,7 @@ abbrev added : List ℕ
 added = 45 ∷ 3 ∷ 255 ∷ 0 ∷ 9 ∷ []
 
 abbrev asked : Request
-asked = plain (45 ∷ 52 ∷ []) (placed (point (pos 5) (pos 3)) Baseline 4 false)
+asked = plain (45 ∷ 52 ∷ []) (placed (point (pos 5) (pos 3)) 4 false) Baseline
 
 abbrev small : Ground
 small = on record { width = 8; height = 8 } (replicate 64 0)

@@ -78,7 +78,7 @@ module _ (x y : ℤ) where
 
 -- the same request at another place
 abbrev pub at : Point → Request → Request
-at position r = request (r .text) (placed position (r .anchor) (r .lineHeight) (r .skip)) (r .align)
+at position r = request (r .text) (placed position (r .lineHeight) (r .skip)) (r .anchor) (r .align)
 
 module _ (x y : ℤ) (font : Font) (r : Request) where
   abbrev pub movedRequest : Request

@@ -1,7 +1,7 @@
 -- A font that opens: neither cause applies, so every limit holds. Assumes nothing.
-use Rattle.integers.proofs.Prelude.{_≡_, refl, sym, subst, false, _||_, List, [], ℕ, _≤_, arith, ltb, eqb, length, ltb-false, eqb-false}
+use Rattle.integers.proofs.Prelude.{_≡_, refl, sym, subst, false, _||_, List, [], ℕ, _≤_, _<_, arith, ltb, eqb, length, getD, w8, SFits, ltb-false, eqb-false}
 use Rattle.definitions.specs.Vocabulary.{FontReader}
-use Rattle.integers.proofs.Laws.{zarith}
+use Rattle.integers.proofs.Laws.{zarith, signed8-fits}
 use Rattle.definitions.specs.Refusals.{Outcome, success, refused, unlessRefused, anyApplies}
 use Rattle.definitions.specs.Header.{byte, header, lengthOff, headerOff, widthOff, signedWidthOff, fontCauses, Opened}
 use Rattle.definitions.specs.Calls.{openFont}
@@ -59,6 +59,13 @@ module _ (font : List ℕ) where
       let f = succeeded (success (header font)) head (fontCauses font) e .1 in
       let same : header font ≡ head = cc in
       subst (λ (x : FontReader). Opened font x) same (opened-by-causes (passes-font e))
+
+  -- the heights of a font of bytes are bytes
+  pub heights-fit : ((i : ℕ) → getD font i 0 < 256) → {head : FontReader} → Opened font head → SFits w8 (head .ascent) × SFits w8 (head .descent)
+  unfolding header
+  heights-fit small o =
+      subst (λ (h : FontReader). SFits w8 (h .ascent) × SFits w8 (h .descent)) (sym (o .read))
+      (signed8-fits (getD font 13 0) (small 13), signed8-fits (getD font 14 0) (small 14))
 
   -- A call on a font that does not open is refused as opening is; on one that opens it goes on.
   module _ {A : Type 0} (rest : Outcome A) where

@@ -76,7 +76,7 @@ all-off (c ∷ cs) h = rw (h .0) (all-off cs (h .1))
 -- A call with every cause, and the same with one after the other mended.
 module _ where
   abbrev drawnOf : List ℕ → List ℕ → ℤ → FontColor → List ℕ → Outcome RenderedDimensions
-  drawnOf font text x color buffer = draw (u8g2 font) (plain text (placed (point x (pos 0)) Baseline 0 false)) color record { width = 1; height = 1 } buffer
+  drawnOf font text x color buffer = draw (u8g2 font) (plain text (placed (point x (pos 0)) 0 false) Baseline) color record { width = 1; height = 1 } buffer
 
   abbrev background : FontColor
   background = WithBackground 1 0
@@ -95,7 +95,7 @@ module _ where
   draw-order = refl
 
   abbrev measuredOf : List ℕ → List ℕ → ℤ → Outcome RenderedDimensions
-  measuredOf font text x = measure (u8g2 font) (plain text (placed (point x (pos 0)) Baseline 0 false))
+  measuredOf font text x = measure (u8g2 font) (plain text (placed (point x (pos 0)) 0 false) Baseline)
 
   pub measure-order :
       (measuredOf (take 22 T) (255 ∷ []) (pos 1048577)

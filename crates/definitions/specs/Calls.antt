@@ -66,27 +66,22 @@ pub record Request : Type 0 where
   pub lineHeight : ℕ
   pub skip : Bool
 
-abbrev pub placed : Point → VerticalPosition → ℕ → Bool → Placement
-placed position anchor lineHeight skip = record {
-  position = position;
-  «vertical_pos» = anchor;
-  «line_height» = lineHeight;
-  «ignore_unknown_chars» = skip;
-}
+abbrev pub placed : Point → ℕ → Bool → Placement
+placed position lineHeight skip = record { position = position; «line_height» = lineHeight; «ignore_unknown_chars» = skip }
 
-abbrev pub request : List ℕ → Placement → HorizontalAlignment → Request
-request text p align = record {
+abbrev pub request : List ℕ → Placement → VerticalPosition → HorizontalAlignment → Request
+request text p anchor align = record {
   text = text;
   position = p .position;
-  anchor = p .«vertical_pos»;
+  anchor = anchor;
   align = align;
   lineHeight = p .«line_height»;
   skip = p .«ignore_unknown_chars»;
 }
 
 -- .. of a plain call
-abbrev pub plain : List ℕ → Placement → Request
-plain text p = request text p Left
+abbrev pub plain : List ℕ → Placement → VerticalPosition → Request
+plain text p anchor = request text p anchor Left
 
 -- The letters of a text.
 abbrev pub codePointsOf : List ℕ → List ℕ

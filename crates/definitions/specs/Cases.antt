@@ -51,18 +51,18 @@ metrics w h x y d at = record { «glyph_width» = w; «glyph_height» = h; «off
 
 -- a text at (10, 20) on the baseline, with T's line height: measured, skipping unknown letters or not ..
 abbrev measuredWith : Bool → List ℕ → List ℕ → Result
-measuredWith skip font text = measured (measure (u8g2 font) (plain text (placed (point (pos 10) (pos 20)) Baseline 4 skip)))
+measuredWith skip font text = measured (measure (u8g2 font) (plain text (placed (point (pos 10) (pos 20)) 4 skip) Baseline))
 
 abbrev measuredAt : List ℕ → List ℕ → Result
 measuredAt = measuredWith false
 
 abbrev alignedAt : HorizontalAlignment → List ℕ → List ℕ → Result
-alignedAt a font text = boxed (measureAligned (u8g2 font) (request text (placed (point (pos 10) (pos 20)) Baseline 4 false) a))
+alignedAt a font text = boxed (measureAligned (u8g2 font) (request text (placed (point (pos 10) (pos 20)) 4 false) Baseline a))
 
 -- .. and drawn on 15 × 24 pixels of 0, in the colour 1 unless another is given
 abbrev drawnWith : FontColor → Bool → List ℕ → List ℕ → Result
 drawnWith color skip font text =
-    let r = plain text (placed (point (pos 10) (pos 20)) Baseline 4 skip) in
+    let r = plain text (placed (point (pos 10) (pos 20)) 4 skip) Baseline in
     let p : Framebuffer = record { width = 15; height = 24 } in
     drawn (draw (u8g2 font) r color p (replicate 360 0)) (drawBuffer (u8g2 font) r color p (replicate 360 0))
 

@@ -11,6 +11,7 @@ pub use Rattle.types.specs.declared.geometry.RenderedDimensions.{RenderedDimens
 pub use Rattle.types.specs.declared.glyph_reader.GlyphReader.{GlyphReader}
 pub use Rattle.types.specs.declared.style.FontColor.{FontColor}
 pub use Rattle.types.specs.declared.style.FontColor.the-variants.{Transparent, WithBackground}
+pub use Rattle.types.specs.declared.style.FontStyle.{FontStyle}
 pub use Rattle.types.specs.declared.style.Placement.{Placement}
 pub use Rattle.types.specs.declared.style.HorizontalAlignment.{HorizontalAlignment}
 pub use Rattle.types.specs.declared.style.VerticalPosition.{VerticalPosition}

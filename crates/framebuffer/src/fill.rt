@@ -35,7 +35,8 @@ fn fill_rows(
     buffer: &mut [u8],
 )
     requires { ⌜ AreaFits (length (now buffer)) (framebuffer .width) left right top bottom ⌝ }
-    ensures { λ r. ⌜ now (buffer .exit) ≡ shown (framebuffer .width) (fillPicture color (Some (area left right top bottom))) (now (buffer .entry)) ⌝ }
+    ensures { λ r. ⌜ now (buffer .exit) ≡ shown (framebuffer .width) (fillPicture color (Some (area left right top bottom)))
+        (now (buffer .entry)) ⌝ }
 {
     let mut row = top;
     while row < bottom {
@@ -49,7 +50,8 @@ fn fill_rows(
 // Fills a rectangle. What lies off the framebuffer is dropped.
 fn fill_rectangle(rectangle: Rectangle, color: u8, framebuffer: Framebuffer, buffer: &mut [u8])
     requires { ⌜ BufferFits (length (now buffer)) (framebuffer .width) (framebuffer .height) ⌝ }
-    ensures { λ r. ⌜ now (buffer .exit) ≡ shown (framebuffer .width) (fillPicture color (Some rectangle)) (now (buffer .entry)) ⌝ }
+    ensures { λ r. ⌜ now (buffer .exit) ≡ shown (framebuffer .width) (fillPicture color (Some rectangle))
+        (now (buffer .entry)) ⌝ }
 {
     let left = clamp_start(rectangle.top_left.x, framebuffer.width);
     let right = clamp_end(
@@ -68,7 +70,8 @@ fn fill_rectangle(rectangle: Rectangle, color: u8, framebuffer: Framebuffer, buf
 
 pub fn fill_box(bounding_box: BoundingBox, color: u8, framebuffer: Framebuffer, buffer: &mut [u8])
     requires { ⌜ BufferFits (length (now buffer)) (framebuffer .width) (framebuffer .height) ⌝ }
-    ensures { λ r. ⌜ now (buffer .exit) ≡ shown (framebuffer .width) (fillPicture color «bounding_box») (now (buffer .entry)) ⌝ }
+    ensures { λ r. ⌜ now (buffer .exit) ≡ shown (framebuffer .width) (fillPicture color «bounding_box»)
+        (now (buffer .entry)) ⌝ }
 {
     match bounding_box {
         BoundingBox::Some(rectangle) => fill_rectangle(rectangle, color, framebuffer, buffer),

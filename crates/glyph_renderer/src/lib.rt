@@ -31,8 +31,10 @@ pub fn render_glyph(
     framebuffer: Framebuffer,
     buffer: &mut [u8],
 )
-    requires { ⌜ CheckedGlyph (now font) head glyph × (GlyphBox glyph «bounding_box» × BufferFits (length (now buffer)) (framebuffer .width) (framebuffer .height)) ⌝ }
-    ensures { λ r. ⌜ now (buffer .exit) ≡ shown (framebuffer .width) (boxPicture color (pixelsOf (u8g2 (now (font .entry))) glyph) «bounding_box») (now (buffer .entry)) ⌝ }
+    requires { ⌜ CheckedGlyph (now font) head glyph × (GlyphBox glyph «bounding_box» × BufferFits (length (now buffer))
+        (framebuffer .width) (framebuffer .height)) ⌝ }
+    ensures { λ r. ⌜ now (buffer .exit) ≡ shown (framebuffer .width) (boxPicture color
+        (pixelsOf (u8g2 (now (font .entry))) glyph) «bounding_box») (now (buffer .entry)) ⌝ }
 {
     let BoundingBox::Some(area) = bounding_box else {
         return;

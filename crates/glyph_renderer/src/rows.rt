@@ -37,7 +37,8 @@ pub fn draw_rows(
     buffer: &mut [u8],
 )
     requires { ⌜ CheckedGlyph (now font) head glyph × PartFits glyph part framebuffer (length (now buffer)) ⌝ }
-    ensures { λ r. ⌜ now (buffer .exit) ≡ shown (framebuffer .width) (onesPicture (pixelsOf (u8g2 (now (font .entry))) glyph) glyph part value) (now (buffer .entry)) ⌝ }
+    ensures { λ r. ⌜ now (buffer .exit) ≡ shown (framebuffer .width) (onesPicture (pixelsOf (u8g2 (now (font .entry))) glyph)
+        glyph part value) (now (buffer .entry)) ⌝ }
 {
     let glyph_width = glyph.glyph_width as usize;
     let visible = part.columns.past - part.columns.first;

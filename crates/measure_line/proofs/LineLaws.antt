@@ -36,6 +36,6 @@ module _ (font text : List ℕ) where
     font-refused n c e = simp (le-ltb 65536 (length font) h, e)
 
     pub font-opens : (head : FontReader) → openFont font ≡ success head
-        → measuredByProgram font text ≡ measure (u8g2 font) (plain text (placed (point (pos 0) (pos 0)) Baseline (head .«line_height») false))
+        → measuredByProgram font text ≡ measure (u8g2 font) (plain text (placed (point (pos 0) (pos 0)) (head .«line_height») false) Baseline)
     unfolding measuredByProgram
     font-opens head e = simp (le-ltb 65536 (length font) h, e)

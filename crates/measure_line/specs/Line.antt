@@ -45,7 +45,7 @@ outcomeLine o = firstWord o ++ spaced (laterWords o) ++ 10 ∷ []
 
 -- place (0, 0), Baseline, the font's default line height, nothing skipped
 abbrev pub byProgram : List ℕ → FontReader → Request
-byProgram text head = plain text (placed (point (pos 0) (pos 0)) Baseline (head .«line_height») false)
+byProgram text head = plain text (placed (point (pos 0) (pos 0)) (head .«line_height») false) Baseline
 
 abbrev pub measureOpened : List ℕ → List ℕ → Outcome FontReader → Outcome RenderedDimensions
 measureOpened font text (success head) = measure (u8g2 font) (byProgram text head)

@@ -97,11 +97,10 @@ fn measured(font: &[u8], text: &[u8]) -> DimensionsResult
         FontReaderResult::Ok(head) => {
             let placement = Placement {
                 position: Point { x: 0, y: 0 },
-                vertical_pos: VerticalPosition::Baseline,
                 line_height: head.line_height,
                 ignore_unknown_chars: false,
             };
-            get_rendered_dimensions(font, text, placement)
+            get_rendered_dimensions(font, text, placement, VerticalPosition::Baseline)
         }
     }
 }

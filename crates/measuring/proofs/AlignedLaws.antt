@@ -40,7 +40,7 @@ box-unless (c ∷ cs) o = by (c .applies) (box-unless cs o)
 
 module _ (font : Font) (r : Request) where
   -- plain measuring is the alignment Left
-  pub plain-is-left : alignedDimensions font (plain (r .text) (placed (r .position) (r .anchor) (r .lineHeight) (r .skip))) ≡ measure font r
+  pub plain-is-left : alignedDimensions font (plain (r .text) (placed (r .position) (r .lineHeight) (r .skip)) (r .anchor)) ≡ measure font r
   unfolding alignedDimensions measure
   plain-is-left =
       ap (unlessRefused (measureCauses font r))

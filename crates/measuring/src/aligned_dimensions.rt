@@ -12,21 +12,23 @@ use types::results::DimensionsResult;
 use types::results::FontReaderResult;
 use types::style::HorizontalAlignment;
 use types::style::Placement;
+use types::style::VerticalPosition;
 
 // The dimensions of the aligned text, or the refusal.
 pub fn aligned_dimensions(
     font: &[u8],
     text: &[u8],
     placement: Placement,
+    vertical_pos: VerticalPosition,
     horizontal_align: HorizontalAlignment,
 ) -> DimensionsResult
     ensures { λ r. ⌜ dimensionsOutcome r ≡ alignedDimensions (u8g2 (now (font .entry)))
-        (request (now (text .entry)) placement «horizontal_align») ⌝ }
+        (request (now (text .entry)) placement «vertical_pos» «horizontal_align») ⌝ }
 {
     match new_from_raw_data(font) {
         FontReaderResult::Err(error) => DimensionsResult::Err(error),
         FontReaderResult::Ok(head) => {
-            match checked_origin(head.ascent, head.descent, text, placement) {
+            match checked_origin(head.ascent, head.descent, text, placement, vertical_pos) {
                 OriginResult::Err(error) => DimensionsResult::Err(error),
                 OriginResult::Ok(origin) => {
                     let pen = Pen {

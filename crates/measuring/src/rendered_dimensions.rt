@@ -6,10 +6,23 @@ use crate::aligned_dimensions::aligned_dimensions;
 use types::results::DimensionsResult;
 use types::style::HorizontalAlignment;
 use types::style::Placement;
+use types::style::VerticalPosition;
 
 // The dimensions of the text as it would be drawn at the position, or the refusal.
-pub fn get_rendered_dimensions(font: &[u8], text: &[u8], placement: Placement) -> DimensionsResult
-    ensures { λ r. ⌜ dimensionsOutcome r ≡ measure (u8g2 (now (font .entry))) (plain (now (text .entry)) placement) ⌝ }
+pub fn get_rendered_dimensions(
+    font: &[u8],
+    text: &[u8],
+    placement: Placement,
+    vertical_pos: VerticalPosition,
+) -> DimensionsResult
+    ensures { λ r. ⌜ dimensionsOutcome r ≡ measure (u8g2 (now (font .entry)))
+        (plain (now (text .entry)) placement «vertical_pos») ⌝ }
 {
-    aligned_dimensions(font, text, placement, HorizontalAlignment::Left)
+    aligned_dimensions(
+        font,
+        text,
+        placement,
+        vertical_pos,
+        HorizontalAlignment::Left,
+    )
 }

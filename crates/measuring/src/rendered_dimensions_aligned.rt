@@ -7,6 +7,7 @@ use types::results::BoundingBoxResult;
 use types::results::DimensionsResult;
 use types::style::HorizontalAlignment;
 use types::style::Placement;
+use types::style::VerticalPosition;
 
 // The bounding box of the aligned text at the position, or the refusal. It has no advance: 01 returns
 // none for aligned lines.
@@ -14,12 +15,13 @@ pub fn get_rendered_dimensions_aligned(
     font: &[u8],
     text: &[u8],
     placement: Placement,
+    vertical_pos: VerticalPosition,
     horizontal_align: HorizontalAlignment,
 ) -> BoundingBoxResult
     ensures { λ r. ⌜ boundingBoxOutcome r ≡ measureAligned (u8g2 (now (font .entry)))
-        (request (now (text .entry)) placement «horizontal_align») ⌝ }
+        (request (now (text .entry)) placement «vertical_pos» «horizontal_align») ⌝ }
 {
-    let measured = aligned_dimensions(font, text, placement, horizontal_align);
+    let measured = aligned_dimensions(font, text, placement, vertical_pos, horizontal_align);
     match measured {
         DimensionsResult::Err(error) => BoundingBoxResult::Err(error),
         DimensionsResult::Ok(dimensions) => {

@@ -20,7 +20,7 @@ atZero = point (pos 0) (pos 0)
 
 -- what is asked, for that place
 abbrev pub whole : List ℕ → ℕ → Point → Request
-whole text lineHeight position = plain text (placed position Baseline lineHeight false)
+whole text lineHeight position = plain text (placed position lineHeight false) Baseline
 
 abbrev pub measuredAtZero : List ℕ → List ℕ → ℕ → Outcome RenderedDimensions
 measuredAtZero font text lineHeight = measure (u8g2 font) (whole text lineHeight atZero)

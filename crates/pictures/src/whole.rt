@@ -23,6 +23,7 @@ use types::geometry::Size;
 use types::results::DimensionsResult;
 use types::results::FontReaderResult;
 use types::style::FontColor;
+use types::style::FontStyle;
 use types::style::Placement;
 use types::style::VerticalPosition;
 
@@ -66,11 +67,14 @@ fn draw_at_corner(
             x: opposite(rectangle.top_left.x),
             y: opposite(rectangle.top_left.y),
         },
-        vertical_pos: VerticalPosition::Baseline,
         line_height,
         ignore_unknown_chars: false,
     };
-    render(font, text, placement, color, framebuffer, pixels)
+    let style = FontStyle {
+        color,
+        vertical_pos: VerticalPosition::Baseline,
+    };
+    render(font, text, placement, style, framebuffer, pixels)
 }
 
 // Draws a text whose box at (0, 0) is the rectangle, if a framebuffer can be so large.
@@ -125,11 +129,10 @@ fn draw_measured(
 {
     let placement = Placement {
         position: Point { x: 0, y: 0 },
-        vertical_pos: VerticalPosition::Baseline,
         line_height,
         ignore_unknown_chars: false,
     };
-    match get_rendered_dimensions(font, text, placement) {
+    match get_rendered_dimensions(font, text, placement, VerticalPosition::Baseline) {
         DimensionsResult::Err(error) => DrawResult::Refused(error),
         DimensionsResult::Ok(dimensions) => {
             let bounding_box = dimensions.bounding_box;

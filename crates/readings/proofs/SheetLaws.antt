@@ -66,7 +66,7 @@ module _ (narrow : Bool) (font : List ℕ) (place : Place) (ground : List ℕ) w
   setting = settingOf font place
 
   abbrev inColor : ℕ → Reading
-  inColor k = readingOf (readingText k) (place .color)
+  inColor k = readingOf (readingText k) (place .style .color)
 
   -- ---- what is known of a screen, with the fault or without
 
@@ -82,7 +82,7 @@ module _ (narrow : Bool) (font : List ℕ) (place : Place) (ground : List ℕ) w
     old = readingOf (readingText 901) (Transparent 0);
     text-is = refl;
     sized = bare-sized setting ground;
-    shows = nothing-shown setting ground (Transparent 0) ∙ sym (nothing-shown setting ground (place .color));
+    shows = nothing-shown setting ground (Transparent 0) ∙ sym (nothing-shown setting ground (place .style .color));
   }
 
   module _ {s : SheetState} (known : Known s) (k : ℕ) where
@@ -102,7 +102,7 @@ module _ (narrow : Bool) (font : List ℕ) (place : Place) (ground : List ℕ) w
     unfolding stepBuffer
     next-length =
         length-left setting ground (inColor k) (s .bytes) (anyApplies (redrawCauses font (readingText (s .old)) (reading place k) (groundOf place (s .bytes))))
-        (toFill narrow (alone setting (s .bytes) (readingOf (readingText (s .old)) (place .color))))
+        (toFill narrow (alone setting (s .bytes) (readingOf (readingText (s .old)) (place .style .color))))
 
     unfoldable next-known : Known (screenAfter narrow font place s k)
     next-known = record {
@@ -162,7 +162,7 @@ module _ (narrow : Bool) (font : List ℕ) (place : Place) (ground : List ℕ) w
       ++ framebufferCause (place .framebuffer) ground
       ∷ record { number = 4; applies = b }
       ∷ positionCause (place .position) (place .«line_height»)
-      ∷ backgroundCause (place .color) (u8g2 font .background)
+      ∷ backgroundCause (place .style .color) (u8g2 font .background)
       ∷ []))
       (fine j h ∙ sym (fine k i))
 
@@ -187,7 +187,7 @@ module _ (narrow : Bool) (font : List ℕ) (place : Place) (ground : List ℕ) w
       by true a =
           let early = drawn-early font (reading place k) (groundOf place ground) a in
           ap (wanted font place ground) (never-taken h a (suc k) (omega arith))
-          ∙ nothing-shown setting ground (place .color)
+          ∙ nothing-shown setting ground (place .style .color)
           ∙ sym (not-drawn (drawn font (reading place k) (groundOf place ground)) (after font (reading place k) (groundOf place ground)) early)
       by false a =
           let late = drawn-late font (reading place k) (groundOf place ground) a in

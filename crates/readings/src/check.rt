@@ -35,16 +35,14 @@ pub fn draw_alone(font: &[u8], text: &[u8], place: Place, ground: &[u8], alone: 
 {
     copy(ground, &mut alone[..]);
     let position = place.position;
-    let vertical_pos = place.vertical_pos;
-    let color = place.color;
+    let style = place.style;
     let framebuffer = place.framebuffer;
     let placement = Placement {
         position,
-        vertical_pos,
         line_height: place.line_height,
         ignore_unknown_chars: false,
     };
-    let drawn = render(font, text, placement, color, framebuffer, &mut alone[..]);
+    let drawn = render(font, text, placement, style, framebuffer, &mut alone[..]);
     match drawn {
         DimensionsResult::Ok(_) => {}
         DimensionsResult::Err(_) => {

@@ -30,14 +30,14 @@ fn clear_reading(font: &[u8], k: usize, place: Place, buffer: &mut [u8])
         (measured (now (font .entry)) (reading place k)) (now (buffer .entry)) ⌝ }
 {
     let position = place.position;
-    let vertical_pos = place.vertical_pos;
+    let style = place.style;
+    let vertical_pos = style.vertical_pos;
     let placement = Placement {
         position,
-        vertical_pos,
         line_height: place.line_height,
         ignore_unknown_chars: false,
     };
-    let measured = measure_reading(font, k, placement);
+    let measured = measure_reading(font, k, placement, vertical_pos);
     let DimensionsResult::Ok(d) = measured else {
         return;
     };

@@ -9,6 +9,7 @@ use angles::write_angle;
 use measuring::rendered_dimensions::get_rendered_dimensions;
 use types::results::DimensionsResult;
 use types::style::Placement;
+use types::style::VerticalPosition;
 
 pub const COUNT: usize = 901;
 
@@ -23,10 +24,16 @@ pub fn write_reading(k: usize, out: &mut [u8]) -> usize
     write_angle((k as i32) - 450, out)
 }
 
-pub fn measure_reading(font: &[u8], k: usize, placement: Placement) -> DimensionsResult
-    ensures { λ r. ⌜ dimensionsOutcome r ≡ measure (u8g2 (now (font .entry))) (plain (readingText k) placement) ⌝ }
+pub fn measure_reading(
+    font: &[u8],
+    k: usize,
+    placement: Placement,
+    vertical_pos: VerticalPosition,
+) -> DimensionsResult
+    ensures { λ r. ⌜ dimensionsOutcome r ≡ measure (u8g2 (now (font .entry)))
+        (plain (readingText k) placement «vertical_pos») ⌝ }
 {
     let mut text = [0u8; 6];
     let start = write_reading(k, &mut text);
-    get_rendered_dimensions(font, &text[start..], placement)
+    get_rendered_dimensions(font, &text[start..], placement, vertical_pos)
 }

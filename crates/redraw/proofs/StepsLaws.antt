@@ -34,7 +34,7 @@ same-color f bytes text c d allows also =
     ∷ positionCause (f .position) (f .lineHeight)
     ∷ record { number = 6; applies = b }
     ∷ [])
-    (dimensions (drawnText (u8g2 (f .font)) (plain text (placed (f .position) (f .anchor) (f .lineHeight) false)))))
+    (dimensions (drawnText (u8g2 (f .font)) (plain text (placed (f .position) (f .lineHeight) false) (f .anchor)))))
     (allows ∙ sym also)
 
 -- ---- what every step keeps

@@ -19,7 +19,7 @@ pub record Drawing : Type 0 where
   pub lineHeight : ℕ
 
 abbrev pub asks : Drawing → Request
-asks d = plain (d .text) (placed (d .position) (d .anchor) (d .lineHeight) false)
+asks d = plain (d .text) (placed (d .position) (d .lineHeight) false) (d .anchor)
 
 -- another text in the same place and colour
 abbrev pub withText : List ℕ → Drawing → Drawing
@@ -30,8 +30,8 @@ abbrev pub asked : Place → List ℕ → Drawing
 asked place text = record {
   text = text;
   position = place .position;
-  anchor = place .«vertical_pos»;
-  color = place .color;
+  anchor = place .style .«vertical_pos»;
+  color = place .style .color;
   lineHeight = place .«line_height»;
 }
 
@@ -39,7 +39,7 @@ abbrev pub groundOf : Place → List ℕ → Ground
 groundOf place bytes = on (place .framebuffer) bytes
 
 abbrev pub contextOf : Place → Context
-contextOf place = record { color = place .color; framebuffer = place .framebuffer }
+contextOf place = record { color = place .style .color; framebuffer = place .framebuffer }
 
 -- A buffer of so many bytes is the place's framebuffer.
 abbrev pub FitsPlace : ℕ → Place → Type 0

@@ -26,7 +26,7 @@ abbrev pub settingOf : List ℕ → Place → Setting
 settingOf font place = record {
   font = font;
   position = place .position;
-  anchor = place .«vertical_pos»;
+  anchor = place .style .«vertical_pos»;
   lineHeight = place .«line_height»;
   background = place .background;
   framebuffer = place .framebuffer;

@@ -63,7 +63,8 @@ pub fn draw_reading(
     let DimensionsResult::Ok(_) = expected else {
         return expected;
     };
-    let color = place.color;
+    let style = place.style;
+    let color = style.color;
     let framebuffer = place.framebuffer;
     let context = Context { color, framebuffer };
     draw_text(font, head, text, pen, context, buffer)
@@ -84,7 +85,7 @@ pub fn redraw(
     ensures shown { λ r. ⌜ now (buffer .exit) ≡ redrawnBuffer (now (font .entry)) (now («old_text» .entry))
         (asked place (now («new_text» .entry))) (place .background) (groundOf place (now (buffer .entry))) ⌝ }
     ensures leaves { λ r. ⌜ LeavesReading (settingOf (now (font .entry)) place) (now («old_text» .entry))
-        (readingOf (now («new_text» .entry)) (place .color)) (now (buffer .entry)) (dimensionsOutcome r)
+        (readingOf (now («new_text» .entry)) (place .style .color)) (now (buffer .entry)) (dimensionsOutcome r)
         (now (buffer .exit)) ⌝ }
 {
     match check_step(font, old_text, new_text, place, &buffer[..]) {

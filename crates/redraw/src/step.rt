@@ -40,17 +40,17 @@ pub fn check_step(
         (asked place (now («new_text» .entry))) (groundOf place (now (buffer .entry))) ⌝ }
 {
     let position = place.position;
-    let vertical_pos = place.vertical_pos;
+    let style = place.style;
+    let vertical_pos = style.vertical_pos;
     let line_height = place.line_height;
     let ignore_unknown_chars = false;
     let placement = Placement {
         position,
-        vertical_pos,
         line_height,
         ignore_unknown_chars,
     };
     let framebuffer = place.framebuffer;
-    let color = place.color;
+    let color = style.color;
     match new_from_raw_data(font) {
         FontReaderResult::Err(error) => StepResult::Err(error),
         FontReaderResult::Ok(head) => {
@@ -60,13 +60,19 @@ pub fn check_step(
             if has_bad_text(old_text) {
                 return StepResult::Err(Error::TextEncoding);
             }
-            match checked_origin(head.ascent, head.descent, new_text, placement) {
+            match checked_origin(head.ascent, head.descent, new_text, placement, vertical_pos) {
                 OriginResult::Err(error) => StepResult::Err(error),
                 OriginResult::Ok(new_origin) => {
                     if has_bad_color(color, head.supports_background_color) {
                         return StepResult::Err(Error::BackgroundColorNotSupported);
                     }
-                    let old_origin = text_origin(head.ascent, head.descent, old_text, placement);
+                    let old_origin = text_origin(
+                        head.ascent,
+                        head.descent,
+                        old_text,
+                        placement,
+                        vertical_pos,
+                    );
                     let old_pen = Pen {
                         origin: old_origin,
                         line_height,

@@ -39,6 +39,7 @@ use types::results::DimensionsResult;
 use types::results::FontReaderResult;
 use types::results::GlyphResult;
 use types::style::FontColor;
+use types::style::FontStyle;
 use types::style::Placement;
 
 // The glyph of a code point, its runs read to the last pixel. So a glyph that the font's end cuts off is refused before any
@@ -203,14 +204,14 @@ pub fn render(
     font: &[u8],
     text: &[u8],
     placement: Placement,
-    color: FontColor,
+    style: FontStyle,
     framebuffer: Framebuffer,
     buffer: &mut [u8],
 ) -> DimensionsResult
-    ensures answered { λ r. ⌜ dimensionsOutcome r ≡ draw (u8g2 (now (font .entry))) (plain (now (text .entry)) placement) color
-        framebuffer (now (buffer .entry)) ⌝ }
-    ensures shown { λ r. ⌜ now (buffer .exit) ≡ drawBuffer (u8g2 (now (font .entry))) (plain (now (text .entry)) placement)
-        color framebuffer (now (buffer .entry)) ⌝ }
+    ensures answered { λ r. ⌜ dimensionsOutcome r ≡ draw (u8g2 (now (font .entry)))
+        (plain (now (text .entry)) placement (style .«vertical_pos»)) (style .color) framebuffer (now (buffer .entry)) ⌝ }
+    ensures shown { λ r. ⌜ now (buffer .exit) ≡ drawBuffer (u8g2 (now (font .entry)))
+        (plain (now (text .entry)) placement (style .«vertical_pos»)) (style .color) framebuffer (now (buffer .entry)) ⌝ }
 {
     match new_from_raw_data(font) {
         FontReaderResult::Err(error) => DimensionsResult::Err(error),
@@ -218,9 +219,11 @@ pub fn render(
             if has_bad_size(framebuffer, &buffer[..]) {
                 return DimensionsResult::Err(Error::FramebufferSize);
             }
-            match checked_origin(head.ascent, head.descent, text, placement) {
+            let vertical_pos = style.vertical_pos;
+            match checked_origin(head.ascent, head.descent, text, placement, vertical_pos) {
                 OriginResult::Err(error) => DimensionsResult::Err(error),
                 OriginResult::Ok(origin) => {
+                    let color = style.color;
                     if has_bad_color(color, head.supports_background_color) {
                         return DimensionsResult::Err(Error::BackgroundColorNotSupported);
                     }

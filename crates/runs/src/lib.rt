@@ -56,7 +56,8 @@ fn first_pair(font: &[u8], m0: u8, m1: u8, start: usize) -> Runs
 // shifted, so that the compiler shifts only for a new pair.
 pub fn next_pair(font: &[u8], m0: u8, m1: u8, runs: Runs) -> Runs
     requires { ⌜ Readable (now font) m0 m1 (runs .«bit_pos») × Short runs ⌝ }
-    ensures { λ r. ⌜ (inFont (now (font .entry)) r ≡ nextPair (now (font .entry)) m0 m1 runs) × (Short r × (runs .«bit_pos» < r .«bit_pos»)) ⌝ }
+    ensures { λ r. ⌜ (inFont (now (font .entry)) r ≡ nextPair (now (font .entry)) m0 m1 runs)
+        × (Short r × (runs .«bit_pos» < r .«bit_pos»)) ⌝ }
 {
     let start = runs.bit_pos;
     let word = bytes_at(font, start / 8);
@@ -112,7 +113,8 @@ pub struct Place {
 // The place of a pixel of a glyph whose runs were checked: whole pairs are passed over.
 pub fn seek(font: &[u8], head: FontReader, glyph: GlyphReader, pixel: usize) -> Place
     requires { ⌜ CheckedGlyph (now font) head glyph × (pixel < glyph .«glyph_width» * glyph .«glyph_height») ⌝ }
-    ensures { λ r. ⌜ StandsAt (now (font .entry)) head glyph (r .runs) (r .offset) pixel × ((r .offset < r .runs .zeros + r .runs .ones) × Short (r .runs)) ⌝ }
+    ensures { λ r. ⌜ StandsAt (now (font .entry)) head glyph (r .runs) (r .offset) pixel
+        × ((r .offset < r .runs .zeros + r .runs .ones) × Short (r .runs)) ⌝ }
 {
     let mut runs = first_pair(font, head.m0, head.m1, glyph.bit_pos);
     let mut offset = pixel;

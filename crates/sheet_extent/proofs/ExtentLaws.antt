@@ -240,7 +240,7 @@ module _ (font : List ℕ) (o : Options) (wanted : o .wanted ≡ Seen) where
   pub all-seen : Uncut (placeFor font o) edges → AllSeen font (placeFor font o)
   unfolding placeFor
   all-seen = rw wanted (λ uncut k h d m column row i.
-      let q = measured-at-zero (u8g2 font) (plain (readingText k) (placed (there .position) (o .«vertical_pos») 0 false)) d m in
+      let q = measured-at-zero (u8g2 font) (plain (readingText k) (placed (there .position) 0 false) (o .«vertical_pos»)) d m in
       on-framebuffer uncut (q .0 .«bounding_box») (λ r b. all-between font (o .«vertical_pos») 901 k h (q .0) (q .1 .0) r b) column row
       (subst (InsideBox column row) (q .1 .1) i))
 
@@ -257,9 +257,8 @@ seen-position e w h k = rw w (cc (h, k))
 abbrev placeIn : Framebuffer → Options → Point → Place
 placeIn framebuffer o p = record {
   position = p;
-  «vertical_pos» = o .«vertical_pos»;
+  style = record { color = Transparent 0; «vertical_pos» = o .«vertical_pos» };
   «line_height» = 0;
-  color = Transparent 0;
   background = 255;
   framebuffer = framebuffer;
 }

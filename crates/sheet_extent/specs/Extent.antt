@@ -25,7 +25,7 @@ use Rattle.readings.specs.Readings.{readingText, reading}
 
 -- what a reading measures at (0, 0), in one line
 abbrev pub atOrigin : List ℕ → VerticalPosition → ℕ → Outcome RenderedDimensions
-atOrigin font v k = measure (u8g2 font) (plain (readingText k) (placed (point (pos 0) (pos 0)) v 0 false))
+atOrigin font v k = measure (u8g2 font) (plain (readingText k) (placed (point (pos 0) (pos 0)) 0 false) v)
 
 abbrev pub widened : Extent → Rectangle → Extent
 widened e r = record {
@@ -96,9 +96,8 @@ side start end = sideOf (start +ℤ end +ℤ pos 3)
 abbrev pub placeAt : VerticalPosition → Point → Extent → Place
 placeAt v p e = record {
   position = p;
-  «vertical_pos» = v;
+  style = record { color = Transparent 0; «vertical_pos» = v };
   «line_height» = 0;
-  color = Transparent 0;
   background = 255;
   framebuffer = sized (side (p .x) (e .right)) (side (p .y) (e .bottom));
 }

@@ -65,11 +65,10 @@ fn with_reading(extent: Extent, font: &[u8], k: usize, vertical_pos: VerticalPos
     let origin = Point { x: 0, y: 0 };
     let placement = Placement {
         position: origin,
-        vertical_pos,
         line_height: 0,
         ignore_unknown_chars: false,
     };
-    let measured = measure_reading(font, k, placement);
+    let measured = measure_reading(font, k, placement, vertical_pos);
     let DimensionsResult::Ok(d) = measured else {
         return extent;
     };

@@ -12,6 +12,7 @@ use redraw::place::Place;
 use types::framebuffer::Framebuffer;
 use types::geometry::Point;
 use types::style::FontColor;
+use types::style::FontStyle;
 
 const INK: u8 = 0;
 
@@ -44,9 +45,11 @@ pub fn place_for(font: &[u8], options: Options) -> Place
     let height = side(position.y, extent.bottom);
     Place {
         position,
-        vertical_pos,
+        style: FontStyle {
+            color: FontColor::Transparent(INK),
+            vertical_pos,
+        },
         line_height: 0,
-        color: FontColor::Transparent(INK),
         background: BACKGROUND,
         framebuffer: Framebuffer { width, height },
     }

@@ -23,11 +23,15 @@ pub enum FontColor {
     WithBackground { fg: u8, bg: u8 },
 }
 
-// Where a text stands and how it goes on: its place, the height of the font that stands there, how far below a line the next one
-// lies, and whether characters that the font does not have are skipped.
+pub struct FontStyle {
+    pub color: FontColor,
+    pub vertical_pos: VerticalPosition,
+}
+
+// Where a text stands and how it goes on: its place, how far below a line the next one lies, and whether characters that the font
+// does not have are skipped.
 pub struct Placement {
     pub position: Point,
-    pub vertical_pos: VerticalPosition,
     pub line_height: u32,
     pub ignore_unknown_chars: bool,
 }

@@ -8,7 +8,7 @@ use Rattle.checks.proofs.origin.text_origin.Tie as tie
 
 module _ (c : tie.Start) where
   abbrev asked : Request
-  asked = plain (c .args .text .now) (c .args .placement)
+  asked = plain (c .args .text .now) (c .args .placement) (c .args .vertical-pos)
 
   text-in : TextLimits (asked .text)
   text-in = text-limits _ (c .pre .0)

@@ -25,7 +25,7 @@ module _ (c : tie.After-known-told2) where
   abbrev asked : Request
   asked =
       let a = entry .args in
-      request (a .text .now) (a .placement) (a .horizontal-align)
+      request (a .text .now) (a .placement) (a .vertical-pos) (a .horizontal-align)
 
   ascent-fits : SFits w8 (head .ascent)
   ascent-fits = search needs

@@ -12,7 +12,7 @@ returns : tie.Need-returns
 returns c =
     let a = c .before .before .before .args in
     c .aligned-dimensions .ensures
-    ∙ plain-is-left (u8g2 (a .font .now)) (plain (a .text .now) (a .placement))
+    ∙ plain-is-left (u8g2 (a .font .now)) (plain (a .text .now) (a .placement) (a .vertical-pos))
 
 pub get-rendered-dimensions-spec : {M : Type 1} → statement M
 get-rendered-dimensions-spec = tie.close (tie.spec (λ c κs. search needs) returns)

@@ -22,7 +22,7 @@ module _ (c : tie.After-aligned-dimensions) where
   abbrev asked : Request
   asked =
       let a = entry .args in
-      request (a .text .now) (a .placement) (a .horizontal-align)
+      request (a .text .now) (a .placement) (a .vertical-pos) (a .horizontal-align)
 
   box-is : box (c .aligned-dimensions .result) ≡ measureAligned (u8g2 (entry .args .font .now)) asked
   box-is = ap boxAlone (c .aligned-dimensions .ensures) ∙ aligned-box (u8g2 (entry .args .font .now)) asked

@@ -1,5 +1,5 @@
 -- A refused drawing is taken back.
-use Rattle.integers.proofs.Prelude.{ap, _∙_, needs}
+use Rattle.integers.proofs.Prelude.{ap, _∙_, arith, needs}
 use Rattle.buffers.proofs.CopyLaws.{whole}
 use Rattle.definitions.specs.Calls.{dimensionsOutcome}
 use Rattle.redraw.specs.Drawing.{asked, groundOf}
@@ -12,22 +12,22 @@ enum-told c = search needs
 
 returns : tie.Need-returns
 returns c =
-    let s = c .before .before .before .before .before .before .before .before .before .before .before .before .before .before .before .before in
+    let s = c .before .before .before .before .before .before .before .before .before .before .before .before .before .before .before .before .before in
     let a = s .args in
     let r = c .before .before .before .before .render .ensures in
-    let copied = c .before .before .before .before .before .before .before .before .before .before .copy .ensures .1 ∙ whole (a .ground .now) (a .alone .now) (s .pre) in
+    let copied = c .before .before .before .before .before .before .before .before .before .before .before .copy .ensures .1 ∙ whole (a .ground .now) (a .alone .now) (s .pre) in
     drawn-alone (a .font .now) (asked (a .place) (a .text .now)) (groundOf (a .place) (a .ground .now)) copied (r .0) (r .1)
     (ap dimensionsOutcome (c .enum-told .given .1))
 
 returns-2 : tie.Need-returns-2
 returns-2 c =
-    let s = c .before .before .before .before .before .before .before .before .before .before .before .before .before .before .before .before .before .before .before .before in
+    let s = c .before .before .before .before .before .before .before .before .before .before .before .before .before .before .before .before .before .before .before .before .before in
     let a = s .args in
     let r = c .before .before .before .before .before .before .before .before .render .ensures in
-    let copied = c .before .before .before .before .before .before .before .before .before .before .before .before .before .before .copy .ensures .1
+    let copied = c .before .before .before .before .before .before .before .before .before .before .before .before .before .before .before .copy .ensures .1
     ∙ whole (a .ground .now) (a .alone .now) (s .pre) in
     c .before .before .copy2 .ensures .1
-    ∙ whole (a .ground .now) _ (search needs)
+    ∙ whole (a .ground .now) _ (omega (arith, s .pre, c .before .before .before .before .before .before .before .before .before .before .before .before .before .before .alone .given, c .before .before .before .before .before .before .before .alone2 .given))
     ∙ refused-alone (a .font .now) (asked (a .place) (a .text .now)) (groundOf (a .place) (a .ground .now)) copied (r .0)
     (ap dimensionsOutcome (c .before .before .before .before .enum-told2 .given .1))
 

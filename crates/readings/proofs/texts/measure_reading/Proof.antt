@@ -11,7 +11,7 @@ returns c =
     let a = c .before .before .before .before .before .before .before .args in
     let w = c .before .before .before .before .write-reading in
     c .get-rendered-dimensions .ensures
-    ∙ ap (λ (t : List ℕ). measure (u8g2 (a .font .now)) (plain t (a .placement)))
+    ∙ ap (λ (t : List ℕ). measure (u8g2 (a .font .now)) (plain t (a .placement) (a .vertical-pos)))
     (to-the-end (w .last .1 .0) (w .result) 6 (c .before .before .before .text2 .given) ∙ w .ensures .1)
 
 pub measure-reading-spec : {M : Type 1} → statement M

@@ -15,7 +15,7 @@ returns c =
 
 returns-2 : tie.Need-returns-2
 returns-2 c =
-    let k = c .before .before .before .before .before in
+    let k = c .before .before .before .before .before .before in
     let g = k .before .before .get-drawn-dimensions .ensures in
     let e = sym g ∙ ap dimensionsOutcome (k .enum-told .given .1) in
     (c .before .before .draw-text .ensures .0, rw e (c .before .before .draw-text .ensures .1))

@@ -27,7 +27,7 @@ module _ (s : tie.Start) where
   setting = settingOf (s .args .font .now) (s .args .place)
 
   abbrev reading : Reading
-  reading = readingOf (s .args .new-text .now) (s .args .place .color)
+  reading = readingOf (s .args .new-text .now) (s .args .place .style .color)
 
 -- the tests passed
 module _ (c : tie.After-known-told2) where

@@ -31,7 +31,7 @@ module _ (s : tie.Start) where
 -- opening succeeded
 module _ (c : tie.After-known-told2) where
   abbrev entry : tie.Start
-  entry = c .before .before .before .before .before .before .before .before .before .before
+  entry = c .before .before .before .before .before .before .before .before .before .before .before
 
   abbrev head : FontReader
   head = c .before .head .given .0 .0
@@ -67,9 +67,9 @@ module _ (c : tie.After-known-told4) where
       sym (simp (toZ-ofZ, ascent-fits k, descent-fits k) at (c .before .before .before .checked-origin .ensures)) ∙ ap originOutcome (c .before .new-origin .given .1)
 
   -- the answer to the colour is the cause's
-  color-tested : let k = font-known old-known in let a = entry k .args in backgroundCause (a .place .color) (u8g2 (a .font .now) .background) .applies
-      ≡ backgroundOff (a .place .color) (head k .«supports_background_color»)
-  color-tested = let k = font-known old-known in sym (color-is (opened _ (head k) (opens k)) (entry k .args .place .color))
+  color-tested : let k = font-known old-known in let a = entry k .args in backgroundCause (a .place .style .color) (u8g2 (a .font .now) .background) .applies
+      ≡ backgroundOff (a .place .style .color) (head k .«supports_background_color»)
+  color-tested = let k = font-known old-known in sym (color-is (opened _ (head k) (opens k)) (entry k .args .place .style .color))
 
 returns : tie.Need-returns
 returns c =
@@ -102,7 +102,7 @@ text-origin-requires c κs =
 
 returns-4 : tie.Need-returns-4
 returns-4 c =
-    let e = c .before .before .before .before .before .before .before .before .before .before in
+    let e = c .before .before .before .before .before .before .before .before .before .before .before in
     font-refused (e .args .font .now) (e .args .old-text .now) (new e) (screen e) (sym (c .before .before .before .new-from-raw-data .ensures) ∙ ap fontReaderOutcome (c .before .error .given .1))
 
 returns-5 : tie.Need-returns-5
