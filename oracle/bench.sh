@@ -17,7 +17,7 @@ for size in 16 24 96; do
   python3 "$root/tools/make_font.py" "$bench/fonts/strokes$size.txt" "$bench/fonts/strokes$size.bin" > /dev/null
 done
 
-# build NAME OPTIONS FOR LIBRARIES -- OPTIONS FOR THE PROGRAM
+# build NAME OPTIONS OF-THE-PROGRAM: all is compiled with the options, and the program with its own besides.
 build() {
   out=$bench/$1
   compile() { rustc --edition 2021 -C opt-level=3 --cap-lints allow -L "$out" "$@"; }
@@ -29,8 +29,9 @@ build() {
   "$out/bench" "$bench/fonts" names > "$out/names"
   "$out/bench" "$bench/fonts" stack > "$out/stack"
   "$out/bench" "$bench/fonts" time > "$out/time"
-  valgrind --tool=callgrind --dump-before=bench_mark --callgrind-out-file="$out/count" "$out/bench" "$bench/fonts" count 2> "$out/log"
+  valgrind --tool=callgrind --dump-before=bench_mark --callgrind-out-file="$out/count" \
+    "$out/bench" "$bench/fonts" count 2> "$out/log"
 }
 build release "" ""
 build lto "-C codegen-units=1" "-C lto=fat"
-python3 "$here/bench_table.py" "$bench" "$root/target/staticlib/libc_api.a"
+python3 "$here/bench_table.py" "$bench" "$root/target/staticlib/libc_api.a" "$here/papayahelm.h"

@@ -1,4 +1,4 @@
-"""Prints the tables of docs/BENCHMARKS.md: bench_table.py FOLDER LIBRARY, of what oracle/bench.sh has measured there."""
+"""Prints the tables of docs/BENCHMARKS.md: bench_table.py FOLDER LIBRARY HEADER, of what oracle/bench.sh has measured there."""
 import re
 import subprocess
 import sys
@@ -32,24 +32,28 @@ def ratio(a, b, goal):
     return ('**%.2f**' if goal and a / b > goal else '%.2f') % (a / b)
 
 
+# What grows: its name, the rows in which it does, and how often a call goes over it.
+GROWTH = [('record', r'(measure), chain of ([\d,]+),', 16), ('table entry', r'(measure), jump table of ([\d,]+),', 16),
+          ('pixel', r'(draw.*), 16 pairs, ([\d,]+) pixels', 1), ('pair', r'(draw.*), 1,024 pixels, (\d+) pairs', 1)]
+
+
 def growth(names, release, lto):
-    """Instructions for one unit more, from the first size to the second and from that to the third."""
+    """Instructions for one more, from the first size to the second and from that to the third."""
     out = [('One more', 'Rust', 'Rust, LTO', 'ours')]
-    for unit, form, calls in [('record', r'(measure), chain of ([\d,]+),', 16), ('table entry', r'(measure), jump table of ([\d,]+),', 16),
-                              ('pixel', r'(draw.*), 16 pairs, (\d+) pixels', 1), ('pair', r'(draw.*), 1024 pixels, (\d+)', 1)]:
+    for unit, form, times in GROWTH:
         groups = {}
-        for i, name in enumerate(names):
+        for name, a, b in zip(names, release, lto):
             if found := re.match(form, name):
-                groups.setdefault(found[1], []).append((int(found[2].replace(',', '')) * calls, release[i][0], lto[i][0], release[i][1]))
-        for name, sizes in groups.items():
-            steps = [[(b[k] - a[k]) / (b[0] - a[0]) for a, b in zip(sizes, sizes[1:])] for k in (1, 2, 3)]
-            out.append(('%s, %s' % (unit, name), *(', '.join('%.2f' % s for s in step) for step in steps)))
+                groups.setdefault(found[1], []).append((int(found[2].replace(',', '')) * times, a[0], b[0], a[1]))
+        for call, sizes in groups.items():
+            steps = [['%.2f' % ((b[k] - a[k]) / (b[0] - a[0])) for a, b in zip(sizes, sizes[1:])] for k in (1, 2, 3)]
+            out.append(('%s, %s' % (unit, call), *map(', '.join, steps)))
     return out
 
 
 def stack_bounds(library):
-    """The most that each function of the library and what it calls can take, by its disassembly: return address, saved
-    registers, frame, and what a function writes below its frame. Callers' arguments and the C library's memset are left out."""
+    """The most that each call of the library can take below its arguments, by its disassembly: return address, saved registers,
+    frame, what a function writes below its frame, and the deepest function that it calls. memset is left out."""
     text = subprocess.run(['objdump', '-dr', '--no-show-raw-insn', library], capture_output=True, text=True, check=True).stdout
     own, calls, name = {}, {}, None
     for line in text.splitlines():
@@ -72,26 +76,35 @@ def stack_bounds(library):
     return {name: need(name) for name in own if name.startswith('papayahelm_')}
 
 
-def main(folder, library):
+def stack_arguments(header):
+    """Bytes of the arguments that do not fit the six registers."""
+    found = re.findall(r'uint32_t (papayahelm_\w+)\(([^)]*)\)', '\n'.join(lines(header)))
+    return {name: 8 * max(0, arguments.count(',') + 1 - 6) for name, arguments in found}
+
+
+def main(folder, library, header):
     names = lines(folder + '/release/names')
     release, lto = (counts('%s/%s' % (folder, build), len(names)) for build in ('release', 'lto'))
     times, lto_times = (numbers('%s/%s/time' % (folder, build)) for build in ('release', 'lto'))
     rows = []
-    for i, name in enumerate(names):
+    for name, (rust, ours), (fat, _), time, lto_time in zip(names, release, lto, times, lto_times):
         goals = GOALS[re.match(r'\w+', name)[0]]
-        (rust, ours), fat = release[i], lto[i][0]
-        rows.append((name, '{:,.0f}'.format(rust), '{:,.0f}'.format(fat), '{:,.0f}'.format(ours), ratio(ours, rust, goals[0]),
-                     ratio(ours, fat, goals[1]), '%.2f' % (times[i][1] / times[i][0]), '%.2f' % (lto_times[i][1] / lto_times[i][0])))
+        rows.append((name, *map('{:,.0f}'.format, (rust, fat, ours)), ratio(ours, rust, goals[0]), ratio(ours, fat, goals[1]),
+                     ratio(time[1], time[0], None), ratio(lto_time[1], lto_time[0], None)))
     table(('Row', 'Rust', 'Rust, LTO', 'ours', 'ours / Rust', 'ours / LTO', 'time / Rust', 'time / LTO'), *rows)
-    print('\nLargest difference of ours between the two programs: %.0f instructions a call' % max(abs(a[1] - b[1]) for a, b in zip(release, lto)))
+    apart = max(abs(a[1] - b[1]) for a, b in zip(release, lto))
+    print('\nOurs differs by at most %.0f instructions a call between the two programs.' % apart)
+
     table(*growth(names, release, lto))
-    bounds = stack_bounds(library)
-    table(('Call of the library', 'stack, at most'), *((name, str(n)) for name, n in sorted(bounds.items())))
-    stacks = [(numbers('%s/%s/stack' % (folder, build))) for build in ('release', 'lto')]
+
+    arguments = stack_arguments(header)
+    table(('Call of the library', 'bytes of stack', 'and of arguments on it'),
+          *((name, str(need), str(arguments[name])) for name, need in sorted(stack_bounds(library).items())))
+
     painted = {}
-    for name, a, b in zip(names, *stacks):
+    for name, a, b in zip(names, *(numbers('%s/%s/stack' % (folder, build)) for build in ('release', 'lto'))):
         painted.setdefault(name.split(',')[0], []).append((a[0], b[0], max(a[1], b[1])))
-    table(('Painted, with the caller', 'Rust', 'Rust, LTO', 'ours'),
+    table(('Painted, with the program around it', 'Rust', 'Rust, LTO', 'ours'),
           *((call, *(str(max(column)) for column in zip(*found))) for call, found in painted.items()))
 
 

@@ -44,6 +44,11 @@ struct Input {
     call: Call,
 }
 
+/// A number as the table has it.
+fn grouped(n: usize) -> String {
+    if n < 1000 { n.to_string() } else { format!("{},{:03}", n / 1000, n % 1000) }
+}
+
 fn inputs(folder: &str) -> Vec<Input> {
     let file = |name: &str| std::fs::read(format!("{folder}/{name}.bin")).expect("a font of oracle/bench.sh");
     let (gauge, strokes) = (file("gauge"), file("strokes16"));
@@ -78,19 +83,19 @@ fn inputs(folder: &str) -> Vec<Input> {
     for (side, place) in [("above", (2, 8)), ("below", (2, 136)), ("left", (-28, 100)), ("right", (226, 100))] {
         add(&DRAWING, &format!("16 px, half off: {side}"), &strokes, "-12.5°", place, 11);
     }
-    for (name, sizes) in [("chain", [1250, 2500, 5000]), ("jump table", [1250, 2500, 5000])] {
-        for n in sizes {
-            let thousands = format!("{},{:03}", n / 1000, n % 1000);
-            let (font, letter) = if name == "chain" { (noise(n, 0), "\u{ff}") } else { (noise(0, n), "\u{ffff}") };
+    for table in [false, true] {
+        for n in [1250, 2500, 5000] {
+            let (name, font, letter) =
+                if table { ("jump table", noise(0, n), "\u{ffff}") } else { ("chain", noise(n, 0), "\u{ff}") };
             let calls = if n == 5000 { &all } else { &all[..1] };
-            add(calls, &format!("{name} of {thousands}, 16 letters"), &font, &letter.repeat(16), here, 11);
+            add(calls, &format!("{name} of {}, 16 letters", grouped(n)), &font, &letter.repeat(16), here, 11);
         }
     }
     for width in [32, 64, 128] {
-        add(&DRAWING, &format!("16 pairs, {} pixels", 16 * width), &stripes(width, 1, true), "0", here, 11);
+        add(&DRAWING, &format!("16 pairs, {} pixels", grouped(16 * width)), &stripes(width, 1, true), "0", here, 11);
     }
     for pairs in [2, 4, 8] {
-        add(&DRAWING, &format!("1024 pixels, {} pairs", 16 * pairs), &stripes(64, pairs, false), "0", here, 11);
+        add(&DRAWING, &format!("1,024 pixels, {} pairs", 16 * pairs), &stripes(64, pairs, false), "0", here, 11);
     }
     out
 }

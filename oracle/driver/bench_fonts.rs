@@ -102,11 +102,15 @@ pub fn noise(chain: usize, table: usize) -> Vec<u8> {
 
 /// One letter, "0", of 16 rows, `width` pixels wide. Each row is `pairs` pairs of as many zeros as ones; where `repeated` is
 /// false no pair is equal to the one before it.
-pub fn stripes(width: u32, pairs: u32, repeated: bool) -> Vec<u8> {
-    let half = width / pairs / 2;
-    let runs: Vec<(u32, u32)> =
-        (0..16 * pairs).map(|i| if repeated { (half, half) } else { (half - 1 + i % 2 * 2, half + 1 - i % 2 * 2) }).collect();
-    let data = glyph(&LARGE, width, 16, 100, &runs);
+pub fn stripes(width: usize, pairs: usize, repeated: bool) -> Vec<u8> {
+    let half = (width / pairs / 2) as u32;
+    let pair = |i: usize| match i % 2 {
+        _ if repeated => (half, half),
+        0 => (half - 1, half + 1),
+        _ => (half + 1, half - 1),
+    };
+    let runs: Vec<(u32, u32)> = (0..16 * pairs).map(pair).collect();
+    let data = glyph(&LARGE, width as u32, 16, 100, &runs);
     let mut font = header(&LARGE);
     font.extend([48, u8::try_from(2 + data.len()).expect("a record of up to 255 bytes")]);
     font.extend(data);
