@@ -4,6 +4,7 @@
 set -eu
 here=$(cd "$(dirname "$0")" && pwd)
 root=$(dirname "$here")
+command -v valgrind > /dev/null || { echo "bench: valgrind is needed" >&2; exit 1; }
 "$here/build.sh" "${1:-$root/../shared/docs/src}"
 bench=$root/target/oracle/bench
 rm -rf "$bench"

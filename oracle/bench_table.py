@@ -93,7 +93,7 @@ def main(folder, library, header):
                      ratio(time[1], time[0], None), ratio(lto_time[1], lto_time[0], None)))
     table(('Row', 'Rust', 'Rust, LTO', 'ours', 'ours / Rust', 'ours / LTO', 'time / Rust', 'time / LTO'), *rows)
     apart = max(abs(a[1] - b[1]) for a, b in zip(release, lto))
-    print('\nOurs differs by at most %.0f instructions a call between the two programs.' % apart)
+    print('\nThe most by which ours differs between the two programs, in instructions a call: %.0f.' % apart)
 
     table(*growth(names, release, lto))
 
