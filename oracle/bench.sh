@@ -1,29 +1,38 @@
 #!/usr/bin/env bash
-# The benchmark: oracle/bench.sh [FOLDER]. Both sides in release: the Rust as `rustc -C opt-level=3` makes it, without overflow
-# checks, and our static library as `rt staticlib` makes it. Prints nanoseconds a call (Rust, ours, ratio ours / Rust), then
-# instructions a call (by valgrind's callgrind), in the order of the inputs.
+# The benchmark of docs/BENCHMARKS.md: oracle/bench.sh [FOLDER]. Prints its tables. Two builds of the Rust: as `cargo build
+# --release` makes it, and with `lto=fat` and one codegen unit. Ours is the static library of `rt staticlib` in both.
 set -eu
 here=$(cd "$(dirname "$0")" && pwd)
 root=$(dirname "$here")
+command -v valgrind > /dev/null || { echo "bench: valgrind is needed" >&2; exit 1; }
 "$here/build.sh" "${1:-$root/../shared/docs/src}"
-out=$root/target/oracle/release
-mkdir -p "$out"
-compile() { rustc --edition 2021 -C opt-level=3 --cap-lints allow -L "$out" "$@"; }
-core=$out/libembedded_graphics_core.rlib
-compile --crate-type rlib --crate-name embedded_graphics_core -o "$core" "$here/embedded_graphics_core.rs"
-compile --crate-type rlib --crate-name u8g2_fonts --extern "embedded_graphics_core=$core" -o "$out/libu8g2_fonts.rlib" \
-  "$root/target/oracle/tree/lib.rs"
-compile --crate-type bin --crate-name bench --extern "embedded_graphics_core=$core" --extern "u8g2_fonts=$out/libu8g2_fonts.rlib" \
-  -L "$root/target/staticlib" -l static=c_api -o "$out/bench" "$here/driver/bench.rs"
+bench=$root/target/oracle/bench
+rm -rf "$bench"
+mkdir -p "$bench/fonts" "$bench/release" "$bench/lto"
 
-echo "nanoseconds a call: Rust, ours, ours / Rust"
-"$out/bench"
-echo "instructions a call: Rust, ours, ours / Rust"
-instructions() {
-  valgrind --tool=callgrind --callgrind-out-file=/dev/null "$out/bench" count "$1" "$2" "$3" 2>&1 | sed -n 's/.*Collected : //p'
-}
-"$out/bench" count | while read -r i name; do
-  a=$((($(instructions "$i" rust 12) - $(instructions "$i" rust 2)) / 10))
-  b=$((($(instructions "$i" ours 12) - $(instructions "$i" ours 2)) / 10))
-  awk -v name="$name" -v a="$a" -v b="$b" 'BEGIN { printf "%-55s %12d %12d %7.2f\n", name, a, b, b / a }'
+cp "$root/fonts/gauge.bin" "$bench/fonts"
+for size in 16 24 96; do
+  letters=()
+  [ $size = 96 ] && letters=(-125.°)
+  python3 "$root/tools/stroke_font.py" "$root/fonts/strokes.txt" $size "${letters[@]}" > "$bench/fonts/strokes$size.txt"
+  python3 "$root/tools/make_font.py" "$bench/fonts/strokes$size.txt" "$bench/fonts/strokes$size.bin" > /dev/null
 done
+
+# build NAME OPTIONS OF-THE-PROGRAM: all is compiled with the options, and the program with its own besides.
+build() {
+  out=$bench/$1
+  compile() { rustc --edition 2021 -C opt-level=3 --cap-lints allow -L "$out" "$@"; }
+  core=(--extern "embedded_graphics_core=$out/libembedded_graphics_core.rlib")
+  compile $2 --crate-type rlib --crate-name embedded_graphics_core --out-dir "$out" "$here/embedded_graphics_core.rs"
+  compile $2 --crate-type rlib --crate-name u8g2_fonts "${core[@]}" --out-dir "$out" "$root/target/oracle/tree/lib.rs"
+  compile $2 $3 --crate-type bin --crate-name bench "${core[@]}" --extern "u8g2_fonts=$out/libu8g2_fonts.rlib" \
+    -L "$root/target/staticlib" -l static=c_api --out-dir "$out" "$here/driver/bench.rs"
+  "$out/bench" "$bench/fonts" names > "$out/names"
+  "$out/bench" "$bench/fonts" stack > "$out/stack"
+  "$out/bench" "$bench/fonts" time > "$out/time"
+  valgrind --tool=callgrind --dump-before=bench_mark --callgrind-out-file="$out/count" \
+    "$out/bench" "$bench/fonts" count 2> "$out/log"
+}
+build release "" ""
+build lto "-C codegen-units=1" "-C lto=fat"
+python3 "$here/bench_table.py" "$bench" "$root/target/staticlib/libc_api.a" "$here/papayahelm.h"
