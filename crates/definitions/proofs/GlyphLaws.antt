@@ -11,7 +11,7 @@ use Rattle.definitions.specs.Glyph.{unlessEnds, fields, fromSearch, glyp
 use Rattle.definitions.specs.FontT.{T}
 use Rattle.definitions.proofs.BitsLaws.{SignedByte, read-inside, read-longer, unsigned-range, signed-range}
 
--- Glyph data reaches to the font's end, not to the next record: T with the jump of "4" cut from 5 to 3.
+-- A glyph may go on past its jump: T with the jump of "4" cut from 5 to 3.
 pub past-the-jump : glyph (set T 29 3) 52 ≡ glyph T 52
 unfolding T header signed8 glyph fields search record8 chain readAt bits lowBits number
 past-the-jump = refl

@@ -11,7 +11,7 @@ use Rattle.definitions.specs.Header.{byte, bigEndian16, header}
 use Rattle.definitions.specs.Lookup.{found, missing, short, Record, here, next, last, cut, record8, record16, follow, chain}
 use Rattle.definitions.specs.Lookup.{Distance, sum, none, jumpTable, chainStart, tableStart, fromTable, searchTable, search}
 
--- The code is compared before the jump is seen: a record with jump 0 is found.
+-- A record with jump 0 is found, since its code comes first.
 pub code-first : record8 45 (45 ∷ 0 ∷ []) ≡ here 2
 unfolding record8
 code-first = refl

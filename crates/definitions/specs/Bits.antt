@@ -26,7 +26,7 @@ pub data Read : Type 0 where
   got : ℕ → Read
   ends : Read
 
--- A read of b bits: at least one bit is left after it, as a read that ends after p bits of n bytes needs p < 8 × n.
+-- A read of b bits. It succeeds only if a bit is left after it.
 abbrev pub read : ℕ → List ℕ → Read
 read b s = pick (ltb b (length s)) (got (number (take b s))) ends
 
@@ -34,6 +34,6 @@ read b s = pick (ltb b (length s)) (got (number (take b s))) ends
 unfoldable pub readAt : List ℕ → ℕ → ℕ → Read
 readAt font at b = read b (drop at (bits font))
 
--- An offset or advance of b bits is the number read less 2 to the power b − 1.
+-- The value of a signed field: b bits, biased by half of their range.
 abbrev pub biased : ℕ → ℕ → ℤ
 biased b n = pos n -ℤ pos (2 ^ (b - 1))

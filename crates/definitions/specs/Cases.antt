@@ -239,7 +239,7 @@ cases =
     ∷ record { given = measuredAt T (196 ∷ 128 ∷ []); expected = measured (refused 7 256) }
     ∷ record { given = measuredAt T (240 ∷ 144 ∷ 128 ∷ 128 ∷ []); expected = measured (refused 7 65536) }
     ∷ record { given = measuredAt T (0 ∷ []); expected = measured (refused 8 0) }
-    -- skipping turns 7 into advance 0 and no box: "A", and "-A4"; it does not hide 8: "-", U+0000, "4"
+    -- unknown letters skipped: "A", and "-A4"; an 8 is never: "-", U+0000, "4"
     ∷ record { given = measuredWith true T (65 ∷ []); expected = measured (dims (pos 0) (pos 0) None) }
     ∷ record {
       given = drawnWith (Transparent 1) true T (45 ∷ 65 ∷ 52 ∷ []);

@@ -1,4 +1,4 @@
--- Document 01, boxes: when a cell lies in one, and "Boxes join to the smallest rectangle over both".
+-- Document 01, boxes: when a cell lies in one, and the join of two.
 use Prim.Native.Nat.{ℕ}
 use lib.IntN.{ℤ, pos, negsuc, natAbs, _+ℤ_, _-ℤ_}
 use lib.Signed.{_≤ℤ_, _<ℤ_}

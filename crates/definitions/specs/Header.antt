@@ -53,7 +53,7 @@ header font = record {
   «line_height» = defaultLineHeight font;
 }
 
--- Cause 1: a font has 23 to 1,048,576 bytes.
+-- Cause 1: too few bytes for a header, or more than a mebibyte.
 abbrev pub lengthOff : List ℕ → Bool
 lengthOff font = ltb (length font) 23 || ltb 1048576 (length font)
 

@@ -11,11 +11,11 @@ use Rattle.definitions.specs.Vocabulary.{Point, FontColor, Transparent, 
 use Rattle.definitions.specs.Refusals.{Cause}
 use Rattle.definitions.specs.Utf8.{decode, isUtf8}
 
--- Cause 4: a text has 0 to 4,096 bytes of UTF-8.
+-- Cause 4: the text is too long, or not UTF-8.
 abbrev pub textCause : List ℕ → Cause
 textCause text = record { number = 4; applies = ltb 4096 (length text) || not (isUtf8 (decode text)) }
 
--- x and y each lie from −1,048,576 to 1,048,576
+-- a coordinate beyond 2 to the power 20, on either side
 abbrev pub coordinateOff : ℤ → Bool
 coordinateOff z = ltZ z (negsuc 1048575) || ltZ (pos 1048576) z
 

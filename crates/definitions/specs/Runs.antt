@@ -23,19 +23,18 @@ abbrev pub unlessCut : Read → (ℕ → Pixels) → Pixels
 unlessCut (got n) rest = rest n
 unlessCut ends rest = cut
 
--- A zero run then a one run, both numbers read before a pixel is set.
+-- A pair: how many zeros, then how many ones. Both numbers come before any pixel.
 abbrev pub readPair : ℕ → ℕ → List ℕ → (ℕ → ℕ → Pixels) → Pixels
 readPair m0 m1 s rest = unlessCut (read m0 s) (λ zeros. unlessCut (read m1 (drop m0 s)) (λ ones. rest zeros ones))
 
--- The pixels of a pair, n being missing: the reading stops at the last one, in the middle of a run if it must. What is
--- still missing after the pair is `rest`.
+-- The pixels of a pair, n being missing: of a longer pair only the first n count. What is still missing after it is `rest`.
 abbrev pub pair : ℕ → ℕ → ℕ → (ℕ → Pixels) → Pixels
 pair n zeros ones rest =
     pick (leb n (zeros + ones))
     (pixels (take n (replicate zeros 0 ++ replicate ones 1)))
     (prepend (replicate zeros 0 ++ replicate ones 1) (rest (n - (zeros + ones))))
 
--- While n pixels are missing, one bit follows: 1 repeats the pair, 0 brings a new pair.
+-- As long as n pixels are missing a bit is read: a one stands for the same pair, after a zero comes another.
 unfoldable pub afterPair : ℕ → ℕ → ℕ → ℕ → ℕ → ℕ → List ℕ → Pixels
 afterPair m0 m1 n zeros ones skip [] = cut
 afterPair m0 m1 n zeros ones (suc skip) (b ∷ s) = afterPair m0 m1 n zeros ones skip s

@@ -21,12 +21,12 @@ pub data Answer : Type 0 where
   nothing : Answer
   stops : ℕ → ℕ → Answer
 
--- Skipping unknown letters turns 7 into advance 0 and no box; it never hides 8.
+-- A letter that is skipped shows nothing. Only an unknown one is (7), and none that the font's end cuts off (8).
 abbrev pub answer : Bool → Outcome GlyphReader → Answer
 answer skip (success g) = shows g
 answer skip (refused n c) = pick (skip && eqb n 7) nothing (stops n c)
 
--- The box of a glyph at (X, Y): left X + x, top Y − (h + y). If w or h is 0 there is none.
+-- The box of a glyph at a place: its offsets count to the right and upwards, to its lowest row. Without pixels it has none.
 abbrev pub boxAt : ℤ → ℤ → GlyphReader → BoundingBox
 boxAt x y g =
     pick (eqb (g .«glyph_width») 0 || eqb (g .«glyph_height») 0) None
@@ -62,7 +62,7 @@ point x y = record { x = x; y = y }
 abbrev pub before : List Placed → Layout → Layout
 before ps rest = record { glyphs = ps ++ rest .glyphs; advance = rest .advance }
 
--- The text's advance is the last one, its box all its letters' boxes joined, or none.
+-- What a layout comes to: the advance at its end, and the join of its boxes.
 abbrev pub dimensionsOf : BoundingBox → Outcome Point → Outcome RenderedDimensions
 dimensionsOf box advance = andThen advance (λ a. success record { advance = a; «bounding_box» = box })
 
@@ -71,7 +71,7 @@ dimensions l = dimensionsOf (joinAll (l .glyphs)) (l .advance)
 
 -- ---- a line is letters
 
--- A letter stands at the origin moved by the advance so far, and then adds its own advance to x.
+-- Each letter is put where the advance so far leads; its own is added for the next.
 abbrev pub place : Point → Point → Answer → (Point → Layout) → Layout
 place origin advance (shows g) rest =
     before
@@ -100,7 +100,7 @@ unfoldable pub lines : List ℕ → Lines
 lines [] = last []
 lines (c ∷ cs) = pick (eqb c 10) (first [] (lines cs)) (toFirst c (lines cs))
 
--- A newline sets advance x to 0 and adds line height to y.
+-- the start of the next line
 abbrev pub newline : ℕ → Point → Point
 newline lineHeight advance = point (pos 0) (advance .y +ℤ pos lineHeight)
 

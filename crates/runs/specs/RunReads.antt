@@ -46,7 +46,7 @@ pairAt font m0 m1 at =
     unlessEnds (readAt font at m0) (λ zeros.
     unlessEnds (readAt font (at + m0) m1) (λ ones. Pair (record { zeros = zeros; ones = ones; «bit_pos» = at + m0 + m1 })))
 
--- One bit follows a pair: 1 repeats the pair, 0 brings a new pair.
+-- The pair after a pair: a one stands for the same pair, after a zero comes another.
 unfoldable pub nextPair : List ℕ → ℕ → ℕ → Runs → RunsRead
 nextPair font m0 m1 runs =
     unlessEnds (readAt font (runs .«bit_pos») 1) (λ repeat.
