@@ -1,16 +1,19 @@
 -- A glyph's fields one by one: what is left of the definition after each read, and where the next one begins. Assumes nothing.
-use Rattle.integers.proofs.Prelude.{_≡_, List, ℕ, _+_, _*_, _<_, ℤ, length}
+use Rattle.integers.proofs.Prelude.{_≡_, sym, ap, _∙_, List, ℕ, _+_, _*_, _/_, _%_, _^_, _≤_, _<_, add-zero, div-one, arith, ℤ, length, take, drop}
+use Rattle.definitions.specs.Header.{Opened}
 use Rattle.definitions.specs.Vocabulary.{FontReader, GlyphReader}
 use Rattle.definitions.specs.Refusals.{Outcome, success, refused}
-use Rattle.definitions.specs.Bits.{readAt, biased}
-use Rattle.definitions.specs.Glyph.{unlessEnds, field}
-use Rattle.definitions.proofs.BitsLaws.{read-inside}
+use Rattle.definitions.specs.Bits.{bits, number, got, readAt, biased}
+use Rattle.definitions.specs.Glyph.{unlessEnds, field, fields}
+use Rattle.definitions.proofs.BitsLaws.{read-got, read-inside}
+use Rattle.glyph_reader.specs.Window.{window}
 use Rattle.glyph_reader.specs.BitReads.{unsignedRead, signedRead}
 use Rattle.glyph_reader.specs.declared.BitReader.{BitReader}
 use Rattle.glyph_reader.specs.declared.UnsignedRead.{UnsignedRead}
 use Rattle.glyph_reader.specs.declared.UnsignedRead.the-variants as unsigned
 use Rattle.glyph_reader.specs.declared.SignedRead.{SignedRead}
 use Rattle.glyph_reader.specs.declared.SignedRead.the-variants as signed
+use Rattle.glyph_reader.proofs.WindowLaws.{window-part, window-small}
 use Rattle.glyph_reader.proofs.ReadLaws.{unsigned-value, unsigned-ends, signed-value, signed-ends}
 
 module _ (font : List ℕ) (at b : ℕ) {answer : UnsignedRead} (e : answer ≡ unsignedRead (readAt font at b) (at + b)) where
@@ -51,3 +54,50 @@ module _ (font : List ℕ) (head : FontReader) (c : ℕ) where
 
   abbrev pub afterW : ℕ → ℕ → Outcome GlyphReader
   afterW w at = field font c (head .«bitcnt_h») at (λ h at. afterH w h at)
+
+-- ---- the fields by one fetch of 64 bits, which have them all
+
+module _ (font : List ℕ) (head : FontReader) (c start word : ℕ) (o : Opened font head) (inside : start + 8 ≤ length font) (e : word ≡ window 64 font start) where
+  abbrev w : ℕ
+  w = head .«bitcnt_w»
+
+  abbrev h : ℕ
+  h = head .«bitcnt_h»
+
+  abbrev x : ℕ
+  x = head .«bitcnt_x»
+
+  abbrev y : ℕ
+  y = head .«bitcnt_y»
+
+  abbrev d : ℕ
+  d = head .«bitcnt_d»
+
+  -- the b bits from the bit s on
+  fetched : (b s : ℕ) → s + b ≤ 40 → (rest : ℕ → ℕ → Outcome GlyphReader) → field font c b (start * 8 + s) rest ≡ rest (word / 2 ^ s % 2 ^ b) (start * 8 + (s + b))
+  fetched b s k rest =
+      let at : 8 * start + s ≡ start * 8 + s = omega arith in
+      let end : start * 8 + s + b ≡ start * 8 + (s + b) = omega arith in
+      let n = window-part 64 font start word s b (omega (arith, e, window-small 64 font start)) (omega arith) in
+      let r : readAt font (start * 8 + s) b ≡ got (word / 2 ^ s % 2 ^ b) =
+      read-got font (start * 8 + s) b (omega arith) ∙ ap got (ap (λ (p : ℕ). number (take b (drop p (bits font)))) (sym at) ∙ sym n) in
+      rw (r, end)
+
+  first : (rest : ℕ → ℕ → Outcome GlyphReader) → field font c w (start * 8) rest ≡ rest (word % 2 ^ w) (start * 8 + w)
+  first rest = let z : 0 + w ≡ w = omega arith in simp (add-zero, div-one, z) at (fetched w 0 (omega (arith, o .w)) rest)
+
+  abbrev pub fetchedGlyph : GlyphReader
+  fetchedGlyph =
+      metrics (word % 2 ^ w) (word / 2 ^ w % 2 ^ h) (biased x (word / 2 ^ (w + h) % 2 ^ x)) (biased y (word / 2 ^ (w + h + x) % 2 ^ y))
+      (biased d (word / 2 ^ (w + h + x + y) % 2 ^ d)) (start * 8 + (w + h + x + y + d))
+
+  pub whole-is : fields font head c (start * 8) ≡ success fetchedGlyph
+  unfolding fields
+  whole-is =
+      first (afterW font head c)
+      ∙ fetched h w (omega (arith, o .w, o .h)) (afterH font head c (word % 2 ^ w))
+      ∙ fetched x (w + h) (omega (arith, o .w, o .h, o .x)) (λ n at. afterX font head c (word % 2 ^ w) (word / 2 ^ w % 2 ^ h) (biased x n) at)
+      ∙ fetched y (w + h + x) (omega (arith, o .w, o .h, o .x, o .y))
+      (λ n at. afterY font head c (word % 2 ^ w) (word / 2 ^ w % 2 ^ h) (biased x (word / 2 ^ (w + h) % 2 ^ x)) (biased y n) at)
+      ∙ fetched d (w + h + x + y) (omega (arith, o .w, o .h, o .x, o .y, o .d))
+      (λ n at. success (metrics (word % 2 ^ w) (word / 2 ^ w % 2 ^ h) (biased x (word / 2 ^ (w + h) % 2 ^ x)) (biased y (word / 2 ^ (w + h + x) % 2 ^ y)) (biased d n) at))

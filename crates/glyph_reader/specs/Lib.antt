@@ -1,1 +1,2 @@
 pub mod BitReads
+pub mod Window

@@ -1,15 +1,20 @@
-// The fields of a glyph, read bit by bit from the font's bytes (01, "Bits, fields, cells").
+// The fields of a glyph, read from the font's bits (01, "Bits, fields, cells").
+pub mod window;
+
 ghost use mathlib.Core.Path.{_≡_};
-ghost use Prim.Native.Nat.{_+_, _*_, _≤_};
-ghost use lib.ListN.{length, getD};
-ghost use Rattle.definitions.specs.Bits.{readAt};
+ghost use Prim.Native.Nat.{ℕ, _+_, _*_, _%_, _^_, _≤_, _<_};
+ghost use lib.ListN.{length};
+ghost use Rattle.definitions.specs.Bits.{readAt, biased};
 ghost use Rattle.definitions.specs.Glyph.{fields, glyphOutcome};
 ghost use Rattle.definitions.specs.Header.{Opened};
+ghost use Rattle.definitions.specs.Refusals.{success};
 ghost use Rattle.glyph_reader.specs.BitReads.{unsignedRead, signedRead};
 use types::error::Error;
 use types::font_reader::FontReader;
 use types::glyph_reader::GlyphReader;
 use types::results::GlyphResult;
+use window::byte_or_zero;
+use window::long_at;
 
 // Where the next read begins: a bit of the font, counted from its first byte's lowest.
 pub struct BitReader {
@@ -27,14 +32,13 @@ pub enum SignedRead {
     Ends,
 }
 
-// The byte at i, or 0 past the font's end.
-pub fn byte_or_zero(font: &[u8], i: usize) -> u32
-    ensures { λ r. ⌜ (r ≡ getD (now (font .entry)) i 0) × (r ≤ 255) ⌝ }
+// A number of 1 to 8 bits, less half of their range (01's 2 to the power b − 1).
+fn biased_by_half(value: u8, bits: u8) -> i8
+    requires { ⌜ ((1 ≤ bits) × (bits ≤ 8)) × (value < 2 ^ bits) ⌝ }
+    ensures { λ r. ⌜ r ≡ biased bits value ⌝ }
 {
-    if i < font.len() {
-        return font[i] as u32;
-    }
-    0
+    let half = 1u32 << (bits - 1);
+    ((value as i32) - (half as i32)) as i8
 }
 
 impl BitReader {
@@ -55,7 +59,7 @@ impl BitReader {
         UnsignedRead::Value(value, BitReader { bit_pos: end })
     }
 
-    // 1 to 8 bits, less half of their range (01's 2 to the power b − 1).
+    // 1 to 8 bits, biased.
     pub fn read_signed(self, font: &[u8], bits: u8) -> SignedRead
         requires { ⌜ ((1 ≤ bits) × (bits ≤ 8)) × ((length (now font) ≤ 1048576) × (self .«bit_pos» ≤ 16777216)) ⌝ }
         ensures { λ r. ⌜ r ≡ signedRead bits (readAt (now (font .entry)) (self .«bit_pos») bits) (self .«bit_pos» + bits) ⌝ }
@@ -63,13 +67,12 @@ impl BitReader {
         let UnsignedRead::Value(value, next) = self.read_unsigned(font, bits) else {
             return SignedRead::Ends;
         };
-        let half = 1u32 << (bits - 1);
-        SignedRead::Value(((value as i32) - (half as i32)) as i8, next)
+        SignedRead::Value(biased_by_half(value, bits), next)
     }
 }
 
-// The glyph of ch, whose fields begin at the byte `start` of the font: GlyphReader::new of the Rust.
-pub fn new(font: &[u8], head: FontReader, ch: u32, start: usize) -> GlyphResult
+// The fields from the byte `start` on, read one by one, as the font may end in them.
+fn read_fields(font: &[u8], head: FontReader, ch: u32, start: usize) -> GlyphResult
     requires { ⌜ Opened (now font) head × (start ≤ length (now font)) ⌝ }
     ensures { λ r. ⌜ glyphOutcome r ≡ fields (now (font .entry)) head ch (start * 8) ⌝ }
 {
@@ -97,4 +100,53 @@ pub fn new(font: &[u8], head: FontReader, ch: u32, start: usize) -> GlyphResult
         advance,
         bit_pos: reader.bit_pos,
     })
+}
+
+// The number of the lowest bits, `width` of them.
+fn unsigned_field(bits: u64, width: u8) -> u8
+    requires { ⌜ width ≤ 8 ⌝ }
+    ensures { λ r. ⌜ r ≡ bits % 2 ^ width ⌝ }
+{
+    (bits % ((1u32 << width) as u64)) as u8
+}
+
+// The same, less half of its range.
+fn signed_field(bits: u64, width: u8) -> i8
+    requires { ⌜ (1 ≤ width) × (width ≤ 8) ⌝ }
+    ensures { λ r. ⌜ r ≡ biased width (bits % 2 ^ width) ⌝ }
+{
+    biased_by_half(unsigned_field(bits, width), width)
+}
+
+// The fields where the font has eight bytes from `start` on, by one fetch: they have 40 bits at most, so the font does not end
+// in them.
+fn whole_fields(font: &[u8], head: FontReader, start: usize) -> GlyphReader
+    requires { ⌜ Opened (now font) head × (start + 8 ≤ length (now font)) ⌝ }
+    ensures { λ r. ⌜ ((c : ℕ) → success r ≡ fields (now (font .entry)) head c (start * 8)) ⌝ }
+{
+    let bits = long_at(font, start);
+    let h = head.bitcnt_w;
+    let x = h + head.bitcnt_h;
+    let y = x + head.bitcnt_x;
+    let d = y + head.bitcnt_y;
+    let end = d + head.bitcnt_d;
+    GlyphReader {
+        glyph_width: unsigned_field(bits, head.bitcnt_w),
+        glyph_height: unsigned_field(bits >> h, head.bitcnt_h),
+        offset_x: signed_field(bits >> x, head.bitcnt_x),
+        offset_y: signed_field(bits >> y, head.bitcnt_y),
+        advance: signed_field(bits >> d, head.bitcnt_d),
+        bit_pos: start * 8 + (end as usize),
+    }
+}
+
+// The glyph of ch, whose fields begin at the byte `start` of the font: GlyphReader::new of the Rust.
+pub fn new(font: &[u8], head: FontReader, ch: u32, start: usize) -> GlyphResult
+    requires { ⌜ Opened (now font) head × (start ≤ length (now font)) ⌝ }
+    ensures { λ r. ⌜ glyphOutcome r ≡ fields (now (font .entry)) head ch (start * 8) ⌝ }
+{
+    if start + 8 <= font.len() {
+        return GlyphResult::Ok(whole_fields(font, head, start));
+    }
+    read_fields(font, head, ch, start)
 }
