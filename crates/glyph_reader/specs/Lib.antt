@@ -1,2 +1,1 @@
-pub mod BitReads
 pub mod Window
