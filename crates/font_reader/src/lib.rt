@@ -108,13 +108,15 @@ pub fn new_from_raw_data(font: &[u8]) -> FontReaderResult
     FontReaderResult::Ok(read_header(font))
 }
 
-// What the font answers to a code point: its glyph, or 01's number 7 or 8.
+// What the font answers to a code point: its glyph, or 01's number 7 or 8. The header is read anew, as only a few of its numbers
+// are needed: the compiler does not inline this function, and would copy all of `head` for each letter.
 pub fn retrieve_glyph_data(font: &[u8], head: FontReader, ch: u32) -> GlyphResult
     requires { ⌜ Opened (now font) head ⌝ }
     ensures { λ r. ⌜ glyphOutcome r ≡ glyph (now (font .entry)) ch ⌝ }
 {
-    match glyph_searcher::search(font, head, ch) {
-        SearchResult::Found(start) => glyph_reader::new(font, head, ch, start),
+    let header = read_header(font);
+    match glyph_searcher::search(font, header, ch) {
+        SearchResult::Found(start) => glyph_reader::new(font, header, ch, start),
         SearchResult::GlyphNotFound => GlyphResult::Err(Error::GlyphNotFound(ch)),
         SearchResult::FontEnds => GlyphResult::Err(Error::FontEnds(ch)),
     }

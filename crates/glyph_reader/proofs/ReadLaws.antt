@@ -1,17 +1,10 @@
--- The width's power of two as the code has it, and what the answers of the bit reader say of the read. Assumes nothing.
-use Rattle.integers.proofs.Prelude.{_≡_, refl, ap, _∙_, ℕ, _+_, _-_, _*_, _%_, _^_, _≤_, _<_, one-mul, mod-lt, lt-of-lt-of-le, arith, ℤ, pos, _-ℤ_}
+-- The width's power of two as the code has it, and a number less half of its range. Assumes nothing.
+use Rattle.integers.proofs.Prelude.{_≡_, ap, _∙_, ℕ, _+_, _-_, _*_, _%_, _^_, _≤_, _<_, one-mul, mod-lt, lt-of-lt-of-le, arith, pos, _-ℤ_}
 use Rattle.integers.proofs.Prelude.{w8, w32, SFits, toZ, ofZ, toZ-ofZ, toZ-pos}
 use lib.Pow.{pow-pos, pow-mono, shl-exact}
-use Rattle.integers.proofs.Choices.{impossible}
 use Rattle.integers.proofs.Laws.{zarith, minus, range}
-use Rattle.definitions.specs.Bits.{Read, got, ends, biased}
+use Rattle.definitions.specs.Bits.{biased}
 use Rattle.definitions.proofs.BitsLaws.{biased-range}
-use Rattle.glyph_reader.specs.BitReads.{unsignedRead, signedRead}
-use Rattle.glyph_reader.specs.declared.BitReader.{BitReader}
-use Rattle.glyph_reader.specs.declared.UnsignedRead.{UnsignedRead}
-use Rattle.glyph_reader.specs.declared.UnsignedRead.the-variants as unsigned
-use Rattle.glyph_reader.specs.declared.SignedRead.{SignedRead}
-use Rattle.glyph_reader.specs.declared.SignedRead.the-variants as signed
 
 -- ---- 1 shifted left
 
@@ -68,28 +61,3 @@ module _ (b n : ℕ) (h : (1 ≤ b) × (b ≤ 8)) (k : n < 2 ^ b) where
   biased-is =
       let r = half-bounds in
       narrow-is (omega (arith, pow-mono (h .1))) (omega (zarith, r .0)) (r .1) (omega (arith, r .0)) ∙ ap (λ (p : ℕ). pos n -ℤ pos p) half-is
-
--- ---- answers
-
--- A value answered is the number read, and the reader after it stands at the next bit.
-pub unsigned-value : (r : Read) (at : ℕ) {n : ℕ} {next : BitReader} {answer : UnsignedRead} → answer ≡ unsignedRead r at → answer ≡ unsigned.Value n next
-    → (r ≡ got n) × (next .«bit_pos» ≡ at)
-unfolding unsignedRead
-unsigned-value (got m) at e f = (cc, cc)
-unsigned-value ends at e f = impossible cc
-
-pub unsigned-ends : (r : Read) (at : ℕ) {answer : UnsignedRead} → answer ≡ unsignedRead r at → answer ≡ unsigned.Ends → r ≡ ends
-unfolding unsignedRead
-unsigned-ends (got m) at e f = impossible cc
-unsigned-ends ends at e f = refl
-
-pub signed-value : (b : ℕ) (r : Read) (at : ℕ) {z : ℤ} {next : BitReader} {answer : SignedRead} → answer ≡ signedRead b r at → answer ≡ signed.Value z next
-    → (n : ℕ) × ((r ≡ got n) × ((z ≡ biased b n) × (next .«bit_pos» ≡ at)))
-unfolding signedRead
-signed-value b (got n) at e f = (n, (refl, (cc, cc)))
-signed-value b ends at e f = impossible cc
-
-pub signed-ends : (b : ℕ) (r : Read) (at : ℕ) {answer : SignedRead} → answer ≡ signedRead b r at → answer ≡ signed.Ends → r ≡ ends
-unfolding signedRead
-signed-ends b (got m) at e f = impossible cc
-signed-ends b ends at e f = refl

@@ -1,1 +1,1 @@
-pub mod BitReads
+pub mod Window

@@ -1,4 +1,3 @@
-pub mod WindowLaws
 pub mod PairLaws
 pub mod RunReadsLaws
 pub mod StandsLaws

@@ -4,10 +4,10 @@ use Rattle.integers.proofs.Prelude.{le-ltb, eq-eqb, ne-eqb}
 use lib.Pow.{pow-pos, pow-mono, shr-shr}
 use Rattle.definitions.specs.Bits.{bits, number}
 use Rattle.definitions.proofs.BitsLaws.{read-got, read-ends}
+use Rattle.glyph_reader.specs.Window.{window}
+use Rattle.glyph_reader.proofs.WindowLaws.{window-part}
 use Rattle.runs.specs.declared.Runs.{Runs}
-use Rattle.runs.specs.Window.{window}
 use Rattle.runs.specs.RunReads.{Pair, Ends, Short, pairOf, inFont, pairAt, nextPair}
-use Rattle.runs.proofs.WindowLaws.{window-part}
 
 pub within : (font : List ℕ) (r : Runs) → r .«bit_pos» < 8 * length font → inFont font r ≡ Pair r
 within font r h = simp (lt-ltb (r .«bit_pos») (8 * length font) h)
@@ -42,19 +42,19 @@ module _ (font : List ℕ) (m0 m1 : ℕ) where
       split (no p) = let l : 8 * length font ≤ at + m0 + m1 = omega arith in beyond font (read at) l ∙ sym (pair-ends at l)
 
   -- The numbers from the bit s of a window on.
-  pub pair-is : (i w s at next : ℕ) → w % 16777216 ≡ window font i → s + m0 + m1 ≤ 24 → 8 * i + s ≡ at → next ≡ at + m0 + m1
+  pub pair-is : (i w s at next : ℕ) → w % 16777216 ≡ window 24 font i → s + m0 + m1 ≤ 24 → 8 * i + s ≡ at → next ≡ at + m0 + m1
       → inFont font (pairOf (w / 2 ^ s) m0 m1 next) ≡ pairAt font m0 m1 at
   pair-is i w s at next e h place end =
-      let z : w / 2 ^ s % 2 ^ m0 ≡ bitsAt at m0 = window-part font i w s m0 e (omega arith) ∙ ap (λ (p : ℕ). bitsAt p m0) place in
+      let z : w / 2 ^ s % 2 ^ m0 ≡ bitsAt at m0 = window-part 24 font i w s m0 e (omega arith) ∙ ap (λ (p : ℕ). bitsAt p m0) place in
       let q : 8 * i + (s + m0) ≡ at + m0 = omega arith in
       let o : w / 2 ^ s / 2 ^ m0 % 2 ^ m1 ≡ bitsAt (at + m0) m1 =
-      ap (λ (p : ℕ). p % 2 ^ m1) (shr-shr w s m0) ∙ window-part font i w (s + m0) m1 e (omega arith) ∙ ap (λ (p : ℕ). bitsAt p m1) q in
+      ap (λ (p : ℕ). p % 2 ^ m1) (shr-shr w s m0) ∙ window-part 24 font i w (s + m0) m1 e (omega arith) ∙ ap (λ (p : ℕ). bitsAt p m1) q in
       let same : pairOf (w / 2 ^ s) m0 m1 next ≡ read at = rw (z, o, end) in
       ap (inFont font) same ∙ pair-read at
 
-  module _ (r : Runs) (i w s : ℕ) (e : w % 16777216 ≡ window font i) (h : s ≤ 7) (place : 8 * i + s ≡ r .«bit_pos») where
+  module _ (r : Runs) (i w s : ℕ) (e : w % 16777216 ≡ window 24 font i) (h : s ≤ 7) (place : 8 * i + s ≡ r .«bit_pos») where
     repeat : w / 2 ^ s % 2 ≡ bitsAt (r .«bit_pos») 1
-    repeat = window-part font i w s 1 e (omega arith) ∙ ap (λ (p : ℕ). bitsAt p 1) place
+    repeat = window-part 24 font i w s 1 e (omega arith) ∙ ap (λ (p : ℕ). bitsAt p 1) place
 
     -- The repeat bit is 1.
     pub again-is : w / 2 ^ s % 2 ≡ 1 → inFont font (record { zeros = r .zeros; ones = r .ones; «bit_pos» = r .«bit_pos» + 1 }) ≡ nextPair font m0 m1 r

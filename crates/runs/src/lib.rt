@@ -1,6 +1,4 @@
 // A glyph's runs (01, "Runs"), pair by pair.
-mod window;
-
 ghost use mathlib.Core.Path.{_≡_};
 ghost use Prim.Native.Nat.{_+_, _*_, _≤_, _<_};
 ghost use lib.ListN.{length, drop};
@@ -9,9 +7,9 @@ ghost use Rattle.definitions.specs.Header.{Opened};
 ghost use Rattle.definitions.specs.Runs.{runs as runPixels, glyphPixels};
 ghost use Rattle.runs.specs.RunReads.{Readable, Short, isWhole, pairOf, inFont, pairAt, nextPair};
 ghost use Rattle.runs.specs.Stands.{CheckedGlyph, StandsAt};
+use glyph_reader::window::bytes_at;
 use types::font_reader::FontReader;
 use types::glyph_reader::GlyphReader;
-use window::bytes_at;
 
 // A zero run and a one run, and the bit of the font after their numbers. One bit must be left after each read, so the font has
 // the pair if it has that bit: one test for a pair. What is read past the font's end is zeros.

@@ -1,8 +1,8 @@
--- Each byte is below 256, so the sum fits, and its 24 lowest bits are those of the first three (`window-bytes`). Assumes nothing.
-use Rattle.integers.proofs.Prelude.{arith, needs}
-use Rattle.runs.proofs.WindowLaws.{window-bytes}
-use Rattle.runs.proofs.window.word_at.Statement.{statement}
-use Rattle.runs.proofs.window.word_at.Tie as tie
+-- Each byte is below 256, so the sum fits, and is the window of 32 bits (`window-bytes`). Assumes nothing.
+use Rattle.integers.proofs.Prelude.{_+_, arith, needs}
+use Rattle.glyph_reader.proofs.WindowLaws.{window-byte, window-bytes}
+use Rattle.glyph_reader.proofs.window.word_at.Statement.{statement}
+use Rattle.glyph_reader.proofs.window.word_at.Tie as tie
 
 returns : tie.Need-returns
 returns c =
@@ -10,7 +10,16 @@ returns c =
     let x = c .before .before .before .before .before .before .widen .ensures in
     let y = c .before .before .before .before .widen2 .ensures in
     let z = c .before .before .widen3 .ensures in
-    omega (arith, x, y, z, window-bytes (a .font .now) (a .i) (omega (arith, x)) (omega (arith, y)) (omega (arith, z)))
+    let last = c .widen4 .ensures in
+    omega (
+      arith,
+      x,
+      y,
+      z,
+      last,
+      window-bytes 8 (a .font .now) (a .i) (omega (arith, x)) (omega (arith, y)) (omega (arith, z)),
+      window-byte (a .font .now) (a .i + 3) (omega (arith, last)),
+    )
 
 pub word-at-spec : {M : Type 1} → statement M
 word-at-spec =
