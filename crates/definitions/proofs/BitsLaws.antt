@@ -1,9 +1,9 @@
 -- Bits of a font: how many there are, what the number read from them is in terms of bytes, and how reads of one font, of a
 -- longer one and in a row agree. Assumes nothing.
-use Rattle.integers.proofs.Prelude.{_≡_, refl, sym, ap, subst, _∙_, Bool, true, false, List, [], _∷_, _++_, map, append-assoc, ℕ, zero, suc, _+_, _-_}
-use Rattle.integers.proofs.Prelude.{_*_, _/_, _%_, _^_, _≤_, _<_, add-zero, mul-assoc, div-one, add-one, one-add, arith, ltb, ℤ, pos, negsuc, _≤ℤ_}
-use Rattle.integers.proofs.Prelude.{length, take, drop, getD, length-append, length-drop, take-append-le, drop-append-le, drop-append-add, take-nil}
-use Rattle.integers.proofs.Prelude.{drop-nil, getD-drop, drop-drop, take-add, length-take-le, ltb-true, lt-ltb, le-ltb}
+use Rattle.integers.proofs.Prelude.{_≡_, refl, sym, ap, _∙_, Bool, true, false, List, [], _∷_, _++_, map, append-assoc, ℕ, zero, suc, _+_, _-_}
+use Rattle.integers.proofs.Prelude.{_*_, _/_, _%_, _^_, _≤_, _<_, mul-assoc, div-one, add-one, one-add, arith, ltb, ℤ, pos, negsuc, _≤ℤ_}
+use Rattle.integers.proofs.Prelude.{length, take, drop, length-append, length-drop, take-append-le, drop-append-le, drop-append-add, take-nil}
+use Rattle.integers.proofs.Prelude.{drop-nil, drop-drop, take-add, length-take-le, ltb-true, lt-ltb, le-ltb}
 use lib.Pow.{pow-pos, pow-mono, shr-shr, mod-pow-add}
 use Rattle.integers.specs.Integers.{pick}
 use Rattle.integers.proofs.Laws.{zarith, minus}
@@ -58,50 +58,6 @@ number-lowBits (suc n) x more (suc r) b h =
     let e = rw one-add at (shr-shr x 1 r) in
     number-lowBits n (x / 2) more r b (omega arith) ∙ ap (λ (q : ℕ). q % 2 ^ b) e
 
--- two bytes make one number of 16 bits
-pub lowBits-append : (n m x y : ℕ) → x < 2 ^ n → lowBits n x ++ lowBits m y ≡ lowBits (n + m) (x + 2 ^ n * y)
-unfolding lowBits
-lowBits-append zero m x y h =
-    let e : x + 2 ^ 0 * y ≡ y = omega arith in
-    let z : 0 + m ≡ m = omega arith in
-    rw (e, z)
-lowBits-append (suc n) m x y h =
-    let z : suc n + m ≡ suc (n + m) = omega arith in
-    let p = double n y in
-    let e : (x + 2 ^ suc n * y) % 2 ≡ x % 2 = omega arith in
-    let f : (x + 2 ^ suc n * y) / 2 ≡ x / 2 + 2 ^ n * y = omega arith in
-    rw (z, e, f) (ap (λ (l : List ℕ). x % 2 ∷ l) (lowBits-append n m (x / 2) y (omega arith)))
-
--- bits from a byte's bit r on, the byte being the first of some
-number-first : (s : List ℕ) (r b : ℕ) → getD s 0 0 < 256 → b ≤ 8 → r < 8 → r + b < 8 * length s
-    → number (take b (drop r (bits s))) ≡ (getD s 0 0 + 256 * getD s 1 0) / 2 ^ r % 2 ^ b
-unfolding bits
-number-first [] r b x h k l = absurd (omega arith)
-number-first (x ∷ []) r b s h k l =
-    let e : x + 256 * 0 ≡ x = omega arith in
-    rw e (number-lowBits 8 x [] r b (omega arith))
-number-first (x ∷ (y ∷ more)) r b s h k l =
-    rw (← (append-assoc (lowBits 8 x) (lowBits 8 y) (bits more)), lowBits-append 8 8 x y s)
-    (number-lowBits 16 (x + 256 * y) (bits more) r b (omega arith))
-
-number-split : (font : List ℕ) (i r b : ℕ) → getD font i 0 < 256 → b ≤ 8 → r < 8 → 8 * i + r + b < 8 * length font
-    → number (take b (drop (8 * i + r) (bits font))) ≡ (getD font i 0 + 256 * getD font (i + 1) 0) / 2 ^ r % 2 ^ b
-number-split font i r b s h k l =
-    let x : getD (drop i font) 0 0 ≡ getD font i 0 = simp add-zero at (getD-drop i font 0 0) in
-    let y : getD (drop i font) 1 0 ≡ getD font (i + 1) 0 = getD-drop i font 1 0 in
-    let e = number-first (drop i font) r b (omega arith) h k (omega (arith, length-drop i font)) in
-    rw (← (drop-drop r (8 * i) (bits font)), drop-bytes i font) (simp (x, y) at e)
-
--- The number of b bits of a font from the bit `at` on, from two bytes.
-pub number-bytes : (font : List ℕ) (at b : ℕ) → getD font (at / 8) 0 < 256 → b ≤ 8 → at + b < 8 * length font
-    → number (take b (drop at (bits font))) ≡ (getD font (at / 8) 0 + 256 * getD font (at / 8 + 1) 0) / 2 ^ (at % 8) % 2 ^ b
-number-bytes font at b s h l =
-    let e : 8 * (at / 8) + at % 8 ≡ at = omega arith in
-    subst
-    (λ (p : ℕ). number (take b (drop p (bits font))) ≡ (getD font (at / 8) 0 + 256 * getD font (at / 8 + 1) 0) / 2 ^ (at % 8) % 2 ^ b)
-    e
-    (number-split font (at / 8) (at % 8) b s h (omega arith) (omega arith))
-
 -- ---- a read
 
 -- bits are left from `at` on
@@ -115,11 +71,6 @@ read-got font at b h = let l : b < length (drop at (bits font)) = omega (arith, 
 pub read-ends : (font : List ℕ) (at b : ℕ) → 8 * length font ≤ at + b → readAt font at b ≡ ends
 unfolding readAt
 read-ends font at b h = let l : length (drop at (bits font)) ≤ b = omega (arith, left font at) in simp (le-ltb b (length (drop at (bits font))) l)
-
--- The read as arithmetic on two bytes.
-pub read-bytes : (font : List ℕ) (at b : ℕ) → getD font (at / 8) 0 < 256 → b ≤ 8 → at + b < 8 * length font
-    → readAt font at b ≡ got ((getD font (at / 8) 0 + 256 * getD font (at / 8 + 1) 0) / 2 ^ (at % 8) % 2 ^ b)
-read-bytes font at b s h l = read-got font at b l ∙ ap got (number-bytes font at b s h l)
 
 picked : (t : Bool) (m n : ℕ) → pick t (got m) ends ≡ got n → (t ≡ true) × (n ≡ m)
 picked true m n e = (refl, cc)
