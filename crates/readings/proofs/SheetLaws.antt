@@ -26,7 +26,8 @@ use Rattle.readings.specs.declared.values.Totals.{Totals}
 use Rattle.readings.specs.Readings.{readingText, reading}
 use Rattle.readings.specs.Ground.{ClearTo}
 use Rattle.readings.proofs.NarrowLaws.{faultless}
-use Rattle.readings.specs.Sheet.{toFill, stepBuffer, SheetState, screenOf, answerOn, screenAfter, wanted, differing, screenAt, Finds, refusedOne, drawnOne, tallied, Few, totalsTo, refusedTo, Sound}
+use Rattle.readings.specs.Sheet.{toFill, stepBuffer, SheetState, screenOf, answerOn, screenAfter, wanted, differing, screenAt}
+use Rattle.readings.specs.Sheet.{Finds, refusedOne, drawnOne, tallied, Few, totalsTo, refusedTo, Sound}
 
 pub at-most : (n : ℕ) → pick (eqb n 0) 0 1 ≤ 1
 at-most n = by (eqb n 0)

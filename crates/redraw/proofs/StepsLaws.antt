@@ -16,7 +16,8 @@ use Rattle.redraw.specs.Drawing.{Drawing, drawn, after}
 use Rattle.definitions.proofs.FramebufferLaws.{shown-blank}
 use Rattle.definitions.proofs.RefusalLaws.{succeeded, each-off}
 use Rattle.redraw.specs.Redraw.{wholeOr, readingOn, AllOf, clearedBy, redrawCauses, redrawn, redrawnBuffer, taken}
-use Rattle.redraw.specs.Steps.{Setting, Reading, inSetting, groundIn, Screen, readingOf, bare, stepAnswer, stepOn, stepsOn, answers, alone, lastTaken, showing, ClearFor, ClearForAll, LeavesReading}
+use Rattle.redraw.specs.Steps.{Setting, Reading, inSetting, groundIn, Screen, readingOf, bare, stepAnswer, stepOn, stepsOn, answers}
+use Rattle.redraw.specs.Steps.{alone, lastTaken, showing, ClearFor, ClearForAll, LeavesReading}
 use Rattle.redraw.proofs.RedrawLaws.{length-after, within-limits, same-answer, some-width, fill-restores, length-cleared}
 use Rattle.redraw.proofs.RedrawLaws.{refused-early, causesOf, drawn-early, drawn-late, same-causes, redrawn-is}
 
@@ -112,7 +113,8 @@ module _ (f : Setting) (ground : List ℕ) where
           same-answer (f .font) (inSetting f record { text = s .old .text; color = r .color }) (f .framebuffer) (s .bytes) ground (z .as-long)
           ∙ same-color f ground (s .old .text) (r .color) (s .old .color) allows (z .allowed)
 
-      pub taken-step : stepOn f s r ≡ record { old = r; bytes = readingOn (f .font) (inSetting f r) (groundIn f (clearedBy (f .framebuffer .width) (f .background) (alone f ground (s .old)) (s .bytes))) }
+      pub taken-step : stepOn f s r
+          ≡ record { old = r; bytes = readingOn (f .font) (inSetting f r) (groundIn f (clearedBy (f .framebuffer .width) (f .background) (alone f ground (s .old)) (s .bytes))) }
       unfolding redrawnBuffer
       taken-step =
           let late : taken (stepAnswer f s r) ≡ true = ap taken answers-alone ∙ drawn-late (f .font) (inSetting f r) (groundIn f ground) k in
@@ -256,7 +258,8 @@ module _ (f : Setting) (old : List ℕ) (r : Reading) {entry exit : List ℕ} {a
           → exit ≡ pick (taken answer) (readingOn (f .font) (inSetting f r) (groundIn f ground)) entry
       by true k =
           let early : taken answer ≡ false = ap taken answered
-          ∙ refused-early _ (redrawCauses (f .font) old (inSetting f r) (groundIn f entry)) (omega arith, (omega arith, (omega arith, (omega arith, (omega arith, (omega arith, (omega arith, tt))))))) k in
+          ∙ refused-early _ (redrawCauses (f .font) old (inSetting f r) (groundIn f entry))
+          (omega arith, (omega arith, (omega arith, (omega arith, (omega arith, (omega arith, (omega arith, tt))))))) k in
           shown ∙ rw (k, early)
       by false k =
           let o = each-off (redrawCauses (f .font) old (inSetting f r) (groundIn f entry)) k in

@@ -26,8 +26,10 @@ returns-2 c =
     let r = c .before .before .before .before .before .before .before .before .render .ensures in
     let copied = c .before .before .before .before .before .before .before .before .before .before .before .before .before .before .before .copy .ensures .1
     ∙ whole (a .ground .now) (a .alone .now) (s .pre) in
+    let first = c .before .before .before .before .before .before .before .before .before .before .before .before .before .before .alone .given in
+    let second = c .before .before .before .before .before .before .before .alone2 .given in
     c .before .before .copy2 .ensures .1
-    ∙ whole (a .ground .now) _ (omega (arith, s .pre, c .before .before .before .before .before .before .before .before .before .before .before .before .before .before .alone .given, c .before .before .before .before .before .before .before .alone2 .given))
+    ∙ whole (a .ground .now) _ (omega (arith, s .pre, first, second))
     ∙ refused-alone (a .font .now) (asked (a .place) (a .text .now)) (groundOf (a .place) (a .ground .now)) copied (r .0)
     (ap dimensionsOutcome (c .before .before .before .before .enum-told2 .given .1))
 
