@@ -1,3 +1,3 @@
-pub mod LineLaws
+pub mod MeasuredLaws
 pub mod LineCases
 pub mod FilledLaws

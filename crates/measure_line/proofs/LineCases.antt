@@ -10,7 +10,7 @@ use Rattle.definitions.specs.Text.{joinAll, letters, lines, lineByLine}
 use Rattle.definitions.specs.Calls.{openFont, measure}
 use Rattle.definitions.specs.FontT.{T}
 use Rattle.numbers.specs.Decimal.{decimalFrom, decimal}
-use Rattle.measure_line.specs.Line.{measuredByProgram, measuringLine}
+use Rattle.measure_line.specs.Measured.{measuredByProgram, measuringLine}
 
 pub record LineCase : Type 0 where
   pub font : List ℕ

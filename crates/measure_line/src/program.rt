@@ -3,11 +3,11 @@
 ghost use mathlib.Core.List.{List};
 ghost use Prim.Native.Nat.{ℕ};
 ghost use Rattle.io.specs.Counts.{Counts};
-ghost use Rattle.measure_line.specs.Line.{measuringLine};
+ghost use Rattle.measure_line.specs.Measured.{measuringLine};
 ghost use Rattle.numbers.specs.Written.{Written};
 ghost use Rattle.measure_line.specs.Filled.{Filled};
-use crate::LINE_ROOM;
 use crate::measure_line;
+use answer_line::LINE_ROOM;
 use libc::STDOUT_FILENO;
 
 // Room for a byte more than is allowed, so that what is too long is seen.

@@ -1,6 +1,7 @@
 -- The line of what the program measures.
 use Rattle.integers.proofs.Prelude.{ap, arith, needs}
-use Rattle.measure_line.specs.Line.{outcomeLine, measuringLine}
+use Rattle.answer_line.specs.Line.{outcomeLine}
+use Rattle.measure_line.specs.Measured.{measuringLine}
 use Rattle.numbers.proofs.WriterLaws.{spelled-as, counted}
 use Rattle.measure_line.proofs.measure_line.Statement.{statement}
 use Rattle.measure_line.proofs.measure_line.Tie as tie

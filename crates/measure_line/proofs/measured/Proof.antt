@@ -2,7 +2,7 @@
 use Rattle.integers.proofs.Prelude.{sym, ap, _∙_, arith, needs}
 use Rattle.definitions.specs.Refusals.{errorNumber, codePoint}
 use Rattle.definitions.specs.Calls.{fontReaderOutcome}
-use Rattle.measure_line.proofs.LineLaws.{font-too-long, font-refused, font-opens}
+use Rattle.measure_line.proofs.MeasuredLaws.{font-too-long, font-refused, font-opens}
 use Rattle.measure_line.proofs.measured.Statement.{statement}
 use Rattle.measure_line.proofs.measured.Tie as tie
 

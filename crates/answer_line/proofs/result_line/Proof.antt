@@ -1,8 +1,8 @@
 -- By cases of the result.
 use borrow.Author.Needs.{needs}
 use Rattle.numbers.proofs.WriterLaws.{spelled-as}
-use Rattle.measure_line.proofs.result_line.Statement.{statement}
-use Rattle.measure_line.proofs.result_line.Tie as tie
+use Rattle.answer_line.proofs.result_line.Statement.{statement}
+use Rattle.answer_line.proofs.result_line.Tie as tie
 
 returns : tie.Need-returns
 returns c = spelled-as (simp (c .before .before .before .result .given .1)) (c .success-line .ensures)

@@ -1,9 +1,9 @@
 -- What the pieces write, one after the other; the number and the code point are those of the error.
 use Rattle.integers.proofs.Prelude.{arith, needs}
 use Rattle.numbers.proofs.WriterLaws.{spelled-as}
-use Rattle.measure_line.proofs.LineLaws.{refusal-ends}
-use Rattle.measure_line.proofs.refusal_line.Statement.{statement}
-use Rattle.measure_line.proofs.refusal_line.Tie as tie
+use Rattle.answer_line.proofs.LineLaws.{refusal-ends}
+use Rattle.answer_line.proofs.refusal_line.Statement.{statement}
+use Rattle.answer_line.proofs.refusal_line.Tie as tie
 
 returns : tie.Need-returns
 returns c =

@@ -2,9 +2,9 @@
 use Rattle.integers.proofs.Prelude.{arith, w32, SFits, toZ-ofZ, needs}
 use Rattle.definitions.specs.Geometry.{left, top}
 use Rattle.numbers.proofs.WriterLaws.{spelled-as}
-use Rattle.measure_line.proofs.LineLaws.{four-words}
-use Rattle.measure_line.proofs.append_rectangle.Statement.{statement}
-use Rattle.measure_line.proofs.append_rectangle.Tie as tie
+use Rattle.answer_line.proofs.LineLaws.{four-words}
+use Rattle.answer_line.proofs.append_rectangle.Statement.{statement}
+use Rattle.answer_line.proofs.append_rectangle.Tie as tie
 
 returns : tie.Need-returns
 returns c =

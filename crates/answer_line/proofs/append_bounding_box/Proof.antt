@@ -1,8 +1,8 @@
 -- By cases of the box.
 use Rattle.integers.proofs.Prelude.{arith, needs}
 use Rattle.numbers.proofs.WriterLaws.{spelled-as}
-use Rattle.measure_line.proofs.append_bounding_box.Statement.{statement}
-use Rattle.measure_line.proofs.append_bounding_box.Tie as tie
+use Rattle.answer_line.proofs.append_bounding_box.Statement.{statement}
+use Rattle.answer_line.proofs.append_bounding_box.Tie as tie
 
 enum-told : tie.Need-enum-told
 enum-told c = search needs

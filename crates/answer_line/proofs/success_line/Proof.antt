@@ -1,9 +1,9 @@
 -- What the pieces write, one after the other.
 use Rattle.integers.proofs.Prelude.{arith, w32, SFits, toZ-ofZ, needs}
 use Rattle.numbers.proofs.WriterLaws.{spelled-as}
-use Rattle.measure_line.proofs.LineLaws.{success-ends}
-use Rattle.measure_line.proofs.success_line.Statement.{statement}
-use Rattle.measure_line.proofs.success_line.Tie as tie
+use Rattle.answer_line.proofs.LineLaws.{success-ends}
+use Rattle.answer_line.proofs.success_line.Statement.{statement}
+use Rattle.answer_line.proofs.success_line.Tie as tie
 
 returns : tie.Need-returns
 returns c =
