@@ -4,8 +4,8 @@ use lib.IntN.{ℤ}
 use Rattle.definitions.specs.Vocabulary.{Framebuffer}
 use Rattle.definitions.specs.Text.{point}
 use Rattle.redraw.specs.declared.place.Place.{Place}
-use Rattle.c_values.specs.declared.codes.Meaning.{Meaning}
-use Rattle.c_values.specs.Replies.{styleOf}
+use Rattle.c_codes.specs.declared.Meaning.{Meaning}
+use Rattle.c_codes.specs.Codes.{styleOf}
 
 abbrev pub placeBy : Meaning → ℤ → ℤ → ℕ → ℕ → ℕ → ℕ → Framebuffer → Place
 placeBy m x y lineHeight fg bg background framebuffer = record {

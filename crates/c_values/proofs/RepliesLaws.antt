@@ -1,8 +1,8 @@
 -- A call's answer, from what its codes mean and what it stored; and for a call that draws, what it left on the framebuffer.
 use Rattle.integers.proofs.Prelude.{_≡_, sym, ap, _∙_, List, ℕ, ℤ}
-use Rattle.c_values.specs.declared.codes.Codes.{Codes}
-use Rattle.c_values.specs.declared.codes.Codes.the-variants.{Known, Unknown}
-use Rattle.c_values.specs.declared.codes.Meaning.{Meaning}
+use Rattle.c_codes.specs.declared.Codes.{Codes}
+use Rattle.c_codes.specs.declared.Codes.the-variants.{Known, Unknown}
+use Rattle.c_codes.specs.declared.Meaning.{Meaning}
 use Rattle.c_values.specs.declared.reply.Reply.{Reply}
 use Rattle.c_values.specs.Replies.{Answers, stored, drawnBy}
 

@@ -1,3 +1,2 @@
-pub mod Codes
 pub mod Replies
 pub mod Headers

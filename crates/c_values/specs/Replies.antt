@@ -1,18 +1,16 @@
 -- How a call's outcome reaches a caller in C: a status, and eight numbers stored in the slice `out`.
 use mathlib.Core.Path.{_≡_}
 use mathlib.Core.List.{List, [], _∷_}
-use mathlib.Core.Bool.{Bool, true, false}
 use Prim.Native.Nat.{ℕ, suc}
 use lib.IntN.{ℤ, pos}
 use lib.ListN.{set}
-use Rattle.definitions.specs.Vocabulary.{Error, BoundingBox, None, Some, Point, Rectangle, RenderedDimensions, FontColor, Transparent, WithBackground, FontStyle, Placement}
+use Rattle.definitions.specs.Vocabulary.{Error, BoundingBox, None, Some, Point, Rectangle, RenderedDimensions}
 use Rattle.definitions.specs.Refusals.{Outcome, success, refused, errorNumber, codePoint}
 use Rattle.definitions.specs.Text.{point}
-use Rattle.definitions.specs.Calls.{placed}
 use Rattle.c_values.specs.declared.reply.Reply.{Reply}
-use Rattle.c_values.specs.declared.codes.Codes.{Codes}
-use Rattle.c_values.specs.declared.codes.Codes.the-variants.{Known, Unknown}
-use Rattle.c_values.specs.declared.codes.Meaning.{Meaning}
+use Rattle.c_codes.specs.declared.Codes.{Codes}
+use Rattle.c_codes.specs.declared.Codes.the-variants.{Known, Unknown}
+use Rattle.c_codes.specs.declared.Meaning.{Meaning}
 
 -- A refusal: 01's number as the status, the code point, and zeros.
 abbrev pub refusedReply : ℕ → ℕ → Reply
@@ -99,15 +97,3 @@ Answers codes reply r before after = (r ≡ status codes reply) × (after ≡ st
 abbrev pub drawnBy : Codes → (Meaning → List ℕ) → List ℕ → List ℕ
 drawnBy Unknown drawn buffer = buffer
 drawnBy (Known m) drawn buffer = drawn m
-
--- The colour of a drawing: with a background colour or transparent.
-abbrev pub inkOf : Bool → ℕ → ℕ → FontColor
-inkOf true fg bg = WithBackground fg bg
-inkOf false fg bg = Transparent fg
-
--- Where a text stands.
-abbrev pub placedBy : Meaning → ℤ → ℤ → ℕ → Placement
-placedBy m x y lineHeight = placed (point x y) lineHeight (m .skip)
-
-abbrev pub styleOf : Meaning → ℕ → ℕ → FontStyle
-styleOf m fg bg = record { color = inkOf (m .background) fg bg; «vertical_pos» = m .«vertical_pos» }

@@ -1,4 +1,3 @@
-// The values that cross the boundary to C: codes that go in, replies and a header's values that come out.
-pub mod codes;
+// The values that cross the boundary to C: replies and a header's values that come out.
 pub mod header;
 pub mod reply;

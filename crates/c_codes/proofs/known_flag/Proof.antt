@@ -1,8 +1,8 @@
 -- 0 and 1, and none of the others.
 use borrow.Author.Tests.{ne-eqb}
-use Rattle.c_values.specs.Codes.{flagOf}
-use Rattle.c_values.proofs.codes.known_flag.Statement.{statement}
-use Rattle.c_values.proofs.codes.known_flag.Tie as tie
+use Rattle.c_codes.specs.Codes.{flagOf}
+use Rattle.c_codes.proofs.known_flag.Statement.{statement}
+use Rattle.c_codes.proofs.known_flag.Tie as tie
 
 returns : tie.Need-returns
 unfolding flagOf

@@ -1,8 +1,8 @@
 -- One code for each variant, in their order, and none of the others.
 use borrow.Author.Tests.{ne-eqb}
-use Rattle.c_values.specs.Codes.{alignmentOf}
-use Rattle.c_values.proofs.codes.known_alignment.Statement.{statement}
-use Rattle.c_values.proofs.codes.known_alignment.Tie as tie
+use Rattle.c_codes.specs.Codes.{alignmentOf}
+use Rattle.c_codes.proofs.known_alignment.Statement.{statement}
+use Rattle.c_codes.proofs.known_alignment.Tie as tie
 
 returns : tie.Need-returns
 unfolding alignmentOf

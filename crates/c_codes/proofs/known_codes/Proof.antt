@@ -1,8 +1,8 @@
 -- Each code is known as its function says, and the room is tested last.
 use Rattle.integers.proofs.Prelude.{sym, _∙_, lt-ltb, le-ltb, needs}
-use Rattle.c_values.specs.Codes.{meaningOf}
-use Rattle.c_values.proofs.codes.known_codes.Statement.{statement}
-use Rattle.c_values.proofs.codes.known_codes.Tie as tie
+use Rattle.c_codes.specs.Codes.{meaningOf}
+use Rattle.c_codes.proofs.known_codes.Statement.{statement}
+use Rattle.c_codes.proofs.known_codes.Tie as tie
 
 enum-told : tie.Need-enum-told
 enum-told c = search needs

@@ -1,8 +1,8 @@
 -- One code for each variant, in their order, and none of the others.
-use Rattle.c_values.specs.Codes.{anchorOf}
+use Rattle.c_codes.specs.Codes.{anchorOf}
 use borrow.Author.Tests.{ne-eqb}
-use Rattle.c_values.proofs.codes.known_anchor.Statement.{statement}
-use Rattle.c_values.proofs.codes.known_anchor.Tie as tie
+use Rattle.c_codes.proofs.known_anchor.Statement.{statement}
+use Rattle.c_codes.proofs.known_anchor.Tie as tie
 
 returns : tie.Need-returns
 unfolding anchorOf

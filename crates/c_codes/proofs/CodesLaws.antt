@@ -1,16 +1,16 @@
 -- Codes that have a meaning leave room for the answer.
 use Rattle.integers.proofs.Prelude.{_≡_, refl, sym, _∙_, Bool, true, false, ℕ, _≤_, arith, ltb, ltb-false}
 use Rattle.integers.proofs.Choices.{impossible}
-use Rattle.c_values.specs.declared.codes.Anchor.{Anchor}
-use Rattle.c_values.specs.declared.codes.Anchor.the-variants.{Known as Anchor·Known, Unknown as Anchor·Unknown}
-use Rattle.c_values.specs.declared.codes.Alignment.{Alignment}
-use Rattle.c_values.specs.declared.codes.Alignment.the-variants.{Known as Alignment·Known, Unknown as Alignment·Unknown}
-use Rattle.c_values.specs.declared.codes.Flag.{Flag}
-use Rattle.c_values.specs.declared.codes.Flag.the-variants.{Known as Flag·Known, Unknown as Flag·Unknown}
-use Rattle.c_values.specs.declared.codes.Meaning.{Meaning}
-use Rattle.c_values.specs.declared.codes.Codes.{Codes}
-use Rattle.c_values.specs.declared.codes.Codes.the-variants.{Known, Unknown}
-use Rattle.c_values.specs.Codes.{allKnown, anchorOf, alignmentOf, flagOf, meaningOf}
+use Rattle.c_codes.specs.declared.Anchor.{Anchor}
+use Rattle.c_codes.specs.declared.Anchor.the-variants.{Known as Anchor·Known, Unknown as Anchor·Unknown}
+use Rattle.c_codes.specs.declared.Alignment.{Alignment}
+use Rattle.c_codes.specs.declared.Alignment.the-variants.{Known as Alignment·Known, Unknown as Alignment·Unknown}
+use Rattle.c_codes.specs.declared.Flag.{Flag}
+use Rattle.c_codes.specs.declared.Flag.the-variants.{Known as Flag·Known, Unknown as Flag·Unknown}
+use Rattle.c_codes.specs.declared.Meaning.{Meaning}
+use Rattle.c_codes.specs.declared.Codes.{Codes}
+use Rattle.c_codes.specs.declared.Codes.the-variants.{Known, Unknown}
+use Rattle.c_codes.specs.Codes.{allKnown, anchorOf, alignmentOf, flagOf, meaningOf}
 
 never : (m : Meaning) → Unknown ≡ Known m → ⊥
 never m e = impossible cc

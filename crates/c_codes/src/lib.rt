@@ -1,7 +1,6 @@
 // What the codes of a call mean: numbers from 0 in the order of an enum's variants.
 ghost use mathlib.Core.Path.{_≡_};
-ghost use Rattle.c_values.specs.Codes.{anchorOf, alignmentOf, flagOf, meaningOf};
-ghost use Rattle.c_values.specs.Replies.{styleOf};
+ghost use Rattle.c_codes.specs.Codes.{anchorOf, alignmentOf, flagOf, meaningOf, styleOf};
 use types::style::FontColor;
 use types::style::FontStyle;
 use types::style::HorizontalAlignment;

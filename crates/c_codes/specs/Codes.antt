@@ -2,18 +2,22 @@
 use mathlib.Core.Bool.{Bool, true, false}
 use Prim.Native.Nat.{ℕ}
 use lib.Dec.{eqb, ltb}
+use lib.IntN.{ℤ}
 use Rattle.integers.specs.Integers.{pick}
+use Rattle.definitions.specs.Vocabulary.{FontColor, Transparent, WithBackground, FontStyle, Placement}
+use Rattle.definitions.specs.Text.{point}
+use Rattle.definitions.specs.Calls.{placed}
 use Rattle.types.specs.declared.style.HorizontalAlignment.the-variants.{Left, Center as Centre, Right}
 use Rattle.types.specs.declared.style.VerticalPosition.the-variants.{Baseline, Top, Center, Bottom}
-use Rattle.c_values.specs.declared.codes.Anchor.{Anchor}
-use Rattle.c_values.specs.declared.codes.Anchor.the-variants.{Known as Anchor·Known, Unknown as Anchor·Unknown}
-use Rattle.c_values.specs.declared.codes.Alignment.{Alignment}
-use Rattle.c_values.specs.declared.codes.Alignment.the-variants.{Known as Alignment·Known, Unknown as Alignment·Unknown}
-use Rattle.c_values.specs.declared.codes.Flag.{Flag}
-use Rattle.c_values.specs.declared.codes.Flag.the-variants.{Known as Flag·Known, Unknown as Flag·Unknown}
-use Rattle.c_values.specs.declared.codes.Meaning.{Meaning}
-use Rattle.c_values.specs.declared.codes.Codes.{Codes}
-use Rattle.c_values.specs.declared.codes.Codes.the-variants.{Known, Unknown}
+use Rattle.c_codes.specs.declared.Anchor.{Anchor}
+use Rattle.c_codes.specs.declared.Anchor.the-variants.{Known as Anchor·Known, Unknown as Anchor·Unknown}
+use Rattle.c_codes.specs.declared.Alignment.{Alignment}
+use Rattle.c_codes.specs.declared.Alignment.the-variants.{Known as Alignment·Known, Unknown as Alignment·Unknown}
+use Rattle.c_codes.specs.declared.Flag.{Flag}
+use Rattle.c_codes.specs.declared.Flag.the-variants.{Known as Flag·Known, Unknown as Flag·Unknown}
+use Rattle.c_codes.specs.declared.Meaning.{Meaning}
+use Rattle.c_codes.specs.declared.Codes.{Codes}
+use Rattle.c_codes.specs.declared.Codes.the-variants.{Known, Unknown}
 
 unfoldable pub anchorOf : ℕ → Anchor
 anchorOf code =
@@ -43,3 +47,15 @@ allKnown Anchor·Unknown h s b narrow = Unknown
 unfoldable pub meaningOf : ℕ → ℕ → ℕ → ℕ → ℕ → Codes
 meaningOf anchor align skip background room =
     allKnown (anchorOf anchor) (alignmentOf align) (flagOf skip) (flagOf background) (ltb room 8)
+
+-- The colour of a drawing: with a background colour or transparent.
+abbrev pub inkOf : Bool → ℕ → ℕ → FontColor
+inkOf true fg bg = WithBackground fg bg
+inkOf false fg bg = Transparent fg
+
+-- Where a text stands.
+abbrev pub placedBy : Meaning → ℤ → ℤ → ℕ → Placement
+placedBy m x y lineHeight = placed (point x y) lineHeight (m .skip)
+
+abbrev pub styleOf : Meaning → ℕ → ℕ → FontStyle
+styleOf m fg bg = record { color = inkOf (m .background) fg bg; «vertical_pos» = m .«vertical_pos» }
