@@ -7,7 +7,7 @@ ghost use Rattle.checks.specs.Origins.{originBy, checkedOrigin, originOu
 use crate::limits::has_bad_position;
 use crate::limits::has_bad_text;
 use content::text::get_newline_count;
-use content::vertical_offset::compute_vertical_offset;
+use vertical_offset::compute_vertical_offset;
 use types::error::Error;
 use types::geometry::Point;
 use types::style::Placement;

@@ -1,3 +1,2 @@
-// The content of a text: its bytes taken as UTF-8, its newlines, and how far the anchor moves it.
+// The content of a text: its bytes taken as UTF-8, and its newlines.
 pub mod text;
-pub mod vertical_offset;

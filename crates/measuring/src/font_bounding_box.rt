@@ -3,7 +3,7 @@ ghost use mathlib.Core.Path.{_≡_};
 ghost use lib.IntN.{pos, negsuc, natAbs, _+ℤ_, _-ℤ_};
 ghost use lib.Signed.{_≤ℤ_};
 ghost use Rattle.definitions.specs.Calls.{fontBox, fontBoundingBox, rectangleOutcome};
-use content::vertical_offset::compute_vertical_offset;
+use vertical_offset::compute_vertical_offset;
 use font_reader::new_from_raw_data;
 use types::font_reader::FontReader;
 use types::geometry::Point;

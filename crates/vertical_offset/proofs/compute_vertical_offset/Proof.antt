@@ -6,9 +6,9 @@ use Rattle.types.specs.declared.style.VerticalPosition.the-variants.{Top, Botto
 use Rattle.integers.proofs.Laws.{zarith, widens, widened}
 use Rattle.definitions.specs.VerticalOffset.{verticalOffset}
 use Rattle.definitions.proofs.VerticalOffsetLaws.{offset-fits}
-use Rattle.content.proofs.OffsetLaws.{near-byte, near-total, difference-fits, next-fits, CenterFits, center-fits}
-use Rattle.content.proofs.vertical_offset.compute_vertical_offset.Statement.{statement}
-use Rattle.content.proofs.vertical_offset.compute_vertical_offset.Tie as tie
+use Rattle.vertical_offset.proofs.OffsetLaws.{near-byte, near-total, difference-fits, next-fits, CenterFits, center-fits}
+use Rattle.vertical_offset.proofs.compute_vertical_offset.Statement.{statement}
+use Rattle.vertical_offset.proofs.compute_vertical_offset.Tie as tie
 
 module _ (s : tie.Start) where
   abbrev t : ℕ
