@@ -7,11 +7,11 @@ ghost use Rattle.checks.specs.Origins.{originBy, checkedOrigin, originOu
 use crate::limits::has_bad_position;
 use crate::limits::has_bad_text;
 use content::text::get_newline_count;
-use vertical_offset::compute_vertical_offset;
 use types::error::Error;
 use types::geometry::Point;
 use types::style::Placement;
 use types::style::VerticalPosition;
+use vertical_offset::compute_vertical_offset;
 
 // What a checked text is set with: where it begins, how far below a line the next one lies, and whether unknown characters are
 // skipped.

@@ -15,19 +15,12 @@ use Rattle.definitions.proofs.GlyphLaws.{glyph-range}
 use Rattle.definitions.proofs.TextLaws.{measure-next, measure-stops}
 use Rattle.definitions.proofs.Utf8Laws.{position, utf8-characters, character-count}
 use Rattle.checks.specs.Origins.{Checked}
+use Rattle.answers.proofs.AnswersLaws.{shown-glyph}
 use Rattle.layout.specs.Ranges.{HasRoom}
 use Rattle.layout.proofs.LoopLaws.{Reached, reached-start, reached-end, reached-next, reached-stops}
 use Rattle.layout.proofs.RangeLaws.{Small, in-range-small, Within, advanced-start, has-room, within-next}
 
--- the glyphs that the letters of an opened font show
-pub shown-glyph : (skip : Bool) (o : Outcome GlyphReader) (g : GlyphReader) → answer skip o ≡ shows g → o ≡ success g
-shown-glyph skip (success h) g e = cc
-shown-glyph skip (refused n c) g e = by (skip && eqb n 7) e
-  where
-    by : (t : Bool) → pick t nothing (stops n c) ≡ shows g → refused n c ≡ success g
-    by true e = impossible cc
-    by false e = impossible cc
-
+-- the glyphs that the letters of an opened font show are small
 pub measured-small : {font : List ℕ} {head : FontReader} → Opened font head → (skip : Bool) (c : ℕ) (g : GlyphReader) → measuredAnswer (u8g2 font) skip c ≡ shows g → Small g
 measured-small {font} {head} o skip c g e = in-range-small (glyph-range font head c g o (shown-glyph skip (glyph font c) g e))
 

@@ -1,2 +1,2 @@
-pub mod CharAnswers
+pub mod Offsets
 pub mod Ranges

@@ -1,70 +1,15 @@
-// What the font answers to one character, and by how much an aligned line is moved.
+// Where a glyph lies, and by how much an aligned line is moved.
 ghost use mathlib.Core.Path.{_≡_};
 ghost use lib.IntN.{pos, _+ℤ_, _-ℤ_};
-ghost use Rattle.definitions.specs.Refusals.{refusal};
-ghost use Rattle.definitions.specs.Header.{Opened};
-ghost use Rattle.definitions.specs.Glyph.{glyphOutcome};
-ghost use Rattle.definitions.specs.Text.{answer, boxAt, horizontalOffset};
-ghost use Rattle.definitions.specs.Font.{u8g2, measuredAnswer};
-ghost use Rattle.layout.specs.CharAnswers.{asAnswer, centerOffset};
+ghost use Rattle.definitions.specs.Text.{boxAt, horizontalOffset};
+ghost use Rattle.layout.specs.Offsets.{centerOffset};
 ghost use Rattle.layout.specs.Ranges.{Near, LineInReach};
-use font_reader::retrieve_glyph_data;
-use types::error::Error;
-use types::font_reader::FontReader;
 use types::geometry::BoundingBox;
 use types::geometry::Point;
 use types::geometry::Rectangle;
 use types::geometry::Size;
 use types::glyph_reader::GlyphReader;
-use types::results::GlyphResult;
 use types::style::HorizontalAlignment;
-
-// A character (01's letter) shows a glyph, or nothing where it is unknown and skipped, or stops the text.
-pub enum Answer {
-    Shows(GlyphReader),
-    Nothing,
-    Stops(Error),
-}
-
-// Only an unknown character is skipped: the end of the font always stops the text.
-fn skip_unknown(error: Error, ignore_unknown_chars: bool) -> Answer
-    ensures { λ r. ⌜ asAnswer r ≡ answer «ignore_unknown_chars» (refusal error) ⌝ }
-{
-    let Error::GlyphNotFound(_) = error else {
-        return Answer::Stops(error);
-    };
-    if ignore_unknown_chars {
-        return Answer::Nothing;
-    }
-    Answer::Stops(error)
-}
-
-// What a lookup comes to in a text.
-pub fn answer_of(lookup: GlyphResult, ignore_unknown_chars: bool) -> Answer
-    ensures { λ r. ⌜ asAnswer r ≡ answer «ignore_unknown_chars» (glyphOutcome lookup) ⌝ }
-{
-    match lookup {
-        GlyphResult::Ok(glyph) => Answer::Shows(glyph),
-        GlyphResult::Err(error) => skip_unknown(error, ignore_unknown_chars),
-    }
-}
-
-// The answer to a code point in measuring, which reads no runs.
-pub fn try_retrieve_glyph_data(
-    font: &[u8],
-    head: FontReader,
-    ch: u32,
-    ignore_unknown_chars: bool,
-) -> Answer
-    requires { ⌜ Opened (now font) head ⌝ }
-    ensures { λ r. ⌜ asAnswer r ≡ measuredAnswer (u8g2 (now (font .entry))) «ignore_unknown_chars» ch ⌝ }
-{
-    let lookup = retrieve_glyph_data(font, head, ch);
-    let GlyphResult::Ok(glyph) = lookup else {
-        return answer_of(lookup, ignore_unknown_chars);
-    };
-    Answer::Shows(glyph)
-}
 
 // A coordinate moved by an offset or an advance of a glyph.
 pub fn moved(x: i32, by: i8) -> i32

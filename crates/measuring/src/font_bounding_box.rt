@@ -3,7 +3,6 @@ ghost use mathlib.Core.Path.{_≡_};
 ghost use lib.IntN.{pos, negsuc, natAbs, _+ℤ_, _-ℤ_};
 ghost use lib.Signed.{_≤ℤ_};
 ghost use Rattle.definitions.specs.Calls.{fontBox, fontBoundingBox, rectangleOutcome};
-use vertical_offset::compute_vertical_offset;
 use font_reader::new_from_raw_data;
 use types::font_reader::FontReader;
 use types::geometry::Point;
@@ -12,6 +11,7 @@ use types::geometry::Size;
 use types::results::FontReaderResult;
 use types::results::RectangleResult;
 use types::style::VerticalPosition;
+use vertical_offset::compute_vertical_offset;
 
 // The top edge of a box of that height, y above the baseline.
 fn box_top(baseline: i32, height: i8, y: i8) -> i32

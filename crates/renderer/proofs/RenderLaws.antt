@@ -20,63 +20,18 @@ use Rattle.definitions.proofs.RefusalLaws.{succeeded}
 use Rattle.definitions.proofs.GlyphLaws.{glyph-range}
 use Rattle.definitions.proofs.TextLaws.{measure-from, draw-from, draw-next}
 use Rattle.definitions.proofs.Utf8Laws.{next}
-use Rattle.runs.specs.RunReads.{isWhole}
-use Rattle.renderer.specs.CharAnswers.{RunsChecked}
+use Rattle.answers.proofs.AnswersLaws.{drawn-glyph}
 use Rattle.checks.specs.Origins.{originBy, Checked}
 use Rattle.checks.proofs.OriginLaws.{tested, origin-is}
 use Rattle.layout.proofs.RangeLaws.{Small, in-range-small}
 use Rattle.layout.proofs.LoopLaws.{reached-start, reached-last, reached-next}
-use Rattle.layout.proofs.MeasureLaws.{shown-glyph, Measured, measured-start, measured-next}
+use Rattle.layout.proofs.MeasureLaws.{Measured, measured-start, measured-next}
 
 -- ---- a letter
 
-whole-runs : (c : ℕ) (g : GlyphReader) (p : Pixels) → isWhole p ≡ true → success g ≡ withRuns c g p
-whole-runs c g (pixels ps) e = refl
-whole-runs c g cut e = impossible cc
-
-cut-runs : (c : ℕ) (g : GlyphReader) (p : Pixels) → isWhole p ≡ false → refused 8 c ≡ withRuns c g p
-cut-runs c g (pixels ps) e = impossible cc
-cut-runs c g cut e = refl
-
--- the header that was read is the font's
-module _ {font : List ℕ} {head : FontReader} (o : Opened font head) where
-  read-whole : (g : GlyphReader) → isWhole (glyphPixels font head g) ≡ isWhole (glyphPixels font (header font) g)
-  read-whole g = ap (λ (h : FontReader). isWhole (glyphPixels font h g)) (o .read)
-
-  -- a glyph that was found, by whether its runs are all there
-  module _ (c : ℕ) {g : GlyphReader} (found : glyph font c ≡ success g) where
-    pub whole-glyph : isWhole (glyphPixels font head g) ≡ true → success g ≡ drawable (u8g2 font) c (glyph font c)
-    whole-glyph e = rw found (whole-runs c g (glyphPixels font (header font) g) (sym (read-whole g) ∙ e))
-
-    pub cut-glyph : isWhole (glyphPixels font head g) ≡ false → refused 8 c ≡ drawable (u8g2 font) c (glyph font c)
-    cut-glyph e = rw found (cut-runs c g (glyphPixels font (header font) g) (sym (read-whole g) ∙ e))
-
--- a glyph that a letter shows was found, and its runs are all there
-drawn-glyph : (font : List ℕ) (skip : Bool) (c : ℕ) (g : GlyphReader) → drawnAnswer (u8g2 font) skip c ≡ shows g
-    → (glyph font c ≡ success g) × (isWhole (glyphPixels font (header font) g) ≡ true)
-drawn-glyph font skip c g e = by (glyph font c) refl (shown-glyph skip (drawable (u8g2 font) c (glyph font c)) g e)
-  where
-    with-runs : (h : GlyphReader) → glyph font c ≡ success h → (p : Pixels) → glyphPixels font (header font) h ≡ p → withRuns c h p ≡ success g
-        → (glyph font c ≡ success g) × (isWhole (glyphPixels font (header font) g) ≡ true)
-    with-runs h k (pixels ps) q d =
-        let same : h ≡ g = cc in
-        (k ∙ ap success same, ap (λ (x : GlyphReader). isWhole (glyphPixels font (header font) x)) (sym same) ∙ ap isWhole q)
-    with-runs h k cut q d = impossible cc
-
-    by : (o : Outcome GlyphReader) → glyph font c ≡ o → drawable (u8g2 font) c o ≡ success g
-        → (glyph font c ≡ success g) × (isWhole (glyphPixels font (header font) g) ≡ true)
-    by (success h) k d = with-runs h k (glyphPixels font (header font) h) refl d
-    by (refused n m) k d = impossible cc
-
-module _ {font : List ℕ} {head : FontReader} (o : Opened font head) (skip : Bool) (c : ℕ) where
-  pub drawn-small : (g : GlyphReader) → drawnAnswer (u8g2 font) skip c ≡ shows g → Small g
-  drawn-small g e = in-range-small (glyph-range font head c g o (drawn-glyph font skip c g e .0))
-
-  pub runs-checked : RunsChecked font head (drawnAnswer (u8g2 font) skip c)
-  runs-checked g e =
-      let d = drawn-glyph font skip c g e in
-      let r = glyph-range font head c g o (d .0) in
-      record { opened = o; place = omega arith; whole = read-whole o g ∙ d .1 }
+pub drawn-small : {font : List ℕ} {head : FontReader} → Opened font head → (skip : Bool) (c : ℕ) (g : GlyphReader)
+    → drawnAnswer (u8g2 font) skip c ≡ shows g → Small g
+drawn-small {font} {head} o skip c g e = in-range-small (glyph-range font head c g o (drawn-glyph font skip c g e .0))
 
 -- ---- the loop: what holds after `at` bytes
 

@@ -3,15 +3,15 @@ ghost use mathlib.Core.Path.{_≡_};
 ghost use Prim.Native.Nat.{_≤_};
 ghost use lib.ListN.{length};
 ghost use Rattle.definitions.specs.Header.{Opened};
-ghost use Rattle.definitions.specs.Glyph.{glyph, glyphOutcome};
 ghost use Rattle.definitions.specs.TextSteps.{answerShown, step, stepShown};
-ghost use Rattle.definitions.specs.Font.{u8g2, drawable, drawnAnswer, pixelsOf};
+ghost use Rattle.definitions.specs.Font.{u8g2, drawnAnswer, pixelsOf};
 ghost use Rattle.definitions.specs.Calls.{plain, draw, drawBuffer, dimensionsOutcome};
-ghost use Rattle.layout.specs.CharAnswers.{asAnswer};
-ghost use Rattle.renderer.specs.CharAnswers.{RunsChecked};
+ghost use Rattle.answers.specs.Answers.{asAnswer, RunsChecked};
 ghost use Rattle.renderer.specs.Texts.{Fits, countedWith, drawnWith};
 ghost use Rattle.checks.specs.Origins.{Checked};
 ghost use Rattle.layout.specs.Ranges.{HasRoom};
+use answers::Answer;
+use answers::retrieve_answer;
 use checks::limits::has_bad_color;
 use checks::limits::has_bad_size;
 use checks::origin::OriginResult;
@@ -20,15 +20,11 @@ use checks::origin::checked_origin;
 use content::text::NextChar;
 use content::text::next_char;
 use font_reader::new_from_raw_data;
-use font_reader::retrieve_glyph_data;
 use glyph_renderer::render_glyph;
-use layout::render_actions::Answer;
-use layout::render_actions::answer_of;
 use layout::steps::NEWLINE;
 use layout::steps::add_answer;
 use layout::steps::add_newline;
 use layout::steps::get_next_bounding_box;
-use runs::check_runs;
 use types::error::Error;
 use types::font_reader::FontReader;
 use types::framebuffer::Framebuffer;
@@ -37,34 +33,9 @@ use types::geometry::Point;
 use types::geometry::RenderedDimensions;
 use types::results::DimensionsResult;
 use types::results::FontReaderResult;
-use types::results::GlyphResult;
 use types::style::FontColor;
 use types::style::FontStyle;
 use types::style::Placement;
-
-// The glyph of a code point, its runs read to the last pixel. So a glyph that the font's end cuts off is refused before any
-// of it is drawn.
-fn retrieve_whole_glyph(font: &[u8], head: FontReader, ch: u32) -> GlyphResult
-    requires { ⌜ Opened (now font) head ⌝ }
-    ensures { λ r. ⌜ glyphOutcome r ≡ drawable (u8g2 (now (font .entry))) ch (glyph (now (font .entry)) ch) ⌝ }
-{
-    let lookup = retrieve_glyph_data(font, head, ch);
-    let GlyphResult::Ok(glyph) = lookup else {
-        return lookup;
-    };
-    if check_runs(font, head, glyph) {
-        return GlyphResult::Ok(glyph);
-    }
-    GlyphResult::Err(Error::FontEnds(ch))
-}
-
-// The answer to a code point in drawing.
-fn retrieve_answer(font: &[u8], head: FontReader, ch: u32, ignore_unknown_chars: bool) -> Answer
-    requires { ⌜ Opened (now font) head ⌝ }
-    ensures { λ r. ⌜ asAnswer r ≡ drawnAnswer (u8g2 (now (font .entry))) «ignore_unknown_chars» ch ⌝ }
-{
-    answer_of(retrieve_whole_glyph(font, head, ch), ignore_unknown_chars)
-}
 
 // What is drawn with, and on what.
 pub struct Context {

@@ -4,7 +4,7 @@ use Rattle.integers.proofs.Laws.{zarith, minus, neg, stored}
 use Rattle.definitions.specs.Vocabulary.{BoundingBox, None, Some}
 use Rattle.types.specs.declared.style.HorizontalAlignment.the-variants.{Center}
 use Rattle.definitions.specs.Text.{horizontalOffset}
-use Rattle.layout.specs.CharAnswers.{centerOffset}
+use Rattle.layout.specs.Offsets.{centerOffset}
 use Rattle.layout.proofs.RangeLaws.{negated}
 use Rattle.layout.proofs.render_actions.compute_horizontal_offset.Statement.{statement}
 use Rattle.layout.proofs.render_actions.compute_horizontal_offset.Tie as tie

@@ -1,6 +1,6 @@
 -- `answerShown` goes by the same cases.
 use Rattle.integers.proofs.Prelude.{_≡_, ap, _∙_, _+ℤ_, needs}
-use Rattle.layout.specs.CharAnswers.{asAnswer}
+use Rattle.answers.specs.Answers.{asAnswer}
 use Rattle.renderer.proofs.render.draw_answer.Statement.{statement}
 use Rattle.renderer.proofs.render.draw_answer.Tie as tie
 

@@ -1,6 +1,6 @@
 -- A newline is code point 10; any other is looked up, drawn and counted.
 use Rattle.integers.proofs.Prelude.{_≡_, sym, _∙_, eq-eqb, ne-eqb, needs}
-use Rattle.renderer.proofs.RenderLaws.{runs-checked}
+use Rattle.answers.proofs.AnswersLaws.{runs-checked}
 use Rattle.renderer.proofs.render.draw_char.Statement.{statement}
 use Rattle.renderer.proofs.render.draw_char.Tie as tie
 

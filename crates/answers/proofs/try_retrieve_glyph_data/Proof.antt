@@ -2,8 +2,8 @@
 use Rattle.integers.proofs.Prelude.{sym, ap, _∙_, needs}
 use Rattle.definitions.specs.Glyph.{glyphOutcome}
 use Rattle.definitions.specs.Text.{answer}
-use Rattle.layout.proofs.render_actions.try_retrieve_glyph_data.Statement.{statement}
-use Rattle.layout.proofs.render_actions.try_retrieve_glyph_data.Tie as tie
+use Rattle.answers.proofs.try_retrieve_glyph_data.Statement.{statement}
+use Rattle.answers.proofs.try_retrieve_glyph_data.Tie as tie
 
 returns : tie.Need-returns
 returns c = c .answer-of .ensures ∙ ap (answer _) (c .before .before .before .retrieve-glyph-data .ensures)

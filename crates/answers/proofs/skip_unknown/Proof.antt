@@ -8,8 +8,8 @@ use Rattle.types.specs.declared.error.Error.the-variants.{FontLength, FontHeade
 use Rattle.types.proofs.error.Error.{the-type}
 use Rattle.definitions.specs.Refusals.{errorNumber, codePoint, refusal}
 use Rattle.definitions.specs.Text.{Answer, nothing, stops, answer}
-use Rattle.layout.proofs.render_actions.skip_unknown.Statement.{statement}
-use Rattle.layout.proofs.render_actions.skip_unknown.Tie as tie
+use Rattle.answers.proofs.skip_unknown.Statement.{statement}
+use Rattle.answers.proofs.skip_unknown.Tie as tie
 
 not-six : {tag : ℕ} → OneOf (0 ∷ 1 ∷ 2 ∷ 3 ∷ 4 ∷ 5 ∷ 7 ∷ []) tag → tag ≡ 6 → ⊥
 not-six (inl e) f = omega arith

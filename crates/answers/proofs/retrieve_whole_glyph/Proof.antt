@@ -3,9 +3,9 @@ use Rattle.integers.proofs.Prelude.{_≡_, sym, ap, _∙_, arith, needs}
 use Rattle.definitions.specs.Refusals.{success}
 use Rattle.definitions.specs.Glyph.{glyph, glyphOutcome}
 use Rattle.definitions.proofs.GlyphLaws.{glyph-range}
-use Rattle.renderer.proofs.RenderLaws.{whole-glyph, cut-glyph}
-use Rattle.renderer.proofs.render.retrieve_whole_glyph.Statement.{statement}
-use Rattle.renderer.proofs.render.retrieve_whole_glyph.Tie as tie
+use Rattle.answers.proofs.AnswersLaws.{whole-glyph, cut-glyph}
+use Rattle.answers.proofs.retrieve_whole_glyph.Statement.{statement}
+use Rattle.answers.proofs.retrieve_whole_glyph.Tie as tie
 
 enum-told : tie.Need-enum-told
 enum-told c = search needs

@@ -1,7 +1,7 @@
 -- `answer` goes by the same cases.
 use Rattle.integers.proofs.Prelude.{_∙_, needs}
-use Rattle.layout.proofs.render_actions.answer_of.Statement.{statement}
-use Rattle.layout.proofs.render_actions.answer_of.Tie as tie
+use Rattle.answers.proofs.answer_of.Statement.{statement}
+use Rattle.answers.proofs.answer_of.Tie as tie
 
 returns : tie.Need-returns
 returns c = simp (c .before .lookup .given .1)

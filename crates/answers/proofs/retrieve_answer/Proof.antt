@@ -1,11 +1,11 @@
 -- The letter of what the lookup answers.
 use Rattle.integers.proofs.Prelude.{_≡_, ap, _∙_, needs}
 use Rattle.definitions.specs.Text.{answer}
-use Rattle.renderer.proofs.render.retrieve_answer.Statement.{statement}
-use Rattle.renderer.proofs.render.retrieve_answer.Tie as tie
+use Rattle.answers.proofs.retrieve_answer.Statement.{statement}
+use Rattle.answers.proofs.retrieve_answer.Tie as tie
 
 returns : tie.Need-returns
-returns c = c .answer-of .ensures ∙ ap (answer _) (c .before .retrieve-whole-glyph .ensures)
+returns c = c .answer-of .ensures ∙ ap (answer (c .before .before .before .args .ignore-unknown-chars)) (c .before .retrieve-whole-glyph .ensures)
 
 pub retrieve-answer-spec : {M : Type 1} → statement M
 retrieve-answer-spec =
