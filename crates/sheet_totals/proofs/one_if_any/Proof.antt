@@ -1,7 +1,7 @@
 -- Each way is the definition's.
 use borrow.Author.Tests.{eq-eqb, ne-eqb}
-use Rattle.readings.proofs.step.one_if_any.Statement.{statement}
-use Rattle.readings.proofs.step.one_if_any.Tie as tie
+use Rattle.sheet_totals.proofs.one_if_any.Statement.{statement}
+use Rattle.sheet_totals.proofs.one_if_any.Tie as tie
 
 returns : tie.Need-returns
 returns c = simp (eq-eqb _ _ (c .if1 .taken))
