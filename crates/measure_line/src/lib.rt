@@ -4,11 +4,10 @@ pub mod program;
 ghost use mathlib.Core.Path.{_≡_};
 ghost use Prim.Native.Nat.{_+_, _≤_};
 ghost use lib.ListN.{length};
-ghost use Rattle.io.specs.Counts.{Counts};
 ghost use Rattle.definitions.specs.Refusals.{success, refusal};
 ghost use Rattle.definitions.specs.Calls.{dimensionsOutcome};
 ghost use Rattle.measure_line.specs.Line.{spaced, boxWords, outcomeLine, measuredByProgram, measuringLine};
-ghost use Rattle.numbers.specs.Written.{Written};
+ghost use Rattle.numbers.specs.Written.{Written, WrittenWithin, LineWritten};
 use font_reader::new_from_raw_data;
 use measuring::rendered_dimensions::get_rendered_dimensions;
 use numbers::writer::append;
@@ -29,8 +28,7 @@ use utils::error::error_number;
 // Left, top, width and height.
 fn append_rectangle(out: &mut [u8], at: usize, r: Rectangle) -> usize
     requires { ⌜ at + 46 ≤ length (now out) ⌝ }
-    ensures { λ n. ⌜ (n ≤ at + 46) × Written (now (out .entry)) at (spaced (boxWords (BoundingBox.Some r))) n
-        (now (out .exit)) ⌝ }
+    ensures { λ n. ⌜ WrittenWithin 46 (now (out .entry)) at (spaced (boxWords (BoundingBox.Some r))) n (now (out .exit)) ⌝ }
 {
     let left = append_signed(out, at, r.top_left.x);
     let top = append_signed(out, left, r.top_left.y);
@@ -40,7 +38,7 @@ fn append_rectangle(out: &mut [u8], at: usize, r: Rectangle) -> usize
 
 fn append_bounding_box(out: &mut [u8], at: usize, b: BoundingBox) -> usize
     requires { ⌜ at + 46 ≤ length (now out) ⌝ }
-    ensures { λ n. ⌜ (n ≤ at + 46) × Written (now (out .entry)) at (spaced (boxWords b)) n (now (out .exit)) ⌝ }
+    ensures { λ n. ⌜ WrittenWithin 46 (now (out .entry)) at (spaced (boxWords b)) n (now (out .exit)) ⌝ }
 {
     match b {
         BoundingBox::None => append(out, at, b" none"),
@@ -107,8 +105,8 @@ fn measured(font: &[u8], text: &[u8]) -> DimensionsResult
 
 // Writes the line to the start of `out` and answers its length. What stands behind the line stays.
 pub fn measure_line(font: &[u8], text: &[u8], out: &mut [u8; LINE_ROOM]) -> usize
-    ensures { λ n. ⌜ Counts n (now (out .exit)) × Written (now (out .entry)) 0
-        (measuringLine (now (font .entry)) (now (text .entry))) n (now (out .exit)) ⌝ }
+    ensures { λ n. ⌜ LineWritten (now (out .entry)) (measuringLine (now (font .entry)) (now (text .entry))) n
+        (now (out .exit)) ⌝ }
 {
     let result = measured(font, text);
     result_line(out, result)
