@@ -35,4 +35,4 @@ build() {
 }
 build release "" ""
 build lto "-C codegen-units=1" "-C lto=fat"
-python3 "$here/bench_table.py" "$bench" "$root/target/staticlib/libc_api.a" "$here/papayahelm.h"
+python3 "$here/bench_table.py" "$bench" "$root/target/staticlib/libc_api.a" "$root/bindings/c/papayahelm.h"

@@ -31,4 +31,4 @@ compile --crate-type rlib --crate-name u8g2_fonts --extern "embedded_graphics_co
 (cd "$root" && rt staticlib c_api > "$out/staticlib.log" 2>&1) || { tail -n 20 "$out/staticlib.log" >&2; exit 1; }
 compile --crate-type bin --crate-name driver --extern "embedded_graphics_core=$out/libembedded_graphics_core.rlib" \
   --extern "u8g2_fonts=$out/libu8g2_fonts.rlib" -L "$root/target/staticlib" -l static=c_api -o "$out/driver" "$here/driver/main.rs"
-cc -Wall -Wextra -O2 -I "$here" -o "$out/boundary" "$here/boundary.c" -L "$root/target/staticlib" -lc_api
+cc -Wall -Wextra -O2 -I "$root/bindings/c" -o "$out/boundary" "$here/boundary.c" -L "$root/target/staticlib" -lc_api
