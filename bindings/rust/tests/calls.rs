@@ -153,6 +153,10 @@ fn measures_aligned() {
     assert_eq!(aligned("-4", HorizontalAlignment::Center), Ok(Some(area(8, 17, 5, 3))));
     assert_eq!(aligned("-4", HorizontalAlignment::Right), Ok(Some(area(5, 17, 5, 3))));
     assert_eq!(aligned("", HorizontalAlignment::Right), Ok(None));
+    let anchored = |anchor| {
+        font(T).get_rendered_dimensions_aligned("-", HERE, anchor, HorizontalAlignment::Left)
+    };
+    assert_eq!(ANCHORS.map(anchored), [17, 21, 19, 17].map(|top| Ok(Some(area(10, top, 2, 1)))));
 }
 
 #[test]
@@ -238,9 +242,9 @@ fn text_is_a_string_or_bytes() {
 #[test]
 fn redraws() {
     let place = Place {
-        vertical_pos: VerticalPosition::Bottom,
+        vertical_pos: VerticalPosition::Top,
         background: 3,
-        ..Place::new(Point::new(1, 5), INK)
+        ..Place::new(Point::new(1, 1), INK)
     };
     let alone = |text: &str| {
         let mut pixels = [3; 12 * 8];
