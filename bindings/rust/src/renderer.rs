@@ -102,7 +102,6 @@ impl<'a> FontRenderer<'a> {
     /// # Errors
     ///
     /// All that [`Error`] lists.
-    #[inline]
     pub fn redraw(
         &self,
         old_text: impl AsRef<[u8]>,
@@ -153,7 +152,6 @@ impl<'a> FontRenderer<'a> {
     /// All that [`Error`] lists. After [`GlyphNotFound`](Error::GlyphNotFound) and
     /// [`FontEnds`](Error::FontEnds) the characters before the refused one are drawn, after the
     /// others nothing is.
-    #[inline]
     pub fn render(
         &self,
         text: impl AsRef<[u8]>,
@@ -202,7 +200,6 @@ impl<'a> FontRenderer<'a> {
     /// # Errors
     ///
     /// Those of [`Error`] that are not about colours or framebuffers.
-    #[inline]
     pub fn get_rendered_dimensions(
         &self,
         text: impl AsRef<[u8]>,
@@ -238,7 +235,6 @@ impl<'a> FontRenderer<'a> {
     /// # Errors
     ///
     /// Those of [`get_rendered_dimensions`](Self::get_rendered_dimensions).
-    #[inline]
     pub fn get_rendered_dimensions_aligned(
         &self,
         text: impl AsRef<[u8]>,
