@@ -7,9 +7,8 @@ fn main() -> Result<(), papayahelm::Error> {
     let mut shown = ""; // the text that stands: at first none
     for text in ["-12.5°", "7.0°", "7.?"] {
         let answer = font.redraw(shown, text, place, &mut panel);
-        match &answer {
-            Ok(drawn) => println!("{text}: drawn, advance {}", drawn.advance.x),
-            Err(refusal) => println!("{text}: {refusal}"), // nothing of it is drawn
+        if let Err(refusal) = &answer {
+            println!("{text}: {refusal}"); // "the font has no glyph for '?' (U+003F)"
         }
         shown = standing(&answer, shown, text);
     }
