@@ -36,6 +36,7 @@ pub enum Error {
 
 impl Error {
     /// The refusal that a status other than 0 stands for.
+    #[cold]
     pub(crate) const fn from_status(status: u32, code_point: i64) -> Self {
         // Refused characters come from UTF-8, so that each of them is a `char`.
         let refused = match char::from_u32(code_point as u32) {

@@ -11,6 +11,7 @@ use crate::{
 /// whether there is a bounding box, and its left, top, width and height.
 type Reply = [i64; 8];
 
+#[inline]
 fn checked(status: u32, reply: &Reply) -> Result<(), Error> {
     match status {
         0 => Ok(()),
@@ -19,6 +20,7 @@ fn checked(status: u32, reply: &Reply) -> Result<(), Error> {
 }
 
 /// The library makes these numbers of an `i32` or a `u32`, so that no cast here loses anything.
+#[inline]
 fn rectangle(reply: &Reply) -> Rectangle {
     Rectangle {
         top_left: Point::new(reply[4] as i32, reply[5] as i32),
@@ -26,10 +28,12 @@ fn rectangle(reply: &Reply) -> Rectangle {
     }
 }
 
+#[inline]
 fn bounding_box(reply: &Reply) -> Option<Rectangle> {
     (reply[3] != 0).then(|| rectangle(reply))
 }
 
+#[inline]
 fn dimensions(status: u32, reply: &Reply) -> Result<RenderedDimensions, Error> {
     checked(status, reply)?;
     Ok(RenderedDimensions {
