@@ -4,10 +4,9 @@ use core::fmt;
 
 /// Why a call is refused. Its [`Display`](fmt::Display) says it in words.
 ///
-/// After the first six nothing that was lent has changed. After the last two a call that draws has
-/// drawn the characters before the refused one, and
-/// [`FontRenderer::redraw`](crate::FontRenderer::redraw) has cleared the old text and drawn
-/// nothing.
+/// After the numbers 1 to 6 nothing that was lent has changed. After 7 and 8
+/// [`render`](crate::FontRenderer::render) has drawn the characters before the refused one, and
+/// [`redraw`](crate::FontRenderer::redraw) has cleared the old text and drawn nothing.
 #[derive(Clone, Copy, Debug, PartialEq, Eq, Hash)]
 #[non_exhaustive]
 pub enum Error {
@@ -15,8 +14,8 @@ pub enum Error {
     FontLength,
     /// Number 2: a bit width in the font's header is off limits, or its bounding box is negative.
     FontHeader,
-    /// Number 3: the framebuffer is not 1 to 256 pixels wide and high, or its bytes are not `width
-    /// * height`.
+    /// Number 3: the framebuffer is not 1 to 256 pixels wide and high, or its buffer has another
+    /// length.
     FramebufferSize,
     /// Number 4: the text has more than 4,096 bytes or is not UTF-8.
     TextEncoding,
