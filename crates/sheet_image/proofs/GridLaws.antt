@@ -6,11 +6,11 @@ use Rattle.integers.specs.Integers.{pick}
 use Rattle.integers.proofs.Laws.{zarith, minus, size}
 use Rattle.definitions.specs.Geometry.{Inside}
 use Rattle.definitions.specs.Picture.{Paint, keep, put, covers}
-use Rattle.definitions.specs.Framebuffer.{over, shown}
+use Rattle.definitions.specs.Framebuffer.{over}
 use Rattle.definitions.proofs.PictureLaws.{covers-inside, inside-covers}
 use Rattle.definitions.proofs.FramebufferLaws.{is-shown, shown-at, length-shown}
 use Rattle.definitions.specs.Vocabulary.{Framebuffer}
-use Rattle.sheet_image.specs.Grid.{cellArea, cellPicture, withCell, RowCopied, begun, nextCell, CellFits, BandFits}
+use Rattle.sheet_image.specs.Grid.{cellArea, cellPicture, withCell, RowCopied, begun, nextCell, CellSize, CellFits, BandFits}
 
 -- ---- a row
 
@@ -142,14 +142,14 @@ module _ {bytes bandWidth column cell width height : ℕ} (f : CellFits bytes ba
   band-small = let k : y ≤ 256 = omega (arith, f .high) in mul-le-mul k (f .band)
 
 -- the cells of a band
-pub cells : (cell : ℕ) → 1 ≤ cell → cell ≤ 65536 → (1 ≤ 262000 / cell) × (262000 / cell * cell ≤ 262000)
-cells cell some most = (by (decLt 0 (262000 / cell)), omega (arith, div-add-mod' 262000 cell))
+pub cells : (cell : ℕ) → CellSize cell → (1 ≤ 262000 / cell) × (262000 / cell * cell ≤ 262000)
+cells cell s = (by (decLt 0 (262000 / cell)), omega (arith, div-add-mod' 262000 cell))
   where
     by : Dec (0 < 262000 / cell) → 1 ≤ 262000 / cell
     by (yes k) = k
     by (no k) =
         let z : 262000 / cell ≡ 0 = omega arith in
-        absurd (omega (arith, rw z at (div-add-mod' 262000 cell), mod-lt 262000 some))
+        absurd (omega (arith, rw z at (div-add-mod' 262000 cell), mod-lt 262000 (s .some)))
 
 -- a cell of a band of n
 pub cell-fits : {bytes n j cell : ℕ} {p : Framebuffer} → BandFits bytes n j cell p → CellFits bytes (n * p .width) (j * p .width) cell (p .width) (p .height)

@@ -2,7 +2,7 @@
 use mathlib.Core.Path.{_≡_}
 use mathlib.Core.Bool.{Bool, true, false}
 use mathlib.Core.List.{List}
-use Prim.Native.Nat.{ℕ, _+_, _-_, _*_, _≤_, _<_}
+use Prim.Native.Nat.{ℕ, _+_, _*_, _≤_, _<_}
 use lib.Dec.{eqb, ltb}
 use lib.IntN.{pos, natAbs, _-ℤ_}
 use lib.ListN.{length, getD, replicate}
@@ -43,7 +43,24 @@ abbrev pub nextCell : ℕ → ℕ → Bool → ℕ
 nextCell n j true = 0
 nextCell n j false = pick (ltb (j + 1) n) (j + 1) 0
 
+-- Where the next cell goes, once cell j is placed in the band.
+pub record CellPut (n j : ℕ) (isLast : Bool) (screen : List ℕ) (p : Framebuffer) (before after : List ℕ) (next : ℕ) : Type 0 where
+  pub is : next ≡ nextCell n j isLast
+  pub within : next < n
+  pub placed : after ≡ withCell (n * p .width) (j * p .width) screen (p .width) (p .height) (begun j before)
+
 -- ---- what fits
+
+-- A cell of so many bytes,
+pub record CellSize (cell : ℕ) : Type 0 where
+  pub some : 1 ≤ cell
+  pub most : cell ≤ 65536
+
+-- and n of them in a band.
+pub record Columns (cell n : ℕ) : Type 0 where
+  pub some : 1 ≤ n
+  pub few : n ≤ 30
+  pub fit : n * cell ≤ 262000
 
 -- A framebuffer of width × height bytes fits into the band from that column on.
 pub record CellFits (bytes bandWidth column cell width height : ℕ) : Type 0 where

@@ -1,16 +1,16 @@
 // A band of the image: cells side by side.
 ghost use mathlib.Core.Path.{_≡_};
-ghost use Prim.Native.Nat.{_*_, _≤_, _<_};
+ghost use Prim.Native.Nat.{_*_, _<_};
 ghost use lib.ListN.{length};
-ghost use Rattle.sheet_image.specs.Grid.{withCell, begun, nextCell, BandFits};
+ghost use Rattle.sheet_image.specs.Grid.{begun, CellPut, CellSize, Columns, BandFits};
 use crate::grid::place_cell;
 use buffers::fill;
 use types::framebuffer::Framebuffer;
 
 // How many readings stand side by side in the image: as many as the band holds, and at most 30.
 pub fn columns(cell: usize) -> usize
-    requires { ⌜ (1 ≤ cell) × (cell ≤ 65536) ⌝ }
-    ensures { λ r. ⌜ (1 ≤ r) × ((r ≤ 30) × (r * cell ≤ 262000)) ⌝ }
+    requires { ⌜ CellSize cell ⌝ }
+    ensures { λ r. ⌜ Columns cell r ⌝ }
 {
     let n = 262000 / cell;
     if 30 < n { 30 } else { n }
@@ -36,9 +36,7 @@ pub fn put_cell(
     image: i32,
 ) -> usize
     requires { ⌜ BandFits (length (now band)) n j (length (now screen)) framebuffer ⌝ }
-    ensures next { λ r. ⌜ (r ≡ nextCell n j «is_last») × (r < n) ⌝ }
-    ensures placed { λ r. ⌜ now (band .exit) ≡ withCell (n * framebuffer .width) (j * framebuffer .width) (now (screen .entry))
-        (framebuffer .width) (framebuffer .height) (begun j (now (band .entry))) ⌝ }
+    ensures { λ r. ⌜ CellPut n j «is_last» (now (screen .entry)) framebuffer (now (band .entry)) (now (band .exit)) r ⌝ }
 {
     let width = framebuffer.width;
     let height = framebuffer.height;

@@ -2,9 +2,9 @@
 use Rattle.integers.proofs.Prelude.{_≡_, sym, ap, _∙_, List, ℕ, _+_, _-_, _*_, _/_, _≤_, _<_, div-le-self, mul-le-mul, arith, length, take}
 use Rattle.integers.proofs.Prelude.{length-take-le}
 use Rattle.definitions.specs.Vocabulary.{Framebuffer}
-use Rattle.sheet_image.specs.Grid.{BandFits}
+use Rattle.sheet_image.specs.Grid.{CellSize, BandFits}
 use Rattle.readings.specs.Readings.{PlaceFits}
-use Rattle.sheet_program.specs.Sheets.{SheetFits}
+use Rattle.sheet_program.specs.Sheets.{SheetFits, HeadFits, LargestFit}
 
 -- the reading's cell in the part of the band that is used
 pub used-band : {p : Framebuffer} {ground screen alone band n j bytes cell : ℕ} → SheetFits p ground screen alone band → j < n → n ≤ 30 → bytes ≡ n * ground
@@ -19,9 +19,8 @@ used-band {n = n} f some few area same = record {
   area = area ∙ ap (λ (m : ℕ). n * m) (f .as-screen ∙ sym same);
 }
 
-pub cell-size : {p : Framebuffer} {ground screen alone band : ℕ} → SheetFits p ground screen alone band → (1 ≤ ground) × (ground ≤ 65536)
-cell-size f =
-    (omega (arith, f .whole, mul-le-mul (f .some-wide) (f .some-high)), omega (arith, f .whole, mul-le-mul (f .wide) (f .high)))
+pub cell-size : {p : Framebuffer} {ground screen alone band : ℕ} → SheetFits p ground screen alone band → CellSize ground
+cell-size f = record { some = omega (arith, f .whole, mul-le-mul (f .some-wide) (f .some-high)); most = omega (arith, f .whole, mul-le-mul (f .wide) (f .high)) }
 
 -- a framebuffer of the place's size, at the front of the largest
 module _ {p : Framebuffer} (f : PlaceFits (p .width) (p .height)) where
@@ -31,23 +30,23 @@ module _ {p : Framebuffer} (f : PlaceFits (p .width) (p .height)) where
   pub front-length : (l : List ℕ) → length l ≡ 65536 → length (take (p .width * p .height) l) ≡ p .width * p .height
   front-length l e = length-take-le (p .width * p .height) l (omega (arith, place-size))
 
-  pub sheet-fits : (ground screen alone band : List ℕ) → length ground ≡ 65536 → length screen ≡ 65536 → length alone ≡ 65536 → length band ≡ 262000
+  pub sheet-fits : (ground screen alone band : List ℕ) → LargestFit (length ground) (length screen) (length alone) (length band)
       → SheetFits p (length (take (p .width * p .height) ground)) (length (take (p .width * p .height) screen)) (length (take (p .width * p .height) alone)) (length band)
-  sheet-fits ground screen alone band g s a b = record {
+  sheet-fits ground screen alone band l = record {
     some-wide = f .some-wide;
     wide = f .wide;
     some-high = f .some-high;
     high = f .high;
-    whole = front-length ground g;
-    as-screen = front-length ground g ∙ sym (front-length screen s);
-    as-alone = front-length ground g ∙ sym (front-length alone a);
-    enough = b;
+    whole = front-length ground (l .for-ground);
+    as-screen = front-length ground (l .for-ground) ∙ sym (front-length screen (l .for-screen));
+    as-alone = front-length ground (l .for-ground) ∙ sym (front-length alone (l .for-alone));
+    enough = l .for-band;
   }
 
 -- the image's size
-pub image-size : (n width height : ℕ) → n ≤ 30 → width ≤ 256 → height ≤ 256 → 1 ≤ n → (n * width ≤ 7680) × ((901 + n - 1) / n * height ≤ 238080)
-image-size n width height few wide high some =
-    let a : n * width ≤ 30 * 256 = mul-le-mul few wide in
+pub image-size : {p : Framebuffer} {n : ℕ} → HeadFits p n → (n * p .width ≤ 7680) × ((901 + n - 1) / n * p .height ≤ 238080)
+image-size {p} {n} f =
+    let a : n * p .width ≤ 30 * 256 = mul-le-mul (f .few) (f .wide) in
     let r : (901 + n - 1) / n ≤ 930 = omega (arith, div-le-self (901 + n - 1) n) in
-    let b : (901 + n - 1) / n * height ≤ 930 * 256 = mul-le-mul r high in
+    let b : (901 + n - 1) / n * p .height ≤ 930 * 256 = mul-le-mul r (f .high) in
     (omega arith, omega arith)

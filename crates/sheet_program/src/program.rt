@@ -1,9 +1,7 @@
 // The sheet as a program: the font's readings are drawn and checked, the image goes into the file sheet.pgm.
-ghost use mathlib.Core.Path.{_≡_};
-ghost use Prim.Native.Nat.{_≤_};
 ghost use lib.ListN.{length};
 ghost use Rattle.sheet_extent.specs.Extent.{placeFor};
-ghost use Rattle.sheet_program.specs.Sheets.{SheetFits, SheetOf};
+ghost use Rattle.sheet_program.specs.Sheets.{SheetFits, HeadFits, LargestFit, SheetOf};
 use crate::run::run;
 use crate::values::Sheet;
 use bytes::copy;
@@ -38,7 +36,7 @@ fn print_totals(totals: Totals) {
 
 // The head of a PGM image of all readings, n in a row.
 fn write_head(image: i32, framebuffer: Framebuffer, n: usize)
-    requires { ⌜ (framebuffer .width ≤ 256) × ((framebuffer .height ≤ 256) × ((1 ≤ n) × (n ≤ 30))) ⌝ }
+    requires { ⌜ HeadFits framebuffer n ⌝ }
 {
     let rows = (COUNT + n - 1) / n;
     io::write_all(image, b"P5\n");
@@ -89,8 +87,7 @@ pub fn make_sheet(
     alone: &mut [u8],
     band: &mut [u8],
 ) -> Sheet
-    requires { ⌜ (length (now ground) ≡ 65536) × ((length (now screen) ≡ 65536)
-        × ((length (now alone) ≡ 65536) × (length (now band) ≡ 262000))) ⌝ }
+    requires { ⌜ LargestFit (length (now ground)) (length (now screen)) (length (now alone)) (length (now band)) ⌝ }
     ensures { λ r. ⌜ SheetOf (options .narrow) (now (font .entry)) (placeFor (now (font .entry)) options) r ⌝ }
 {
     let place = place_for(font, options);

@@ -1,9 +1,6 @@
 // The loop over all readings: each is checked, reported where it fails, and put into the image.
-ghost use mathlib.Core.Path.{_≡_};
 ghost use lib.ListN.{length};
-ghost use Rattle.readings.specs.Ground.{ClearTo};
-ghost use Rattle.readings.specs.Sheet.{screenAt, totalsTo, Sound};
-ghost use Rattle.sheet_program.specs.Sheets.{SheetFits};
+ghost use Rattle.sheet_program.specs.Sheets.{RunFits, RunDone};
 use libc::STDOUT_FILENO;
 use readings::step::counted;
 use readings::step::step;
@@ -49,14 +46,8 @@ pub fn run(
     band: &mut [u8],
     image: i32,
 ) -> Totals
-    requires fits { ⌜ SheetFits (trial .place .framebuffer) (length (now ground)) (length (now screen)) (length (now alone))
-        (length (now band)) ⌝ }
-    requires begins { ⌜ now screen ≡ now ground ⌝ }
-    ensures totals { λ r. ⌜ r ≡ totalsTo (trial .narrow) (now (font .entry)) (trial .place) (now (ground .entry)) 901 ⌝ }
-    ensures left { λ r. ⌜ now (screen .exit) ≡ screenAt (trial .narrow) (now (font .entry)) (trial .place) (now (ground .entry))
-        901 .bytes ⌝ }
-    ensures sound { λ r. ⌜ (ClearTo 901 (now (font .entry)) (trial .place) (now (ground .entry)) → Sound (trial .narrow)
-        (now (font .entry)) (trial .place) (now (ground .entry)) r) ⌝ }
+    requires { ⌜ RunFits (trial .place .framebuffer) (now ground) (now screen) (length (now alone)) (length (now band)) ⌝ }
+    ensures { λ r. ⌜ RunDone (trial .narrow) (now (font .entry)) (trial .place) (now (ground .entry)) (now (screen .exit)) r ⌝ }
 {
     let place = trial.place;
     let framebuffer = place.framebuffer;

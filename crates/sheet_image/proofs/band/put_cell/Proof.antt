@@ -20,7 +20,11 @@ returns c =
     let a = s .args in
     let placed = ap (withCell (a .n * a .framebuffer .width) (a .j * a .framebuffer .width) (a .screen .now) (a .framebuffer .width) (a .framebuffer .height))
     (c .before .before .before .before .before .before .before .before .before .begin-band .ensures) in
-    ((last-cell (a .n) (a .j) (a .is-last) (c .before .before .if1 .taken), omega (arith, s .pre .some)), c .before .before .before .before .before .place-cell .ensures ∙ placed)
+    record {
+      is = last-cell (a .n) (a .j) (a .is-last) (c .before .before .if1 .taken);
+      within = omega (arith, s .pre .some);
+      placed = c .before .before .before .before .before .place-cell .ensures ∙ placed;
+    }
 
 returns-2 : tie.Need-returns-2
 returns-2 c =
@@ -28,18 +32,23 @@ returns-2 c =
     let a = s .args in
     let placed = ap (withCell (a .n * a .framebuffer .width) (a .j * a .framebuffer .width) (a .screen .now) (a .framebuffer .width) (a .framebuffer .height))
     (c .before .before .before .before .before .before .before .before .begin-band .ensures) in
-    ((cell-after (a .n) (a .j) (a .is-last) (c .before .if1 .left) (c .if2 .taken), c .if2 .taken), c .before .before .before .before .place-cell .ensures ∙ placed)
+    record {
+      is = cell-after (a .n) (a .j) (a .is-last) (c .before .if1 .left) (c .if2 .taken);
+      within = c .if2 .taken;
+      placed = c .before .before .before .before .place-cell .ensures ∙ placed;
+    }
 
 returns-3 : tie.Need-returns-3
 returns-3 c =
     let s = c .before .before .before .before .before .before .before .before .before .before .before .before .before .before in
     let a = s .args in
     let placed = ap (withCell (a .n * a .framebuffer .width) (a .j * a .framebuffer .width) (a .screen .now) (a .framebuffer .width) (a .framebuffer .height))
-    (c .before .before .before .before .before .before .before .before .before .before .begin-band .ensures) in (
-      (band-after (a .n) (a .j) (a .is-last) (c .before .before .before .if1 .left) (c .before .before .if2 .left), omega (arith, s .pre .some)),
-      c
-          .before .before .before .before .before .before .place-cell .ensures ∙ placed,
-    )
+    (c .before .before .before .before .before .before .before .before .before .before .begin-band .ensures) in
+    record {
+      is = band-after (a .n) (a .j) (a .is-last) (c .before .before .before .if1 .left) (c .before .before .if2 .left);
+      within = omega (arith, s .pre .some);
+      placed = c .before .before .before .before .before .before .place-cell .ensures ∙ placed;
+    }
 
 pub put-cell-spec : {M : Type 1} → statement M
 put-cell-spec =

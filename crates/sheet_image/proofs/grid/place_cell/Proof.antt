@@ -1,13 +1,19 @@
 -- `place_cell` meets its contract: GridLaws.antt has that each row lies in the band and in the cell, and what a row more shows.
 -- Assumes nothing.
-use Rattle.integers.proofs.Prelude.{_≡_, refl, ap, _∙_, ℕ, _-_, _≤_, _<_, arith, length, needs}
+use Rattle.integers.proofs.Prelude.{_≡_, refl, ap, _∙_, List, ℕ, _-_, _≤_, _<_, arith, length, needs}
 use Rattle.sheet_image.specs.Grid.{withCell}
 use Rattle.sheet_image.proofs.GridLaws.{band-row, cell-row, band-small, no-rows, next-row}
 use Rattle.sheet_image.proofs.grid.place_cell.Statement.{statement}
 use Rattle.sheet_image.proofs.grid.place_cell.Tie as tie
 
+-- Of the cell's rows the first y are copied.
+record PlacedTo (before after : List ℕ) (band-width column : ℕ) (cell : List ℕ) (width height y : ℕ) : Type 0 where
+  within : y ≤ height
+  long : length after ≡ length before
+  is : after ≡ withCell band-width column cell width y before
+
 abbrev Inv-loop : tie.InvT-loop
-Inv-loop band₀ band-width column cell width height y₀ band y = (y ≤ height) × ((length band ≡ length band₀) × (band ≡ withCell band-width column cell width y band₀))
+Inv-loop band₀ band-width column cell width height y₀ band y = PlacedTo band₀ band band-width column cell width height y
 
 abbrev μ-loop : tie.MeasureT-loop
 μ-loop band₀ band-width column cell width height y₀ band y = height - y
@@ -17,7 +23,7 @@ loop-holds c =
     let s = c .before .before in
     let a = s .args in
     let some : 0 < a .band-width = omega (arith, s .pre .some, s .pre .right) in
-    (omega arith, (refl, no-rows (a .band-width) (a .column) (a .cell .now) (a .width) (a .band .now) some))
+    record { within = omega arith; long = refl; is = no-rows (a .band-width) (a .column) (a .cell .now) (a .width) (a .band .now) some }
 
 mul-copy-row : tie.Need-mul-copy-row Inv-loop μ-loop
 mul-copy-row c =
@@ -41,7 +47,7 @@ copy-row-requires c κs =
     let f = c .before .before .before .before .before .pre in
     let y = c .before .before .loop .y in
     let h = c .before .loop-test .taken in
-    (omega (arith, f .right, band-row f y h, c .before .before .loop .inv .1 .0), omega (arith, cell-row f y h))
+    (omega (arith, f .right, band-row f y h, c .before .before .loop .inv .long), omega (arith, cell-row f y h))
 
 loop-again : tie.Need-loop-again Inv-loop μ-loop
 loop-again c =
@@ -50,15 +56,15 @@ loop-again c =
     let f = s .pre in
     let l = c .before .before .before .before .before .loop in
     let some : 0 < a .band-width = omega (arith, f .some, f .right) in
-    let next = next-row (a .band-width) (a .column) (a .cell .now) (a .width) (a .band .now) (l .band) _ (l .y) (f .right) some (l .inv .1 .1) in
-    (omega arith, (omega (arith, c .before .band .given, l .inv .1 .0), next (c .before .before .copy-row .ensures)))
+    let next = next-row (a .band-width) (a .column) (a .cell .now) (a .width) (a .band .now) (l .band) _ (l .y) (f .right) some (l .inv .is) in
+    record { within = omega arith; long = omega (arith, c .before .band .given, l .inv .long); is = next (c .before .before .copy-row .ensures) }
 
 returns : tie.Need-returns Inv-loop μ-loop
 returns c =
     let a = c .before .before .before .before .args in
     let l = c .before .loop in
     let all : l .y ≡ a .height = omega arith in
-    l .inv .1 .1 ∙ ap (λ (h : ℕ). withCell (a .band-width) (a .column) (a .cell .now) (a .width) h (a .band .now)) all
+    l .inv .is ∙ ap (λ (h : ℕ). withCell (a .band-width) (a .column) (a .cell .now) (a .width) h (a .band .now)) all
 
 pub place-cell-spec : {M : Type 1} → statement M
 place-cell-spec =

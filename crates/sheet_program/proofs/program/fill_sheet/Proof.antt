@@ -10,10 +10,14 @@ columns-requires : tie.Need-columns-requires
 columns-requires c κs =
     let k = cell-size (c .before .before .before .before .before .before .before .before .before .before .before .before .before .before .before .before .before .before .before .pre) in
     let same = c .before .before .before .before .before .before .before .before .before .before .before .ground .given in
-    (omega (arith, k .0, same), omega (arith, k .1, same))
+    record { some = omega (arith, k .some, same); most = omega (arith, k .most, same) }
 
 run-requires : tie.Need-run-requires
-run-requires c κs = (search needs, c .before .before .before .before .before .before .before .before .before .before .before .before .before .copy .ensures .1 ∙ whole _ _ (search needs))
+run-requires c κs =
+    record {
+      fits = search needs;
+      begins = c .before .before .before .before .before .before .before .before .before .before .before .before .before .copy .ensures .1 ∙ whole _ _ (search needs);
+    }
 
 returns-2 : tie.Need-returns-2
 returns-2 c =
@@ -22,8 +26,8 @@ returns-2 c =
     let a = s .before .before .before .before .before .before .before .args in
     let g = s .lay-ground .ensures in
     let r = c .before .before .before .before .before .before .before .run in (
-      r .ensures .0 ∙ ap (λ (l : List ℕ). totalsTo (a .narrow) (a .font .now) (a .place) l 901) (g .0),
-      subst (λ (l : List ℕ). Sound (a .narrow) (a .font .now) (a .place) l (r .result)) (g .0) (r .ensures .1 .1 (g .1 .0)),
+      r .ensures .totals ∙ ap (λ (l : List ℕ). totalsTo (a .narrow) (a .font .now) (a .place) l 901) (g .laid),
+      subst (λ (l : List ℕ). Sound (a .narrow) (a .font .now) (a .place) l (r .result)) (g .laid) (r .ensures .sound (g .clear)),
     )
 
 pub fill-sheet-spec : {M : Type 1} → statement M

@@ -17,36 +17,35 @@ mul-cell : tie.Need-mul-cell
 mul-cell c = omega (arith, place-size (fits (c .before .before)))
 
 slice-relend-prefix-fill-sheet : tie.Need-slice-relend-prefix-fill-sheet
-slice-relend-prefix-fill-sheet c = omega (arith, place-size (fits (c .before .before)), c .before .before .before .before .before .before .before .before .pre .0)
+slice-relend-prefix-fill-sheet c = omega (arith, place-size (fits (c .before .before)), c .before .before .before .before .before .before .before .before .pre .for-ground)
 
 slice-aggregate-fill-sheet : tie.Need-slice-aggregate-fill-sheet
 slice-aggregate-fill-sheet c =
     let s = c .before .before .before .before .before .before .before .before .before in
-    sym (front-length (fits (c .before .before .before)) (s .args .ground .now) (s .pre .0))
+    sym (front-length (fits (c .before .before .before)) (s .args .ground .now) (s .pre .for-ground))
 
 slice-relend-prefix-fill-sheet-2 : tie.Need-slice-relend-prefix-fill-sheet-2
-slice-relend-prefix-fill-sheet-2 c = omega (arith, place-size (fits (c .before .before .before)), c .before .before .before .before .before .before .before .before .before .pre .1 .0)
+slice-relend-prefix-fill-sheet-2 c = omega (arith, place-size (fits (c .before .before .before)), c .before .before .before .before .before .before .before .before .before .pre .for-screen)
 
 slice-aggregate-fill-sheet-2 : tie.Need-slice-aggregate-fill-sheet-2
 slice-aggregate-fill-sheet-2 c =
     let s = c .before .before .before .before .before .before .before .before .before .before in
-    sym (front-length (fits (c .before .before .before .before)) (s .args .screen .now) (s .pre .1 .0))
+    sym (front-length (fits (c .before .before .before .before)) (s .args .screen .now) (s .pre .for-screen))
 
 slice-relend-prefix-fill-sheet-3 : tie.Need-slice-relend-prefix-fill-sheet-3
 slice-relend-prefix-fill-sheet-3 c =
-    omega (arith, place-size (fits (c .before .before .before .before)), c .before .before .before .before .before .before .before .before .before .before .pre .1 .1 .0)
+    omega (arith, place-size (fits (c .before .before .before .before)), c .before .before .before .before .before .before .before .before .before .before .pre .for-alone)
 
 slice-aggregate-fill-sheet-3 : tie.Need-slice-aggregate-fill-sheet-3
 slice-aggregate-fill-sheet-3 c =
     let s = c .before .before .before .before .before .before .before .before .before .before .before in
-    sym (front-length (fits (c .before .before .before .before .before)) (s .args .alone .now) (s .pre .1 .1 .0))
+    sym (front-length (fits (c .before .before .before .before .before)) (s .args .alone .now) (s .pre .for-alone))
 
 fill-sheet-requires : tie.Need-fill-sheet-requires
 fill-sheet-requires c κs =
     let s = c .before .before .before .before .before .before .before .before .before .before .before .before in
     let a = s .args in
-    let p = s .pre in
-    sheet-fits (fits (c .before .before .before .before .before .before)) (a .ground .now) (a .screen .now) (a .alone .now) (a .band .now) (p .0) (p .1 .0) (p .1 .1 .0) (p .1 .1 .1)
+    sheet-fits (fits (c .before .before .before .before .before .before)) (a .ground .now) (a .screen .now) (a .alone .now) (a .band .now) (s .pre)
 
 returns : tie.Need-returns
 returns c =

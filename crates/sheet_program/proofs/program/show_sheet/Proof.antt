@@ -4,7 +4,9 @@ use Rattle.sheet_program.proofs.program.show_sheet.Statement.{statement
 use Rattle.sheet_program.proofs.program.show_sheet.Tie as tie
 
 make-sheet-requires : tie.Need-make-sheet-requires
-make-sheet-requires c κs = (length-replicate {A = ℕ} 65536 0, (length-replicate {A = ℕ} 65536 0, (length-replicate {A = ℕ} 65536 0, length-replicate {A = ℕ} 262000 0)))
+make-sheet-requires c κs =
+    let n = length-replicate {A = ℕ} 65536 0 in
+    record { for-ground = n; for-screen = n; for-alone = n; for-band = length-replicate {A = ℕ} 262000 0 }
 
 pub show-sheet-spec : {M : Type 1} → statement M
 show-sheet-spec =

@@ -7,12 +7,12 @@ use Rattle.sheet_program.proofs.program.write_head.Tie as tie
 mul-print-decimal : tie.Need-mul-print-decimal
 mul-print-decimal c =
     let s = c .before .before .before in
-    omega (arith, image-size (s .args .n) (s .args .framebuffer .width) (s .args .framebuffer .height) (s .pre .1 .1 .1) (s .pre .0) (s .pre .1 .0) (s .pre .1 .1 .0))
+    omega (arith, image-size (s .pre))
 
 mul-print-decimal-2 : tie.Need-mul-print-decimal-2
 mul-print-decimal-2 c =
     let s = c .before .before .before .before .before .before .before in
-    omega (arith, image-size (s .args .n) (s .args .framebuffer .width) (s .args .framebuffer .height) (s .pre .1 .1 .1) (s .pre .0) (s .pre .1 .0) (s .pre .1 .1 .0))
+    omega (arith, image-size (s .pre))
 
 pub write-head-spec : {M : Type 1} → statement M
 write-head-spec =
