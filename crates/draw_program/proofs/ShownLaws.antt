@@ -16,7 +16,7 @@ row-within width height y h = omega (arith, mul-le-mul-right width h, mul-comm w
 
 pub showable : (font text : List ℕ) (lineHeight : ℕ) (color : FontColor) (before after : List ℕ) (d : DrawResult)
     → IsDrawing font text lineHeight color before after d → Showable d
-showable font text lineHeight color before after (Drawn d size) (r, (e, k)) = subst Small e record { wide = k .wide; high = k .high }
+showable font text lineHeight color before after (Drawn d size) h = subst Small (h .size-is) record { wide = h .called .wide; high = h .called .high }
 showable font text lineHeight color before after (Blank d) h = tt
 showable font text lineHeight color before after (TooLarge r) h = tt
 showable font text lineHeight color before after (Refused e) h = tt

@@ -14,10 +14,10 @@ returns c =
     let g = c .before .before .before .before .before .before .before .before .before .before .before .before .before .before .before .before .before .before .before .before .before .before .lay-ground in
     let a = c .before .before .before .before .before .before .before .before .before .before .before .before .before .before .before .before .before .before .before .before .before .before .before .before .before .before .before .before .args in
     record {
-      totals = r .ensures .totals ∙ ap (λ (l : List ℕ). totalsTo (a .narrow) (a .font .now) (a .place) l 901) (g .ensures .0);
+      totals = r .ensures .totals ∙ ap (λ (l : List ℕ). totalsTo (a .narrow) (a .font .now) (a .place) l 901) (g .ensures .laid);
       sound =
-          subst (λ (l : List ℕ). Sound (a .narrow) (a .font .now) (a .place) l (r .result .totals)) (g .ensures .0)
-          (r .ensures .sound (g .ensures .1 .0));
+          subst (λ (l : List ℕ). Sound (a .narrow) (a .font .now) (a .place) l (r .result .totals)) (g .ensures .laid)
+          (r .ensures .sound (g .ensures .clear));
     }
 
 pub fill-sheet-spec : {M : Type 1} → statement M
