@@ -8,10 +8,11 @@ use Rattle.definitions.specs.Geometry.{left, top}
 use Rattle.definitions.specs.Picture.{rectanglePicture}
 use Rattle.definitions.specs.Framebuffer.{shown}
 use Rattle.framebuffer.specs.Areas.{BufferFits}
-use Rattle.glyph_renderer.specs.declared.geometry.VisiblePart.{VisiblePart}
-use Rattle.glyph_renderer.specs.Visible.{visiblePart}
-use Rattle.glyph_renderer.specs.Drawing.{GlyphBox, GlyphArea, PartFits}
-use Rattle.glyph_renderer.proofs.VisibleLaws.{Seen, none-seen, seen-visible}
+use Rattle.visible_part.specs.declared.VisiblePart.{VisiblePart}
+use Rattle.visible_part.specs.Visible.{visiblePart}
+use Rattle.rows.specs.Ones.{PartFits}
+use Rattle.glyph_renderer.specs.Drawing.{GlyphBox, GlyphArea}
+use Rattle.visible_part.proofs.VisibleLaws.{Seen, none-seen, seen-visible}
 use Rattle.glyph_renderer.proofs.RectangleLaws.{not-shown}
 
 some-area : (t : Bool) {r area : Rectangle} → pick t None (Some r) ≡ Some area → r ≡ area

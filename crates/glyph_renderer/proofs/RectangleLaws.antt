@@ -11,11 +11,11 @@ use Rattle.definitions.proofs.PictureLaws.{covers-inside, rectangle-inside, rec
 use Rattle.definitions.proofs.FramebufferLaws.{length-shown, same-picture, shown-shown, onto, blank, shown-blank}
 use Rattle.framebuffer.specs.Areas.{BufferFits, fillPicture}
 use Rattle.framebuffer.proofs.RowLaws.{row-of-pixel, outside}
-use Rattle.glyph_renderer.specs.declared.geometry.VisiblePart.{VisiblePart}
-use Rattle.glyph_renderer.specs.Ink.{Ones, pixelAt, inkAt, inkPicture}
-use Rattle.glyph_renderer.specs.Drawing.{onesOf, onesPicture}
-use Rattle.glyph_renderer.proofs.InkLaws.{Hit, hit-is, hit-not}
-use Rattle.glyph_renderer.proofs.VisibleLaws.{Seen, from-seen, to-seen, seen-index}
+use Rattle.visible_part.specs.declared.VisiblePart.{VisiblePart}
+use Rattle.rows.specs.Ink.{Ones, pixelAt, inkAt, inkPicture}
+use Rattle.rows.specs.Ones.{onesOf, onesPicture}
+use Rattle.rows.proofs.InkLaws.{Hit, hit-is, hit-not}
+use Rattle.visible_part.proofs.VisibleLaws.{Seen, from-seen, to-seen, seen-index}
 
 -- A rectangle of which no pixel lies on the framebuffer shows nothing.
 pub not-shown : {width height : ℕ} (buffer : List ℕ) → BufferFits (length buffer) width height → (color : FontColor) (ps : List ℕ) (r : Rectangle)

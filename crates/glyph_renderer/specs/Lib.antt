@@ -1,3 +1,1 @@
-pub mod Visible
-pub mod Ink
 pub mod Drawing

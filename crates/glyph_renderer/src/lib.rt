@@ -1,8 +1,5 @@
 // Drawing a glyph from its runs (01, "Runs"). A glyph is drawn only after its runs were read to the last pixel, so a font
 // that ends too early draws none of it.
-mod geometry;
-mod rows;
-
 ghost use mathlib.Core.Path.{_≡_};
 ghost use lib.ListN.{length};
 ghost use Rattle.definitions.specs.Font.{u8g2, pixelsOf};
@@ -10,13 +7,13 @@ ghost use Rattle.definitions.specs.Framebuffer.{shown};
 ghost use Rattle.definitions.specs.Picture.{boxPicture};
 ghost use Rattle.glyph_renderer.specs.Drawing.{GlyphDrawable};
 use framebuffer::fill::fill_box;
-use geometry::get_visible_part;
 use rows::draw_rows;
 use types::font_reader::FontReader;
 use types::framebuffer::Framebuffer;
 use types::geometry::BoundingBox;
 use types::glyph_reader::GlyphReader;
 use types::style::FontColor;
+use visible_part::get_visible_part;
 
 // Draws a glyph whose runs were checked, which cannot fail. A background is filled first, and the ones are drawn on it. Of a
 // glyph beside, above or below the framebuffer nothing is read.

@@ -6,8 +6,9 @@ use Rattle.definitions.specs.Picture.{boxPicture}
 use Rattle.definitions.specs.Framebuffer.{shown}
 use Rattle.definitions.proofs.FramebufferLaws.{length-mapAt, shown-blank}
 use Rattle.framebuffer.specs.Areas.{BufferFits}
-use Rattle.glyph_renderer.specs.Visible.{visiblePart}
-use Rattle.glyph_renderer.specs.Drawing.{GlyphBox, GlyphArea, onesPicture}
+use Rattle.visible_part.specs.Visible.{visiblePart}
+use Rattle.rows.specs.Ones.{onesPicture}
+use Rattle.glyph_renderer.specs.Drawing.{GlyphBox, GlyphArea}
 use Rattle.glyph_renderer.proofs.RectangleLaws.{draws-transparent, draws-background}
 use Rattle.glyph_renderer.proofs.BoxLaws.{box-area, columns-seen, rows-seen, part-fits, beside, above-or-below}
 use Rattle.glyph_renderer.proofs.render_glyph.Statement.{statement}

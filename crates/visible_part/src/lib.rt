@@ -1,6 +1,6 @@
 // Which part of a glyph lies on the framebuffer.
 ghost use mathlib.Core.Path.{_≡_};
-ghost use Rattle.glyph_renderer.specs.Visible.{SideFits, CornerFits, visible, visiblePart};
+ghost use Rattle.visible_part.specs.Visible.{SideFits, CornerFits, visible, visiblePart};
 use framebuffer::clamp;
 use framebuffer::fill::clamp_start;
 use types::framebuffer::Framebuffer;

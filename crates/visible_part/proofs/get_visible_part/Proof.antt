@@ -1,8 +1,8 @@
 -- Each field is its call's answer. Assumes nothing.
 use Rattle.integers.proofs.Prelude.{toZ-ofZ, needs}
-use Rattle.glyph_renderer.proofs.VisibleLaws.{near-fits}
-use Rattle.glyph_renderer.proofs.geometry.get_visible_part.Statement.{statement}
-use Rattle.glyph_renderer.proofs.geometry.get_visible_part.Tie as tie
+use Rattle.visible_part.proofs.VisibleLaws.{near-fits}
+use Rattle.visible_part.proofs.get_visible_part.Statement.{statement}
+use Rattle.visible_part.proofs.get_visible_part.Tie as tie
 
 returns : tie.Need-returns
 returns c =

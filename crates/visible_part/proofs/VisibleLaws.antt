@@ -3,7 +3,7 @@ use Rattle.integers.proofs.Prelude.{_≡_, ℕ, _+_, _-_, _≤_, _<_, arith, �
 use Rattle.integers.proofs.Laws.{zarith, up, down, plus, minus, size}
 use Rattle.framebuffer.specs.Areas.{clamped}
 use Rattle.framebuffer.proofs.ClampLaws.{clamped-is}
-use Rattle.glyph_renderer.specs.Visible.{EndFits}
+use Rattle.visible_part.specs.Visible.{EndFits}
 
 pub near-fits : {z : ℤ} → EndFits z → SFits w32 z
 near-fits near = omega (zarith, near .low, near .high)

@@ -8,8 +8,8 @@ use Rattle.runs.specs.RunReads.{inFont, nextPair}
 use Rattle.runs.specs.Stands.{Stands}
 use Rattle.runs.proofs.StandsLaws.{stands-pixel, stands-on, stands-next}
 use Rattle.framebuffer.specs.Columns.{Filled}
-use Rattle.glyph_renderer.specs.Ink.{Ones, inkPicture}
-use Rattle.glyph_renderer.proofs.InkLaws.{ink-none, ink-zeros, ink-all, ink-ones}
+use Rattle.rows.specs.Ink.{Ones, inkPicture}
+use Rattle.rows.proofs.InkLaws.{ink-none, ink-zeros, ink-all, ink-ones}
 
 -- The rows lie in a glyph of n pixels, and their visible part on the framebuffer that is `entry` at the call.
 pub record Lies (s : Ones) (n width : ℕ) (entry : List ℕ) : Type 0 where

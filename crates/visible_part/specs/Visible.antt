@@ -4,8 +4,8 @@ use lib.IntN.{ℤ, pos, negsuc, _-ℤ_}
 use lib.Signed.{_≤ℤ_}
 use Rattle.definitions.specs.Vocabulary.{Point, GlyphReader, Framebuffer}
 use Rattle.framebuffer.specs.Areas.{clamped}
-use Rattle.glyph_renderer.specs.declared.geometry.Visible.{Visible}
-use Rattle.glyph_renderer.specs.declared.geometry.VisiblePart.{VisiblePart}
+use Rattle.visible_part.specs.declared.Visible.{Visible}
+use Rattle.visible_part.specs.declared.VisiblePart.{VisiblePart}
 
 -- A place near enough that a glyph's end is a number of 32 bits.
 pub record EndFits (z : ℤ) : Type 0 where

@@ -4,14 +4,14 @@ ghost use Prim.Native.Nat.{_-_};
 ghost use lib.ListN.{length};
 ghost use Rattle.definitions.specs.Font.{u8g2, pixelsOf};
 ghost use Rattle.definitions.specs.Framebuffer.{shown};
-ghost use Rattle.glyph_renderer.specs.Drawing.{PartDrawable, onesPicture};
-use crate::geometry::VisiblePart;
+ghost use Rattle.rows.specs.Ones.{PartDrawable, onesPicture};
 use framebuffer::fill_columns;
 use runs::next_pair;
 use runs::seek;
 use types::font_reader::FontReader;
 use types::framebuffer::Framebuffer;
 use types::glyph_reader::GlyphReader;
+use visible_part::VisiblePart;
 
 // a less b, or 0.
 fn less(a: usize, b: usize) -> usize

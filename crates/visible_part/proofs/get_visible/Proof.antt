@@ -1,9 +1,9 @@
 -- The differences fit 64 bits, and the answer's fields are the calls' answers.
 use Rattle.integers.proofs.Prelude.{_≡_, ap, _∙_, _^_, _<_, arith, ℤ, pos, _-ℤ_, w32, w64, SFits, toZ, ofZ, toZ-ofZ, toZ-pos, sfits-widen, needs}
 use Rattle.framebuffer.specs.Areas.{clamped}
-use Rattle.glyph_renderer.proofs.VisibleLaws.{difference-fits}
-use Rattle.glyph_renderer.proofs.geometry.get_visible.Statement.{statement}
-use Rattle.glyph_renderer.proofs.geometry.get_visible.Tie as tie
+use Rattle.visible_part.proofs.VisibleLaws.{difference-fits}
+use Rattle.visible_part.proofs.get_visible.Statement.{statement}
+use Rattle.visible_part.proofs.get_visible.Tie as tie
 
 wide : (c : tie.Start) → SFits w64 (c .args .start)
 wide c = sfits-widen tt (c .fits .start)

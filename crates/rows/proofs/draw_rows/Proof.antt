@@ -4,13 +4,13 @@ use Rattle.definitions.specs.Vocabulary.{FontReader, Framebuffer}
 use Rattle.definitions.specs.Font.{u8g2, pixelsOf}
 use Rattle.runs.specs.declared.Runs.{Runs}
 use Rattle.runs.specs.RunReads.{Short}
-use Rattle.glyph_renderer.specs.declared.geometry.VisiblePart.{VisiblePart}
-use Rattle.glyph_renderer.specs.Ink.{Ones}
-use Rattle.glyph_renderer.specs.Drawing.{onesOf}
-use Rattle.glyph_renderer.proofs.StateLaws.{Lies, At, at-start, part-in, at-row, all-rows, at-next}
-use Rattle.glyph_renderer.proofs.PartLaws.{first-pixel, part-lies, part-small, line-small}
-use Rattle.glyph_renderer.proofs.rows.draw_rows.Statement.{statement}
-use Rattle.glyph_renderer.proofs.rows.draw_rows.Tie as tie
+use Rattle.visible_part.specs.declared.VisiblePart.{VisiblePart}
+use Rattle.rows.specs.Ink.{Ones}
+use Rattle.rows.specs.Ones.{onesOf}
+use Rattle.rows.proofs.StateLaws.{Lies, At, at-start, part-in, at-row, all-rows, at-next}
+use Rattle.rows.proofs.PartLaws.{first-pixel, part-lies, part-small, line-small}
+use Rattle.rows.proofs.draw_rows.Statement.{statement}
+use Rattle.rows.proofs.draw_rows.Tie as tie
 
 -- from one state to another, whatever the glyph's pixels and the framebuffer at the call
 record Leads (font : List ℕ) (head : FontReader) (part : VisiblePart) (value : ℕ) (framebuffer : Framebuffer) (wide : ℕ) (buffer₀ : List ℕ) (runs₀ : Runs)

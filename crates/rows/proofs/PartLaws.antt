@@ -1,9 +1,9 @@
 -- The visible part of a glyph lies in the glyph and on the framebuffer. Assumes nothing.
 use Rattle.integers.proofs.Prelude.{_≡_, List, ℕ, _+_, _-_, _*_, _≤_, _<_, add-mul, mul-le-mul-right, mul-le-mul, mul-comm, arith, length}
 use Rattle.definitions.specs.Vocabulary.{GlyphReader, Framebuffer}
-use Rattle.glyph_renderer.specs.declared.geometry.VisiblePart.{VisiblePart}
-use Rattle.glyph_renderer.specs.Drawing.{PartFits, onesOf}
-use Rattle.glyph_renderer.proofs.StateLaws.{Lies}
+use Rattle.visible_part.specs.declared.VisiblePart.{VisiblePart}
+use Rattle.rows.specs.Ones.{PartFits, onesOf}
+use Rattle.rows.proofs.StateLaws.{Lies}
 
 module _ {g : GlyphReader} {part : VisiblePart} {framebuffer : Framebuffer} {bytes : ℕ} (f : PartFits g part framebuffer bytes) where
   rows-in : part .rows .first * g .«glyph_width» + (part .rows .past - part .rows .first) * g .«glyph_width» ≤ g .«glyph_width» * g .«glyph_height»

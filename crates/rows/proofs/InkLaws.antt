@@ -9,7 +9,7 @@ use Rattle.definitions.specs.Framebuffer.{over, shown}
 use Rattle.definitions.proofs.FramebufferLaws.{same-picture, shown-at, length-shown, blank, shown-blank}
 use Rattle.framebuffer.specs.Columns.{Filled}
 use Rattle.framebuffer.proofs.PartLaws.{mid-length, part-is}
-use Rattle.glyph_renderer.specs.Ink.{Ones, pixelAt, inked, inkAt, inkPicture}
+use Rattle.rows.specs.Ink.{Ones, pixelAt, inked, inkAt, inkPicture}
 
 -- ---- one pixel of the framebuffer
 

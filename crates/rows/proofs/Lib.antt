@@ -1,0 +1,3 @@
+pub mod InkLaws
+pub mod StateLaws
+pub mod PartLaws
