@@ -77,12 +77,13 @@ programs=$root/target/bin
 printf '#!/bin/sh\nexec python3 -B "%s" "$@"\n' "$root/tools/sheet_model.py" > "$work/model/sheet"
 chmod +x "$work/model/sheet"
 ln -s "$programs/measure" "$programs/draw" "$work/model"
-"$measure" 4 > /dev/null && "$draw" 4 > /dev/null || exit 2
+"$measure" 4 > /dev/null
+"$draw" 4 > /dev/null
 if [ "${1-}" = model ]; then
   programs=$work/model
   export PAPAYAHELM_PROGRAMS=$programs
 else
-  "$sheet" > /dev/null || exit 2
+  "$sheet" > /dev/null
 fi
 
 gauge=$root/fonts/gauge.bin
