@@ -25,8 +25,9 @@ build() {
   core=(--extern "embedded_graphics_core=$out/libembedded_graphics_core.rlib")
   compile $2 --crate-type rlib --crate-name embedded_graphics_core --out-dir "$out" "$here/embedded_graphics_core.rs"
   compile $2 --crate-type rlib --crate-name u8g2_fonts "${core[@]}" --out-dir "$out" "$root/target/oracle/tree/lib.rs"
+  compile $2 --crate-type rlib --crate-name papayahelm -L "native=$root/target/staticlib" --out-dir "$out" "$root/bindings/rust/src/lib.rs"
   compile $2 $3 --crate-type bin --crate-name bench "${core[@]}" --extern "u8g2_fonts=$out/libu8g2_fonts.rlib" \
-    -L "$root/target/staticlib" -l static=c_api --out-dir "$out" "$here/driver/bench.rs"
+    --extern "papayahelm=$out/libpapayahelm.rlib" --out-dir "$out" "$here/driver/bench.rs"
   "$out/bench" "$bench/fonts" names > "$out/names"
   "$out/bench" "$bench/fonts" stack > "$out/stack"
   "$out/bench" "$bench/fonts" time > "$out/time"
@@ -35,4 +36,4 @@ build() {
 }
 build release "" ""
 build lto "-C codegen-units=1" "-C lto=fat"
-python3 "$here/bench_table.py" "$bench" "$root/target/staticlib/libc_api.a" "$here/papayahelm.h"
+python3 "$here/bench_table.py" "$bench" "$root/target/staticlib/libc_api.a" "$root/bindings/c/papayahelm.h"

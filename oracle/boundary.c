@@ -1,5 +1,5 @@
 /* Calls the library from C: an answer, every code that has no meaning, and readings one after the other. The program's status
- * is 0 where all is as papayahelm.h says. */
+ * is 0 where all is as bindings/c/papayahelm.h says. */
 #include "papayahelm.h"
 #include <string.h>
 

@@ -1,6 +1,7 @@
 //! A stand-in for the crate `embedded_graphics_core`, which does not lie beside the Rust files. It has only the names that
 //! they use, and is written from document 01's words: points and sizes are added and compared coordinate by coordinate,
-//! and a rectangle is its top left point and its size.
+//! and a rectangle is its top left point and its size. `OriginDimensions` and `BinaryColor` are for bindings/rust's example
+//! alone: a display of the real crate has to say its size.
 
 pub mod geometry {
     use core::ops::{Add, AddAssign};
@@ -35,6 +36,10 @@ pub mod geometry {
         pub const fn new(width: u32, height: u32) -> Self {
             Self { width, height }
         }
+    }
+
+    pub trait OriginDimensions {
+        fn size(&self) -> Size;
     }
 
     impl Add for Point {
@@ -78,6 +83,14 @@ pub mod primitives {
 
 pub mod pixelcolor {
     pub trait PixelColor: Copy + PartialEq {}
+
+    #[derive(Debug, Clone, Copy, PartialEq, Eq)]
+    pub enum BinaryColor {
+        Off,
+        On,
+    }
+
+    impl PixelColor for BinaryColor {}
 }
 
 /// A cell and the colour it takes.

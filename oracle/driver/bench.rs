@@ -6,8 +6,6 @@
 
 mod bench_fonts;
 mod display;
-#[path = "../papayahelm.rs"]
-mod papayahelm;
 
 use std::hint::black_box;
 use std::time::Instant;
@@ -15,7 +13,7 @@ use std::time::Instant;
 use bench_fonts::{noise, stripes};
 use display::{Colour, Display};
 use embedded_graphics_core::prelude::Point;
-use papayahelm::{Align, Anchor, Ink, Place};
+use papayahelm as ours;
 use u8g2_fonts::font_reader::FontReader;
 use u8g2_fonts::types::{FontColor, HorizontalAlignment, VerticalPosition};
 use u8g2_fonts::FontRenderer;
@@ -132,20 +130,24 @@ fn rust(input: &Input, buffer: &mut [u8]) -> i32 {
 }
 
 fn ours(input: &Input, buffer: &mut [u8]) -> i32 {
-    let (font, text) = (&input.font, input.text.as_bytes());
-    let (x, y) = input.place;
-    let place = Place { x, y, anchor: Anchor::Baseline, line_height: input.line_height };
-    let draw = |ink, buffer| {
-        seen(&papayahelm::draw(font, text, place, false, ink, (WIDTH, HEIGHT), buffer)).as_ref().map_or(-1, |d| d.advance.0)
+    let font = ours::FontRenderer::new_unread(&input.font, input.line_height);
+    let text = input.text.as_str();
+    let position = ours::Point::new(input.place.0, input.place.1);
+    let anchor = ours::VerticalPosition::Baseline;
+    let draw = |color, pixels| {
+        let mut framebuffer = ours::Framebuffer { width: WIDTH, height: HEIGHT, pixels };
+        seen(&font.render(text, position, anchor, color, &mut framebuffer)).as_ref().map_or(-1, |d| d.advance.x)
     };
     match input.call {
-        Call::Open => seen(&papayahelm::open(font)).as_ref().map_or(-1, |v| v[20] as i32),
-        Call::Measure => seen(&papayahelm::measure(font, text, place, false)).as_ref().map_or(-1, |d| d.advance.0),
-        Call::Aligned => seen(&papayahelm::measure_aligned(font, text, place, Align::Center, false))
-            .as_ref()
-            .map_or(-1, |b| b.map_or(0, |b| b.left)),
-        Call::Transparent => draw(Ink::Transparent(1), buffer),
-        Call::Background => draw(Ink::WithBackground { fg: 1, bg: 2 }, buffer),
+        Call::Open => seen(&font.header()).as_ref().map_or(-1, |h| h.line_height as i32),
+        Call::Measure => seen(&font.get_rendered_dimensions(text, position, anchor)).as_ref().map_or(-1, |d| d.advance.x),
+        Call::Aligned => {
+            seen(&font.get_rendered_dimensions_aligned(text, position, anchor, ours::HorizontalAlignment::Center))
+                .as_ref()
+                .map_or(-1, |b| b.map_or(0, |b| b.top_left.x))
+        }
+        Call::Transparent => draw(ours::FontColor::Transparent(1), buffer),
+        Call::Background => draw(ours::FontColor::WithBackground { fg: 1, bg: 2 }, buffer),
     }
 }
 

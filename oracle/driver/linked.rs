@@ -1,52 +1,75 @@
-//! Our answers, through the static library.
+//! Our answers: the static library, through the package bindings/rust.
+
+use papayahelm::{Error, FontColor, FontHeader, FontRenderer, Framebuffer, HorizontalAlignment, Place, Point, VerticalPosition};
 
 use crate::case::{Answer, Area, Call, Case, Ink, Outcome};
-use crate::papayahelm::{self as ours, Align, Anchor, Place, Refusal};
 
-const ANCHORS: [Anchor; 4] = [Anchor::Baseline, Anchor::Top, Anchor::Center, Anchor::Bottom];
-const ALIGNS: [Align; 3] = [Align::Left, Align::Center, Align::Right];
+const ANCHORS: [VerticalPosition; 4] =
+    [VerticalPosition::Baseline, VerticalPosition::Top, VerticalPosition::Center, VerticalPosition::Bottom];
+const ALIGNS: [HorizontalAlignment; 3] = [HorizontalAlignment::Left, HorizontalAlignment::Center, HorizontalAlignment::Right];
 
-fn area(a: ours::Area) -> Area {
-    Area { left: a.left, top: a.top, width: a.width, height: a.height }
+fn area(r: papayahelm::Rectangle) -> Area {
+    Area { left: r.top_left.x, top: r.top_left.y, width: r.size.width, height: r.size.height }
 }
 
-fn refused(r: Refusal) -> Answer {
-    Answer::Refused { number: r.number, code_point: r.code_point }
+fn text_answer(d: papayahelm::RenderedDimensions) -> Answer {
+    Answer::Text { advance: (d.advance.x, d.advance.y), bounds: d.bounding_box.map(area) }
+}
+
+fn refused(error: Error) -> Answer {
+    Answer::Refused { number: error.number(), code_point: error.character().map_or(0, u32::from) }
+}
+
+fn header(h: FontHeader) -> Answer {
+    Answer::Open([
+        h.glyph_count.into(),
+        h.supports_background_color.into(),
+        h.m0.into(),
+        h.m1.into(),
+        h.bitcnt_w.into(),
+        h.bitcnt_h.into(),
+        h.bitcnt_x.into(),
+        h.bitcnt_y.into(),
+        h.bitcnt_d.into(),
+        h.font_bounding_box_width.into(),
+        h.font_bounding_box_height.into(),
+        h.font_bounding_box_x_offset.into(),
+        h.font_bounding_box_y_offset.into(),
+        h.ascent.into(),
+        h.descent.into(),
+        h.ascent_of_parentheses.into(),
+        h.descent_of_parentheses.into(),
+        h.array_offset_upper_a.into(),
+        h.array_offset_lower_a.into(),
+        h.array_offset_0x0100.into(),
+        h.line_height.into(),
+    ])
 }
 
 pub fn call(case: &Case, call: Call) -> Outcome {
-    let place = Place { x: case.x, y: case.y, anchor: ANCHORS[case.anchor], line_height: case.line_height };
-    let text_answer = |d: ours::Dimensions| Answer::Text { advance: d.advance, bounds: d.bounds.map(area) };
-    let ink_of = |ink| match ink {
-        Ink::Transparent => ours::Ink::Transparent(case.fg),
-        Ink::WithBackground => ours::Ink::WithBackground { fg: case.fg, bg: case.bg },
+    let font = FontRenderer::new_unread(&case.font, case.line_height).with_ignore_unknown_chars(case.skip);
+    let (position, anchor) = (Point::new(case.x, case.y), ANCHORS[case.anchor]);
+    let color_of = |ink| match ink {
+        Ink::Transparent => FontColor::Transparent(case.fg),
+        Ink::WithBackground => FontColor::WithBackground { fg: case.fg, bg: case.bg },
     };
-    let size = (case.width, case.height);
-    let mut buffer = Vec::new();
+    let mut buffer = if call.ink().is_some() { case.buffer.clone() } else { Vec::new() };
+    let mut framebuffer = Framebuffer { width: case.width, height: case.height, pixels: &mut buffer };
     let answer = match call {
-        Call::Open => ours::open(&case.font).map_or_else(refused, Answer::Open),
-        Call::FontBox(anchor) => {
-            ours::font_box(&case.font, ANCHORS[anchor]).map_or_else(refused, |a| Answer::FontBox(area(a)))
-        }
-        Call::Measure => ours::measure(&case.font, &case.text, place, case.skip).map_or_else(refused, text_answer),
-        Call::Aligned(align) => ours::measure_aligned(&case.font, &case.text, place, ALIGNS[align], case.skip)
-            .map_or_else(refused, |b| Answer::Bounds(b.map(area))),
-        Call::Draw(ink) | Call::DrawAligned(ink) => {
-            buffer = case.buffer.clone();
-            ours::draw(&case.font, &case.text, place, case.skip, ink_of(ink), size, &mut buffer).map_or_else(
-                refused,
-                |d| match call {
-                    Call::Draw(_) => text_answer(d),
-                    _ => Answer::Bounds(d.bounds.map(area)),
-                },
-            )
-        }
+        Call::Open => font.header().map(header),
+        Call::FontBox(anchor) => font.get_font_bounding_box(ANCHORS[anchor]).map(|r| Answer::FontBox(area(r))),
+        Call::Measure => font.get_rendered_dimensions(&case.text, position, anchor).map(text_answer),
+        Call::Aligned(align) => font
+            .get_rendered_dimensions_aligned(&case.text, position, anchor, ALIGNS[align])
+            .map(|b| Answer::Bounds(b.map(area))),
+        Call::Draw(ink) => font.render(&case.text, position, anchor, color_of(ink), &mut framebuffer).map(text_answer),
+        Call::DrawAligned(ink) => font
+            .render(&case.text, position, anchor, color_of(ink), &mut framebuffer)
+            .map(|d| Answer::Bounds(d.bounding_box.map(area))),
         Call::Redraw(ink) => {
-            buffer = case.buffer.clone();
-            let (old, new) = (&case.old_text, &case.text);
-            ours::redraw(&case.font, old, new, place, ink_of(ink), case.clear_color, size, &mut buffer)
-                .map_or_else(refused, text_answer)
+            let place = Place { position, vertical_pos: anchor, color: color_of(ink), background: case.clear_color };
+            font.redraw(&case.old_text, &case.text, place, &mut framebuffer).map(text_answer)
         }
     };
-    Outcome { answer, buffer }
+    Outcome { answer: answer.unwrap_or_else(refused), buffer }
 }

@@ -11,8 +11,6 @@ mod fonts;
 mod generate;
 mod linked;
 mod model_side;
-#[path = "../papayahelm.rs"]
-mod papayahelm;
 mod random;
 mod record;
 mod rust_side;

@@ -1,17 +1,15 @@
 // The text of an angle, as the gauge shows it: "-12.5", "+0.3", "0.0".
 ghost use mathlib.Core.Path.{_≡_};
-ghost use mathlib.Core.List.{[], _∷_};
-ghost use Prim.Native.Nat.{_+_, _≤_};
-ghost use lib.IntN.{pos, negsuc};
-ghost use lib.ListN.{length, drop};
-ghost use lib.Signed.{_≤ℤ_};
-ghost use Rattle.angles.specs.AngleText.{digit, degreesThen, tenthsText, angleText};
+ghost use Prim.Native.Nat.{_≤_};
+ghost use lib.ListN.{length};
+ghost use Rattle.angles.specs.AngleText.{digit, RoomForByte, BytePut, RoomForDegrees, DegreesPut, TenthsPut};
+ghost use Rattle.angles.specs.AngleText.{RoomForAngle, AnglePut};
 use utils::number::magnitude;
 
 // Puts a byte in front of the text that begins at `start` and answers where it begins now.
 fn put_before(out: &mut [u8], start: usize, byte: u8) -> usize
-    requires { ⌜ (length (now out) ≡ 6) × ((1 ≤ start) × (start ≤ 6)) ⌝ }
-    ensures { λ r. ⌜ (r + 1 ≡ start) × (drop r (now (out .exit)) ≡ byte ∷ drop start (now (out .entry))) ⌝ }
+    requires { ⌜ RoomForByte (length (now out)) start ⌝ }
+    ensures { λ r. ⌜ BytePut (now (out .entry)) start byte r (now (out .exit)) ⌝ }
 {
     out[start - 1] = byte;
     start - 1
@@ -26,9 +24,8 @@ fn digit_of(n: u32) -> u8
 
 // One digit, or two from 10 on.
 fn put_degrees(out: &mut [u8], start: usize, n: u32) -> usize
-    requires { ⌜ (length (now out) ≡ 6) × ((n ≤ 99) × ((2 ≤ start) × (start ≤ 6))) ⌝ }
-    ensures { λ r. ⌜ (r + 1 ≤ start) × ((start ≤ r + 2)
-        × (drop r (now (out .exit)) ≡ degreesThen n (drop start (now (out .entry))))) ⌝ }
+    requires { ⌜ RoomForDegrees (length (now out)) start n ⌝ }
+    ensures { λ r. ⌜ DegreesPut (now (out .entry)) start n r (now (out .exit)) ⌝ }
 {
     let at = put_before(&mut out[..], start, digit_of(n % 10));
     if n < 10 {
@@ -39,7 +36,7 @@ fn put_degrees(out: &mut [u8], start: usize, n: u32) -> usize
 
 fn put_tenths(out: &mut [u8], n: u32) -> usize
     requires { ⌜ (length (now out) ≡ 6) × (n ≤ 999) ⌝ }
-    ensures { λ r. ⌜ (2 ≤ r) × ((r ≤ 3) × (drop r (now (out .exit)) ≡ tenthsText n)) ⌝ }
+    ensures { λ r. ⌜ TenthsPut n r (now (out .exit)) ⌝ }
 {
     let tenth = put_before(&mut out[..], 6, digit_of(n % 10));
     let point = put_before(&mut out[..], tenth, b'.');
@@ -48,8 +45,8 @@ fn put_tenths(out: &mut [u8], n: u32) -> usize
 
 // Writes the text of an angle below 100 degrees at the end of `out` and answers where it begins.
 pub fn write_angle(tenths: i32, out: &mut [u8]) -> usize
-    requires { ⌜ (length (now out) ≡ 6) × ((negsuc 998 ≤ℤ tenths) × (tenths ≤ℤ pos 999)) ⌝ }
-    ensures { λ r. ⌜ (r ≤ 3) × (drop r (now (out .exit)) ≡ angleText tenths) ⌝ }
+    requires { ⌜ RoomForAngle (length (now out)) tenths ⌝ }
+    ensures { λ r. ⌜ AnglePut tenths r (now (out .exit)) ⌝ }
 {
     let start = put_tenths(&mut out[..], magnitude(tenths));
     if tenths < 0 {

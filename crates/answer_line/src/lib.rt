@@ -5,7 +5,7 @@ ghost use lib.ListN.{length};
 ghost use Rattle.definitions.specs.Refusals.{success, refusal};
 ghost use Rattle.definitions.specs.Calls.{dimensionsOutcome};
 ghost use Rattle.answer_line.specs.Line.{spaced, boxWords, outcomeLine};
-ghost use Rattle.numbers.specs.Written.{Written};
+ghost use Rattle.numbers.specs.Written.{Written, WrittenWithin};
 use numbers::writer::append;
 use numbers::writer::append_signed;
 use numbers::writer::append_unsigned;
@@ -20,8 +20,7 @@ use utils::error::error_number;
 // Left, top, width and height.
 fn append_rectangle(out: &mut [u8], at: usize, r: Rectangle) -> usize
     requires { ⌜ at + 46 ≤ length (now out) ⌝ }
-    ensures { λ n. ⌜ (n ≤ at + 46) × Written (now (out .entry)) at (spaced (boxWords (BoundingBox.Some r))) n
-        (now (out .exit)) ⌝ }
+    ensures { λ n. ⌜ WrittenWithin 46 (now (out .entry)) at (spaced (boxWords (BoundingBox.Some r))) n (now (out .exit)) ⌝ }
 {
     let left = append_signed(out, at, r.top_left.x);
     let top = append_signed(out, left, r.top_left.y);
@@ -31,7 +30,7 @@ fn append_rectangle(out: &mut [u8], at: usize, r: Rectangle) -> usize
 
 fn append_bounding_box(out: &mut [u8], at: usize, b: BoundingBox) -> usize
     requires { ⌜ at + 46 ≤ length (now out) ⌝ }
-    ensures { λ n. ⌜ (n ≤ at + 46) × Written (now (out .entry)) at (spaced (boxWords b)) n (now (out .exit)) ⌝ }
+    ensures { λ n. ⌜ WrittenWithin 46 (now (out .entry)) at (spaced (boxWords b)) n (now (out .exit)) ⌝ }
 {
     match b {
         BoundingBox::None => append(out, at, b" none"),

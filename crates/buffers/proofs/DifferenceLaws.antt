@@ -20,6 +20,12 @@ module _ (a b : List ℕ) (same : length a ≡ length b) (i : ℕ) where
   unfolding differences
   none-left h = rw (drop-of-length-le a {i = i} h)
 
+-- Among the first i pixels n differ: with those that differ among the rest they are all.
+pub record CountedTo (a b : List ℕ) (n i : ℕ) : Type 0 where
+  pub within : i ≤ length a
+  pub few : n ≤ i
+  pub counted : n + differences (drop i a) (drop i b) ≡ differences a b
+
 -- No difference: the framebuffers are the same.
 split : (t : Bool) (n : ℕ) → pick t 0 1 + n ≡ 0 → (t ≡ true) × (n ≡ 0)
 split true n e = (refl, omega arith)

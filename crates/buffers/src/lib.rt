@@ -1,8 +1,7 @@
 // Buffers as a whole: filled, compared.
 ghost use mathlib.Core.Path.{_≡_};
-ghost use mathlib.Core.Bool.{true};
 ghost use lib.ListN.{length, replicate};
-ghost use Rattle.buffers.specs.Differences.{differences};
+ghost use Rattle.buffers.specs.Differences.{differences, TellsSame};
 
 pub fn fill(buffer: &mut [u8], value: u8)
     ensures { λ r. ⌜ now (buffer .exit) ≡ replicate (length (now (buffer .entry))) value ⌝ }
@@ -32,7 +31,7 @@ pub fn count_differences(a: &[u8], b: &[u8]) -> usize
 
 // Whether two byte strings are the same.
 pub fn is_same(a: &[u8], b: &[u8]) -> bool
-    ensures { λ r. ⌜ (r ≡ true → now (a .entry) ≡ now (b .entry)) × (now (a .entry) ≡ now (b .entry) → r ≡ true) ⌝ }
+    ensures { λ r. ⌜ TellsSame (now (a .entry)) (now (b .entry)) r ⌝ }
 {
     if a.len() != b.len() {
         return false;

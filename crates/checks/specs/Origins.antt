@@ -6,13 +6,15 @@ use Prim.Native.Nat.{ℕ, _*_, _≤_}
 use lib.IntN.{ℤ, pos, negsuc, _+ℤ_}
 use lib.ListN.{length}
 use lib.Signed.{_≤ℤ_}
-use Rattle.definitions.specs.Vocabulary.{Point}
+use Rattle.definitions.specs.Vocabulary.{Point, FontReader}
 use Rattle.definitions.specs.Refusals.{Outcome, success, refusal, unlessRefused}
+use Rattle.definitions.specs.Header.{Opened}
 use Rattle.definitions.specs.Utf8.{decode, isUtf8, newlines}
 use Rattle.definitions.specs.VerticalOffset.{verticalOffset}
 use Rattle.definitions.specs.Text.{point}
 use Rattle.definitions.specs.Limits.{textCause, positionCause}
 use Rattle.definitions.specs.Calls.{Request, codePointsOf}
+use Rattle.checks.specs.declared.origin.Pen.{Pen}
 use Rattle.checks.specs.declared.origin.OriginResult.{OriginResult}
 use Rattle.checks.specs.declared.origin.OriginResult.the-variants.{Ok, Err}
 
@@ -42,3 +44,8 @@ pub record Checked (text : List ℕ) (origin : Point) (lineHeight : ℕ) : Type 
   pub right : origin .x ≤ℤ pos 1048576
   pub top : negsuc 269480063 ≤ℤ origin .y
   pub bottom : origin .y ≤ℤ pos 1048704
+
+-- Such a text, in a font that is open.
+pub record CheckedText (font : List ℕ) (head : FontReader) (text : List ℕ) (pen : Pen) : Type 0 where
+  pub opened : Opened font head
+  pub checked : Checked text (pen .origin) (pen .«line_height»)

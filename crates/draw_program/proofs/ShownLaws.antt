@@ -5,7 +5,7 @@ use Rattle.pictures.specs.declared.whole.DrawResult.{DrawResult}
 use Rattle.pictures.specs.declared.whole.DrawResult.the-variants.{Drawn, Blank, TooLarge, Refused}
 use Rattle.pictures.specs.Drawings.{IsDrawing}
 use Rattle.pictures.proofs.DrawingLaws.{area-most}
-use Rattle.draw_program.specs.Shown.{Showable}
+use Rattle.draw_program.specs.Shown.{Small, Showable}
 
 -- ---- the rows of a picture
 
@@ -16,12 +16,11 @@ row-within width height y h = omega (arith, mul-le-mul-right width h, mul-comm w
 
 pub showable : (font text : List ℕ) (lineHeight : ℕ) (color : FontColor) (before after : List ℕ) (d : DrawResult)
     → IsDrawing font text lineHeight color before after d → Showable d
-showable font text lineHeight color before after (Drawn d size) (r, (e, k)) =
-    (subst (λ (s : Size). s .width ≤ 256) e (k .wide), subst (λ (s : Size). s .height ≤ 256) e (k .high))
+showable font text lineHeight color before after (Drawn d size) h = subst Small (h .size-is) record { wide = h .called .wide; high = h .called .high }
 showable font text lineHeight color before after (Blank d) h = tt
 showable font text lineHeight color before after (TooLarge r) h = tt
 showable font text lineHeight color before after (Refused e) h = tt
 
-pub shown-length : (size : Size) (buffer : List ℕ) → size .width ≤ 256 → size .height ≤ 256 → length buffer ≡ 65536
+pub shown-length : (size : Size) (buffer : List ℕ) → Small size → length buffer ≡ 65536
     → length (take (size .width * size .height) buffer) ≡ size .width * size .height
-shown-length size buffer wide high room = length-take-le (size .width * size .height) buffer (omega (arith, area-most wide high))
+shown-length size buffer s room = length-take-le (size .width * size .height) buffer (omega (arith, area-most (s .wide) (s .high)))

@@ -1,6 +1,7 @@
 -- The words of the command line: the comparison of two words, and one word more. Assumes nothing.
 use Rattle.integers.proofs.Prelude.{_≡_, refl, sym, subst, _∙_, Bool, true, false, _&&_, List, [], _∷_, _++_, ℕ, eqb, eqb-true, eq-eqb}
 use Rattle.integers.proofs.Choices.{impossible}
+use Rattle.buffers.specs.Differences.{TellsSame}
 use Rattle.draw_program.specs.declared.options.Options.{Options}
 use Rattle.draw_program.specs.Words.{same, withWord, withWords}
 
@@ -23,13 +24,13 @@ same-itself [] = refl
 same-itself (x ∷ xs) = rw (eq-eqb x x refl) (same-itself xs)
 
 -- what decides whether two words are the same is that test
-pub same-is : (a b : List ℕ) (r : Bool) → (r ≡ true → a ≡ b) → (a ≡ b → r ≡ true) → same a b ≡ r
-same-is a b r there back = by r (same a b) refl there back
+pub same-is : {a b : List ℕ} {r : Bool} → TellsSame a b r → same a b ≡ r
+same-is {a} {b} {r} tells = by r (same a b) refl tells
   where
-    by : (r t : Bool) → same a b ≡ t → (r ≡ true → a ≡ b) → (a ≡ b → r ≡ true) → t ≡ r
-    by true t e there back = sym e ∙ subst (λ (x : List ℕ). same a x ≡ true) (there refl) (same-itself a)
-    by false true e there back = sym (back (same-true a b e))
-    by false false e there back = refl
+    by : (r t : Bool) → same a b ≡ t → TellsSame a b r → t ≡ r
+    by true t e tells = sym e ∙ subst (λ (x : List ℕ). same a x ≡ true) (tells .same refl) (same-itself a)
+    by false true e tells = sym (tells .told (same-true a b e))
+    by false false e tells = refl
 
 pub one-more : (o : Options) (words : List (List ℕ)) (word : List ℕ) → withWords o (words ++ word ∷ []) ≡ withWord (withWords o words) word
 unfolding withWords

@@ -1,7 +1,11 @@
 -- The colours of a picture, and how it is shown as text.
+use mathlib.Core.Path.{_≡_}
 use mathlib.Core.Bool.{Bool}
-use Prim.Native.Nat.{ℕ}
+use mathlib.Core.List.{List}
+use Prim.Native.Nat.{ℕ, _<_}
+use lib.ListN.{length, getD}
 use lib.Dec.{eqb}
+use Rattle.io.specs.Counts.{Counts}
 use Rattle.integers.specs.Integers.{pick}
 use Rattle.definitions.specs.Vocabulary.{FontColor, Transparent, WithBackground}
 
@@ -12,3 +16,9 @@ inkOf background = pick background (WithBackground 0 192) (Transparent 0)
 -- A pixel as a character: '#' (35) for the ink, ':' (58) for a glyph's background, '.' (46) elsewhere.
 abbrev pub shade : ℕ → ℕ
 shade pixel = pick (eqb pixel 0) 35 (pick (eqb pixel 192) 58 46)
+
+-- The first n bytes of `out` show the pixels.
+pub record Shades (pixels out : List ℕ) (n : ℕ) : Type 0 where
+  pub counted : Counts n out
+  pub all : n ≡ length pixels
+  pub each : (k : ℕ) → k < n → getD out k 0 ≡ shade (getD pixels k 0)

@@ -1,6 +1,5 @@
 // A PGM image in its binary form: a head, and then the framebuffer's bytes.
-ghost use Rattle.io.specs.Counts.{Counts};
-ghost use Rattle.numbers.specs.Written.{Written};
+ghost use Rattle.numbers.specs.Written.{LineWritten};
 ghost use Rattle.draw_program.specs.Images.{pgmHead};
 use numbers::writer::append;
 use numbers::writer::append_unsigned;
@@ -11,8 +10,7 @@ const HEAD_ROOM: usize = 29;
 
 // Writes the head to the start of `out` and answers its length. What stands behind the head stays.
 fn write_head(size: Size, out: &mut [u8; HEAD_ROOM]) -> usize
-    ensures { λ r. ⌜ Counts r (now (out .exit)) × Written (now (out .entry)) 0 (pgmHead (size .width) (size .height)) r
-        (now (out .exit)) ⌝ }
+    ensures { λ r. ⌜ LineWritten (now (out .entry)) (pgmHead (size .width) (size .height)) r (now (out .exit)) ⌝ }
 {
     let start = append(out, 0, b"P5");
     let middle = append_unsigned(out, start, size.width);

@@ -1,9 +1,9 @@
 // The colours, which are grey values, and the characters that show them.
 ghost use mathlib.Core.Path.{_≡_};
-ghost use Prim.Native.Nat.{ℕ, _*_, _≤_, _<_};
-ghost use lib.ListN.{length, getD};
-ghost use Rattle.io.specs.Counts.{Counts};
-ghost use Rattle.draw_program.specs.Marks.{inkOf, shade};
+ghost use Prim.Native.Nat.{_≤_};
+ghost use lib.ListN.{length};
+ghost use Rattle.draw_program.specs.Marks.{inkOf, shade, Shades};
+ghost use Rattle.draw_program.specs.Shown.{IsPicture};
 use types::style::FontColor;
 
 const INK: u8 = 0;
@@ -40,8 +40,7 @@ fn mark(pixel: u8) -> u8
 // Writes the characters that show the pixels to the start of `out` and answers how many there are.
 fn write_marks(pixels: &[u8], out: &mut [u8]) -> usize
     requires { ⌜ length (now pixels) ≤ length (now out) ⌝ }
-    ensures { λ r. ⌜ Counts r (now (out .exit)) × (r ≡ length (now (pixels .entry))) ⌝ }
-    ensures { λ r. ⌜ ((k : ℕ) → k < r → getD (now (out .exit)) k 0 ≡ shade (getD (now (pixels .entry)) k 0)) ⌝ }
+    ensures { λ r. ⌜ Shades (now (pixels .entry)) (now (out .exit)) r ⌝ }
 {
     let mut i: usize = 0;
     while i < pixels.len() {
@@ -61,7 +60,7 @@ fn print_row(row: &[u8])
 }
 
 pub fn print_rows(pixels: &[u8], width: usize, height: usize)
-    requires { ⌜ (width ≤ 256) × ((height ≤ 256) × (length (now pixels) ≡ width * height)) ⌝ }
+    requires { ⌜ IsPicture width height (length (now pixels)) ⌝ }
 {
     let mut y: usize = 0;
     while y < height {

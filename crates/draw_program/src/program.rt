@@ -1,8 +1,7 @@
 // The program: draws a text in the font font.bin and prints the answer and the picture.
 ghost use mathlib.Core.Path.{_≡_};
-ghost use Prim.Native.Nat.{_*_, _≤_};
 ghost use lib.ListN.{length};
-ghost use Rattle.draw_program.specs.Shown.{Showable};
+ghost use Rattle.draw_program.specs.Shown.{Small, IsPicture, Showable};
 use crate::image::write_image;
 use crate::marks::EMPTY;
 use crate::marks::color;
@@ -22,7 +21,7 @@ fn answer(dimensions: RenderedDimensions) {
 
 // The picture as text, or as an image in the file draw.pgm.
 fn show_pixels(size: Size, pgm: bool, pixels: &[u8])
-    requires { ⌜ (size .width ≤ 256) × ((size .height ≤ 256) × (length (now pixels) ≡ size .width * size .height)) ⌝ }
+    requires { ⌜ IsPicture (size .width) (size .height) (length (now pixels)) ⌝ }
 {
     if pgm {
         write_image(b"draw.pgm", size, pixels);
@@ -32,7 +31,7 @@ fn show_pixels(size: Size, pgm: bool, pixels: &[u8])
 }
 
 fn show_drawn(dimensions: RenderedDimensions, size: Size, pgm: bool, buffer: &[u8])
-    requires { ⌜ (size .width ≤ 256) × ((size .height ≤ 256) × (length (now buffer) ≡ 65536)) ⌝ }
+    requires { ⌜ Small size × (length (now buffer) ≡ 65536) ⌝ }
 {
     answer(dimensions);
     let n = (size.width as usize) * (size.height as usize);

@@ -3,6 +3,12 @@ use Rattle.integers.proofs.Prelude.{_≡_, refl, _∙_, List, ℕ, _+_, _-_, _�
 use Rattle.integers.proofs.Prelude.{getD-set-same, getD-set-other}
 use Rattle.framebuffer.specs.Columns.{Filled}
 
+-- The columns from `from` to before `column` are filled.
+pub record FilledTo (first from to value : ℕ) (before after : List ℕ) (column : ℕ) : Type 0 where
+  pub begun : from ≤ column
+  pub within : column ≤ max from to
+  pub filled : Filled first from column value before after
+
 -- None is filled yet.
 pub none-filled : (first from value : ℕ) (part : List ℕ) → Filled first from from value part part
 none-filled first from value part = record { long = refl; inside = λ i h f t. absurd (omega arith); outside = λ i n. refl }

@@ -3,11 +3,12 @@ use mathlib.Core.Path.{_≡_}
 use mathlib.Core.List.{List}
 use Prim.Native.Nat.{ℕ, _+_, _-_, _*_, _≤_, _<_}
 use lib.IntN.{ℤ}
-use Rattle.definitions.specs.Vocabulary.{BoundingBox, Rectangle, GlyphReader, Framebuffer}
+use Rattle.definitions.specs.Vocabulary.{BoundingBox, Rectangle, FontReader, GlyphReader, Framebuffer}
 use Rattle.definitions.specs.Geometry.{left, top, InReach}
 use Rattle.definitions.specs.Text.{boxAt}
 use Rattle.definitions.specs.Picture.{Picture}
 use Rattle.framebuffer.specs.Areas.{BufferFits}
+use Rattle.runs.specs.Stands.{CheckedGlyph}
 use Rattle.glyph_renderer.specs.declared.geometry.VisiblePart.{VisiblePart}
 use Rattle.glyph_renderer.specs.Ink.{Ones, inkPicture}
 use Rattle.glyph_renderer.specs.Visible.{EndFits}
@@ -34,6 +35,17 @@ pub record PartFits (g : GlyphReader) (part : VisiblePart) (framebuffer : Frameb
   pub in-height : part .rows .past ≤ g .«glyph_height»
   pub right : part .left + (part .columns .past - part .columns .first) ≤ framebuffer .width
   pub bottom : part .top + (part .rows .past - part .rows .first) ≤ framebuffer .height
+  pub window : BufferFits bytes (framebuffer .width) (framebuffer .height)
+
+-- What the drawing of such a part may count on: the runs were checked.
+pub record PartDrawable (font : List ℕ) (head : FontReader) (g : GlyphReader) (part : VisiblePart) (framebuffer : Framebuffer) (bytes : ℕ) : Type 0 where
+  pub checked : CheckedGlyph font head g
+  pub fits : PartFits g part framebuffer bytes
+
+-- The same for the drawing of a glyph.
+pub record GlyphDrawable (font : List ℕ) (head : FontReader) (g : GlyphReader) (b : BoundingBox) (framebuffer : Framebuffer) (bytes : ℕ) : Type 0 where
+  pub checked : CheckedGlyph font head g
+  pub box : GlyphBox g b
   pub window : BufferFits bytes (framebuffer .width) (framebuffer .height)
 
 -- the part of a glyph with the pixels ps

@@ -1,5 +1,5 @@
 -- Which part of a glyph lies on the framebuffer.
-use Prim.Native.Nat.{ℕ}
+use Prim.Native.Nat.{ℕ, _≤_}
 use lib.IntN.{ℤ, pos, negsuc, _-ℤ_}
 use lib.Signed.{_≤ℤ_}
 use Rattle.definitions.specs.Vocabulary.{Point, GlyphReader, Framebuffer}
@@ -11,6 +11,16 @@ use Rattle.glyph_renderer.specs.declared.geometry.VisiblePart.{VisiblePa
 pub record EndFits (z : ℤ) : Type 0 where
   pub low : negsuc 1073741823 ≤ℤ z
   pub high : z ≤ℤ pos 1073741823
+
+-- Such a place, and a framebuffer's width or height within the limit.
+pub record SideFits (start : ℤ) (limit : ℕ) : Type 0 where
+  pub near : EndFits start
+  pub small : limit ≤ 256
+
+-- The same of a corner, for both sides.
+pub record CornerFits (corner : Point) (framebuffer : Framebuffer) : Type 0 where
+  pub columns : SideFits (corner .x) (framebuffer .width)
+  pub rows : SideFits (corner .y) (framebuffer .height)
 
 -- Of so many columns or rows of a glyph, of which the first lies at `start`, those that the framebuffer's, from 0 to before
 -- `limit`, show.

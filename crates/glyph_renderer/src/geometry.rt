@@ -1,7 +1,6 @@
 // Which part of a glyph lies on the framebuffer.
 ghost use mathlib.Core.Path.{_≡_};
-ghost use Prim.Native.Nat.{_≤_};
-ghost use Rattle.glyph_renderer.specs.Visible.{EndFits, visible, visiblePart};
+ghost use Rattle.glyph_renderer.specs.Visible.{SideFits, CornerFits, visible, visiblePart};
 use framebuffer::clamp;
 use framebuffer::fill::clamp_start;
 use types::framebuffer::Framebuffer;
@@ -25,7 +24,7 @@ pub struct VisiblePart {
 // The columns of a glyph of that width that lie on a framebuffer of the width `limit`, the first column of the glyph being its
 // column `start`. Rows go the same way, by the heights.
 fn get_visible(start: i32, size: u8, limit: usize) -> Visible
-    requires { ⌜ EndFits start × (limit ≤ 256) ⌝ }
+    requires { ⌜ SideFits start limit ⌝ }
     ensures { λ r. ⌜ r ≡ visible start size limit ⌝ }
 {
     Visible {
@@ -36,7 +35,7 @@ fn get_visible(start: i32, size: u8, limit: usize) -> Visible
 
 // The visible part of a glyph whose top left corner that is.
 pub fn get_visible_part(corner: Point, glyph: GlyphReader, framebuffer: Framebuffer) -> VisiblePart
-    requires { ⌜ (EndFits (corner .x) × EndFits (corner .y)) × ((framebuffer .width ≤ 256) × (framebuffer .height ≤ 256)) ⌝ }
+    requires { ⌜ CornerFits corner framebuffer ⌝ }
     ensures { λ r. ⌜ r ≡ visiblePart corner glyph framebuffer ⌝ }
 {
     VisiblePart {

@@ -8,9 +8,7 @@ ghost use lib.ListN.{length};
 ghost use Rattle.definitions.specs.Font.{u8g2, pixelsOf};
 ghost use Rattle.definitions.specs.Framebuffer.{shown};
 ghost use Rattle.definitions.specs.Picture.{boxPicture};
-ghost use Rattle.framebuffer.specs.Areas.{BufferFits};
-ghost use Rattle.glyph_renderer.specs.Drawing.{GlyphBox};
-ghost use Rattle.runs.specs.Stands.{CheckedGlyph};
+ghost use Rattle.glyph_renderer.specs.Drawing.{GlyphDrawable};
 use framebuffer::fill::fill_box;
 use geometry::get_visible_part;
 use rows::draw_rows;
@@ -31,8 +29,7 @@ pub fn render_glyph(
     framebuffer: Framebuffer,
     buffer: &mut [u8],
 )
-    requires { ⌜ CheckedGlyph (now font) head glyph × (GlyphBox glyph «bounding_box» × BufferFits (length (now buffer))
-        (framebuffer .width) (framebuffer .height)) ⌝ }
+    requires { ⌜ GlyphDrawable (now font) head glyph «bounding_box» framebuffer (length (now buffer)) ⌝ }
     ensures { λ r. ⌜ now (buffer .exit) ≡ shown (framebuffer .width) (boxPicture color
         (pixelsOf (u8g2 (now (font .entry))) glyph) «bounding_box») (now (buffer .entry)) ⌝ }
 {

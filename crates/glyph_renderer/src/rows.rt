@@ -4,8 +4,7 @@ ghost use Prim.Native.Nat.{_-_};
 ghost use lib.ListN.{length};
 ghost use Rattle.definitions.specs.Font.{u8g2, pixelsOf};
 ghost use Rattle.definitions.specs.Framebuffer.{shown};
-ghost use Rattle.glyph_renderer.specs.Drawing.{PartFits, onesPicture};
-ghost use Rattle.runs.specs.Stands.{CheckedGlyph};
+ghost use Rattle.glyph_renderer.specs.Drawing.{PartDrawable, onesPicture};
 use crate::geometry::VisiblePart;
 use framebuffer::fill_columns;
 use runs::next_pair;
@@ -36,7 +35,7 @@ pub fn draw_rows(
     framebuffer: Framebuffer,
     buffer: &mut [u8],
 )
-    requires { ⌜ CheckedGlyph (now font) head glyph × PartFits glyph part framebuffer (length (now buffer)) ⌝ }
+    requires { ⌜ PartDrawable (now font) head glyph part framebuffer (length (now buffer)) ⌝ }
     ensures { λ r. ⌜ now (buffer .exit) ≡ shown (framebuffer .width) (onesPicture (pixelsOf (u8g2 (now (font .entry))) glyph)
         glyph part value) (now (buffer .entry)) ⌝ }
 {

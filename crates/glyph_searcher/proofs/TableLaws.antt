@@ -1,10 +1,14 @@
 -- One step of the walk over the jump table, in the terms of the code: what a test shows of the definition. Assumes nothing.
-use Rattle.integers.proofs.Prelude.{_≡_, refl, _∙_, Bool, true, false, List, ℕ, _+_, _≤_, _<_, decLt, arith, eqb, length, drop, length-drop, lt-ltb}
-use Rattle.integers.proofs.Prelude.{le-ltb, eq-eqb, ne-eqb, eqb-true, eqb-false}
-use Rattle.integers.specs.Integers.{pick}
-use Rattle.definitions.specs.Header.{byte, bigEndian16}
+use Rattle.integers.proofs.Prelude.{_≡_, _∙_, List, ℕ, _+_, _*_, _≤_, _<_, arith, length, drop, length-drop, lt-ltb, le-ltb}
+use Rattle.definitions.specs.Header.{bigEndian16}
 use Rattle.definitions.specs.Lookup.{sum, none, jumpTable}
 use Rattle.definitions.proofs.LookupLaws.{table-at, table-ends}
+
+-- The rest of the table from `at` on, with the sum so far, answers as the whole table does.
+pub record SummedTo (font : List ℕ) (start c total at : ℕ) : Type 0 where
+  pub within : at ≤ length font
+  pub small : total ≤ 65535 * at
+  pub same : jumpTable c 0 (drop start font) ≡ jumpTable c total (drop at font)
 
 module _ (c total : ℕ) (font : List ℕ) (at : ℕ) where
   pub table-end : length font < at + 4 → jumpTable c total (drop at font) ≡ none

@@ -3,9 +3,9 @@ use mathlib.Core.Path.{_≡_}
 use Prim.Native.Nat.{ℕ}
 use lib.IntN.{ℤ, pos, negsuc, _+ℤ_}
 use lib.Signed.{_≤ℤ_}
-use Rattle.definitions.specs.Vocabulary.{Point, BoundingBox, None, Some, Rectangle, RenderedDimensions}
+use Rattle.definitions.specs.Vocabulary.{Point, BoundingBox, None, Some, Rectangle, RenderedDimensions, GlyphReader}
 use Rattle.definitions.specs.Geometry.{left, top, InReach}
-use Rattle.definitions.specs.TextSteps.{LineState}
+use Rattle.definitions.specs.TextSteps.{nextBox, LineState}
 
 -- less than 2 to the power 29: sums of two such numbers fit an i32
 pub record Near (z : ℤ) : Type 0 where
@@ -19,6 +19,11 @@ pub record HasRoom (origin : Point) (d : RenderedDimensions) : Type 0 where
   pub column : Near (origin .x +ℤ d .advance .x)
   pub row : Near (origin .y +ℤ d .advance .y)
   pub box : InReach (d .«bounding_box»)
+
+-- The box of a glyph at the advance so far, in reach.
+pub record NextBox (origin : Point) (d : RenderedDimensions) (g : GlyphReader) (b : BoundingBox) : Type 0 where
+  pub is : b ≡ nextBox origin d g
+  pub reach : InReach b
 
 -- ---- measuring line by line: a line, counted from its own start
 

@@ -1,11 +1,10 @@
 // The steps of counting a text, character by character: drawing takes them from the text's origin, measuring from each line's start.
 ghost use mathlib.Core.Path.{_≡_};
 ghost use Prim.Native.Nat.{_≤_};
-ghost use Rattle.definitions.specs.Geometry.{InReach};
-ghost use Rattle.definitions.specs.TextSteps.{newlineStep, nextBox, glyphStep, answerStep};
+ghost use Rattle.definitions.specs.TextSteps.{newlineStep, glyphStep, answerStep};
 ghost use Rattle.definitions.specs.Calls.{dimensionsOutcome};
 ghost use Rattle.answers.specs.Answers.{asAnswer};
-ghost use Rattle.layout.specs.Ranges.{Near, HasRoom};
+ghost use Rattle.layout.specs.Ranges.{Near, HasRoom, NextBox};
 use crate::render_actions::get_glyph_bounding_box;
 use crate::render_actions::moved;
 use answers::Answer;
@@ -40,7 +39,7 @@ pub fn get_next_bounding_box(
     glyph: GlyphReader,
 ) -> BoundingBox
     requires { ⌜ HasRoom origin dimensions ⌝ }
-    ensures { λ r. ⌜ (r ≡ nextBox origin dimensions glyph) × InReach r ⌝ }
+    ensures { λ r. ⌜ NextBox origin dimensions glyph r ⌝ }
 {
     let advance = dimensions.advance;
     get_glyph_bounding_box(glyph, origin.x + advance.x, origin.y + advance.y)

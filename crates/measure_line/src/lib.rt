@@ -2,10 +2,9 @@
 pub mod program;
 
 ghost use mathlib.Core.Path.{_≡_};
-ghost use Rattle.io.specs.Counts.{Counts};
 ghost use Rattle.definitions.specs.Calls.{dimensionsOutcome};
 ghost use Rattle.measure_line.specs.Measured.{measuredByProgram, measuringLine};
-ghost use Rattle.numbers.specs.Written.{Written};
+ghost use Rattle.numbers.specs.Written.{LineWritten};
 use answer_line::LINE_ROOM;
 use answer_line::result_line;
 use font_reader::new_from_raw_data;
@@ -41,8 +40,8 @@ fn measured(font: &[u8], text: &[u8]) -> DimensionsResult
 
 // Writes the line to the start of `out` and answers its length. What stands behind the line stays.
 pub fn measure_line(font: &[u8], text: &[u8], out: &mut [u8; LINE_ROOM]) -> usize
-    ensures { λ n. ⌜ Counts n (now (out .exit)) × Written (now (out .entry)) 0
-        (measuringLine (now (font .entry)) (now (text .entry))) n (now (out .exit)) ⌝ }
+    ensures { λ n. ⌜ LineWritten (now (out .entry)) (measuringLine (now (font .entry)) (now (text .entry))) n
+        (now (out .exit)) ⌝ }
 {
     let result = measured(font, text);
     result_line(out, result)

@@ -5,6 +5,12 @@ use Rattle.io.specs.Counts.{Counts}
 use Rattle.io.proofs.Counting.{counts}
 use Rattle.numbers.specs.Written.{Written}
 
+-- The first i bytes of s stand at `at`, and everything else as it was.
+pub record PastedTo (before : List ℕ) (at : ℕ) (s out : List ℕ) (i : ℕ) : Type 0 where
+  pub within : i ≤ length s
+  pub long : length out ≡ length before
+  pub is : out ≡ paste before at s i
+
 -- One byte more of s is stored.
 pub next-byte : (before out s : List ℕ) (at i : ℕ) → at + i < length before → i < length s → out ≡ paste before at s i
     → set out (at + i) (getD s i 0) ≡ paste before at s (i + 1)

@@ -4,7 +4,7 @@ ghost use mathlib.Core.List.{_∷_};
 ghost use Prim.Native.Nat.{_+_, _≤_};
 ghost use lib.ListN.{length};
 ghost use Rattle.numbers.specs.Decimal.{decimal, signedDecimal};
-ghost use Rattle.numbers.specs.Written.{Written};
+ghost use Rattle.numbers.specs.Written.{Written, WrittenWithin};
 use utils::number::magnitude;
 
 pub fn append(out: &mut [u8], at: usize, s: &[u8]) -> usize
@@ -22,7 +22,7 @@ pub fn append(out: &mut [u8], at: usize, s: &[u8]) -> usize
 // The digits of a number, of which a u32 has at most ten.
 fn append_decimal(out: &mut [u8], at: usize, n: u32) -> usize
     requires { ⌜ at + 10 ≤ length (now out) ⌝ }
-    ensures { λ r. ⌜ (r ≤ at + 10) × Written (now (out .entry)) at (decimal n) r (now (out .exit)) ⌝ }
+    ensures { λ r. ⌜ WrittenWithin 10 (now (out .entry)) at (decimal n) r (now (out .exit)) ⌝ }
 {
     let mut digits = [0u8; 20];
     let k = io::decimal(n as u64, &mut digits);
@@ -32,7 +32,7 @@ fn append_decimal(out: &mut [u8], at: usize, n: u32) -> usize
 // A number after a space.
 pub fn append_unsigned(out: &mut [u8], at: usize, n: u32) -> usize
     requires { ⌜ at + 11 ≤ length (now out) ⌝ }
-    ensures { λ r. ⌜ (r ≤ at + 11) × Written (now (out .entry)) at (32 ∷ decimal n) r (now (out .exit)) ⌝ }
+    ensures { λ r. ⌜ WrittenWithin 11 (now (out .entry)) at (32 ∷ decimal n) r (now (out .exit)) ⌝ }
 {
     let next = append(out, at, b" ");
     append_decimal(out, next, n)
@@ -40,7 +40,7 @@ pub fn append_unsigned(out: &mut [u8], at: usize, n: u32) -> usize
 
 pub fn append_signed(out: &mut [u8], at: usize, n: i32) -> usize
     requires { ⌜ at + 12 ≤ length (now out) ⌝ }
-    ensures { λ r. ⌜ (r ≤ at + 12) × Written (now (out .entry)) at (32 ∷ signedDecimal n) r (now (out .exit)) ⌝ }
+    ensures { λ r. ⌜ WrittenWithin 12 (now (out .entry)) at (32 ∷ signedDecimal n) r (now (out .exit)) ⌝ }
 {
     if n < 0 {
         let next = append(out, at, b" -");

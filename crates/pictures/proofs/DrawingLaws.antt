@@ -1,18 +1,18 @@
 -- What each step of drawing a text on a framebuffer of its own comes to. Assumes nothing.
-use Rattle.integers.proofs.Prelude.{_≡_, refl, sym, ap, subst, _∙_, false, List, [], _∷_, _++_, ℕ, _+_, _*_, _≤_, _<_, mul-le-mul, arith, pos, natAbs}
+use Rattle.integers.proofs.Prelude.{_≡_, refl, sym, ap, subst, _∙_, List, [], _∷_, _++_, ℕ, _*_, _≤_, _<_, mul-le-mul, arith, pos, natAbs}
 use Rattle.integers.proofs.Prelude.{_+ℤ_, _≤ℤ_, length, getD, take, drop, length-take-le}
 use Rattle.integers.specs.Integers.{signed8}
 use Rattle.integers.proofs.Laws.{zarith, plus, range, size, signed8-fits}
-use Rattle.definitions.specs.Vocabulary.{FontReader, BoundingBox, Some, Point, Rectangle, RenderedDimensions, FontColor}
+use Rattle.definitions.specs.Vocabulary.{FontReader, BoundingBox, Some, Rectangle, RenderedDimensions, FontColor}
 use Rattle.definitions.specs.Refusals.{Outcome, success, refused, unlessRefused}
 use Rattle.definitions.specs.Header.{header, signedByte}
 use Rattle.definitions.specs.Text.{dimensions}
 use Rattle.definitions.specs.Limits.{textCause, positionCause}
 use Rattle.definitions.specs.Font.{u8g2}
 use Rattle.definitions.specs.Calls.{openFont, measuredText, measure}
-use Rattle.pictures.specs.Whole.{roomFor, atZero, whole, measuredAtZero, drawnWhole, shownWhole, boxed, SeenWhole}
+use Rattle.pictures.specs.Whole.{roomFor, atZero, whole, measuredAtZero, SeenWhole}
 use Rattle.definitions.proofs.OpenedLaws.{opened, open-refused}
-use Rattle.pictures.specs.Drawings.{Measured, Framed, area, Called}
+use Rattle.pictures.specs.Drawings.{Measured, Framed, CornerDrawn, area, Called}
 
 -- the largest framebuffer
 pub area-most : {width height : ℕ} → width ≤ 256 → height ≤ 256 → width * height ≤ 65536
@@ -28,18 +28,16 @@ module _ (r : Rectangle) (before : List ℕ) (wide : r .size .width ≤ 256) (hi
   module _ {font text : List ℕ} {lineHeight : ℕ} (color : FontColor) (m : Measured font text lineHeight r) where
     -- the call's answer, read, and the pixels it left
     pub called : {after : List ℕ} {answer o : Outcome RenderedDimensions} → answer ≡ o
-        → answer ≡ drawnWhole font text lineHeight color r (take (area r) before)
-        → after ≡ shownWhole font text lineHeight color r (take (area r) before)
-        → ((advance : Point) → measuredAtZero font text lineHeight ≡ success (boxed advance r) → SeenWhole advance r answer)
+        → CornerDrawn font text lineHeight color r (take (area r) before) after answer
         → Called font text lineHeight color before (after ++ drop (area r) before) r o
-    called {after} {answer} {o} is answered shown seen = record {
+    called {after} {answer} {o} is c = record {
       advance = m .advance;
       measured = m .box;
       wide = wide;
       high = high;
-      answered = sym answered ∙ is;
-      shown = ap (λ (l : List ℕ). l ++ drop (area r) before) shown;
-      seen = subst (SeenWhole (m .advance) r) is (seen (m .advance) (m .box));
+      answered = sym (c .answered) ∙ is;
+      shown = ap (λ (l : List ℕ). l ++ drop (area r) before) (c .shown);
+      seen = subst (SeenWhole (m .advance) r) is (c .seen (m .advance) (m .box));
     }
 
 -- a measuring that succeeded with a box

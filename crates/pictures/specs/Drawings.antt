@@ -5,7 +5,7 @@ use mathlib.Core.List.{List, _++_}
 use mathlib.Core.Logic.{_⊎_}
 use Prim.Native.Nat.{ℕ, _*_, _≤_, _<_}
 use lib.ListN.{take, drop}
-use Rattle.definitions.specs.Vocabulary.{Framebuffer, None, Point, Rectangle, RenderedDimensions, FontColor}
+use Rattle.definitions.specs.Vocabulary.{Framebuffer, None, Point, Size, Rectangle, RenderedDimensions, FontColor}
 use Rattle.definitions.specs.Refusals.{Outcome, success, refusal}
 use Rattle.pictures.specs.Whole.{measuredAtZero, drawnWhole, shownWhole, boxed, SeenWhole}
 use Rattle.pictures.specs.declared.whole.DrawResult.{DrawResult}
@@ -25,6 +25,22 @@ pub record Framed (r : Rectangle) (p : Framebuffer) (n : ℕ) : Type 0 where
   pub high : p .height ≤ 256
   pub area : n ≡ p .width * p .height
 
+-- Both: the text is drawn on that framebuffer.
+pub record Cornered (font text : List ℕ) (lineHeight : ℕ) (r : Rectangle) (p : Framebuffer) (n : ℕ) : Type 0 where
+  pub measured : Measured font text lineHeight r
+  pub framed : Framed r p n
+
+-- .. and a buffer for the largest framebuffer.
+pub record Buffered (font text : List ℕ) (lineHeight : ℕ) (r : Rectangle) (bytes : ℕ) : Type 0 where
+  pub measured : Measured font text lineHeight r
+  pub room : bytes ≡ 65536
+
+-- What that comes to: all of it is seen.
+pub record CornerDrawn (font text : List ℕ) (lineHeight : ℕ) (color : FontColor) (r : Rectangle) (before after : List ℕ) (o : Outcome RenderedDimensions) : Type 0 where
+  pub answered : o ≡ drawnWhole font text lineHeight color r before
+  pub shown : after ≡ shownWhole font text lineHeight color r before
+  pub seen : (advance : Point) → measuredAtZero font text lineHeight ≡ success (boxed advance r) → SeenWhole advance r o
+
 abbrev pub area : Rectangle → ℕ
 area r = r .size .width * r .size .height
 
@@ -38,16 +54,29 @@ pub record Called (font text : List ℕ) (lineHeight : ℕ) (color : FontColor) 
   pub shown : after ≡ shownWhole font text lineHeight color r (take (area r) before) ++ drop (area r) before
   pub seen : SeenWhole advance r o
 
--- Where nothing was drawn the buffer stays.
+-- The same of a drawing of that size.
+pub record IsDrawn (font text : List ℕ) (lineHeight : ℕ) (color : FontColor) (before after : List ℕ) (d : RenderedDimensions) (size : Size) : Type 0 where
+  pub box : Rectangle
+  pub size-is : box .size ≡ size
+  pub called : Called font text lineHeight color before after box (success d)
+
+-- Where nothing was drawn the buffer stays: the text has no box,
+pub record IsBlank (font text : List ℕ) (lineHeight : ℕ) (before after : List ℕ) (d : RenderedDimensions) : Type 0 where
+  pub kept : after ≡ before
+  pub measured : measuredAtZero font text lineHeight ≡ success d
+  pub boxless : d .«bounding_box» ≡ None
+
+-- or one that no framebuffer holds.
+pub record IsTooLarge (font text : List ℕ) (lineHeight : ℕ) (before after : List ℕ) (r : Rectangle) : Type 0 where
+  pub kept : after ≡ before
+  pub advance : Point
+  pub measured : measuredAtZero font text lineHeight ≡ success (boxed advance r)
+  pub large : (256 < r .size .width) ⊎ (256 < r .size .height)
+
 abbrev pub IsDrawing : List ℕ → List ℕ → ℕ → FontColor → List ℕ → List ℕ → DrawResult → Type 0
-IsDrawing font text lineHeight color before after (Drawn d size) =
-    (r : Rectangle) × ((r .size ≡ size) × Called font text lineHeight color before after r (success d))
-IsDrawing font text lineHeight color before after (Blank d) =
-    (after ≡ before) × ((measuredAtZero font text lineHeight ≡ success d) × (d .«bounding_box» ≡ None))
-IsDrawing font text lineHeight color before after (TooLarge r) =
-    (after ≡ before)
-    × (((advance : Point) × (measuredAtZero font text lineHeight ≡ success (boxed advance r)))
-    × ((256 < r .size .width) ⊎ (256 < r .size .height)))
+IsDrawing font text lineHeight color before after (Drawn d size) = IsDrawn font text lineHeight color before after d size
+IsDrawing font text lineHeight color before after (Blank d) = IsBlank font text lineHeight before after d
+IsDrawing font text lineHeight color before after (TooLarge r) = IsTooLarge font text lineHeight before after r
 IsDrawing font text lineHeight color before after (Refused e) =
     ((after ≡ before) × (measuredAtZero font text lineHeight ≡ refusal e))
     ⊎ ((r : Rectangle) × Called font text lineHeight color before after r (refusal e))

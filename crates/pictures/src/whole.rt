@@ -4,12 +4,9 @@ ghost use Prim.Native.Nat.{_*_, _≤_};
 ghost use lib.IntN.{pos, negsuc, _-ℤ_};
 ghost use lib.ListN.{length};
 ghost use lib.Signed.{_≤ℤ_};
-ghost use Rattle.definitions.specs.Vocabulary.{Point};
-ghost use Rattle.definitions.specs.Refusals.{success};
 ghost use Rattle.definitions.specs.Header.{header};
 ghost use Rattle.definitions.specs.Calls.{dimensionsOutcome};
-ghost use Rattle.pictures.specs.Whole.{measuredAtZero, drawnWhole, shownWhole, boxed, SeenWhole};
-ghost use Rattle.pictures.specs.Drawings.{Measured, Framed, IsDrawing};
+ghost use Rattle.pictures.specs.Drawings.{Cornered, Buffered, CornerDrawn, IsDrawing};
 use font_reader::new_from_raw_data;
 use measuring::rendered_dimensions::get_rendered_dimensions;
 use renderer::render::render;
@@ -54,13 +51,9 @@ fn draw_at_corner(
     framebuffer: Framebuffer,
     pixels: &mut [u8],
 ) -> DimensionsResult
-    requires { ⌜ Measured (now font) (now text) «line_height» rectangle × Framed rectangle framebuffer (length (now pixels)) ⌝ }
-    ensures answered { λ r. ⌜ dimensionsOutcome r ≡ drawnWhole (now (font .entry)) (now (text .entry)) «line_height» color
-        rectangle (now (pixels .entry)) ⌝ }
-    ensures shown { λ r. ⌜ now (pixels .exit) ≡ shownWhole (now (font .entry)) (now (text .entry)) «line_height» color rectangle
-        (now (pixels .entry)) ⌝ }
-    ensures seen { λ r. ⌜ ((advance : Point) → measuredAtZero (now (font .entry)) (now (text .entry)) «line_height» ≡ success
-        (boxed advance rectangle) → SeenWhole advance rectangle (dimensionsOutcome r)) ⌝ }
+    requires { ⌜ Cornered (now font) (now text) «line_height» rectangle framebuffer (length (now pixels)) ⌝ }
+    ensures { λ r. ⌜ CornerDrawn (now (font .entry)) (now (text .entry)) «line_height» color rectangle (now (pixels .entry))
+        (now (pixels .exit)) (dimensionsOutcome r) ⌝ }
 {
     let placement = Placement {
         position: Point {
@@ -86,7 +79,7 @@ fn draw_box(
     color: FontColor,
     buffer: &mut [u8],
 ) -> DrawResult
-    requires { ⌜ Measured (now font) (now text) «line_height» rectangle × (length (now buffer) ≡ 65536) ⌝ }
+    requires { ⌜ Buffered (now font) (now text) «line_height» rectangle (length (now buffer)) ⌝ }
     ensures { λ r. ⌜ IsDrawing (now (font .entry)) (now (text .entry)) «line_height» color (now (buffer .entry))
         (now (buffer .exit)) r ⌝ }
 {

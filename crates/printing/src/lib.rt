@@ -61,6 +61,24 @@ fn code_point(c: u32) {
     text(&out[start..]);
 }
 
+// A character: by itself, where a terminal shows it in one column, and by its code point: '5' (U+0035).
+fn character(c: u32) {
+    if c < 33 {
+        code_point(c);
+        return;
+    }
+    if 126 < c {
+        code_point(c);
+        return;
+    }
+    let mut quoted = [b'\''; 3];
+    quoted[1] = c as u8;
+    text(&quoted);
+    text(b" (");
+    code_point(c);
+    text(b")");
+}
+
 // A refusal's line: the number, the code point, and the cause in words.
 pub fn refusal_line(e: Error) {
     refusal(e);
@@ -70,7 +88,7 @@ pub fn refusal_line(e: Error) {
 }
 
 // Why a call is refused, in words.
-fn cause(e: Error) {
+pub fn cause(e: Error) {
     match e {
         Error::FontLength => text(b"the font has fewer than 23 or more than 1,048,576 bytes"),
         Error::FontHeader => text(b"the font's header is damaged"),
@@ -80,11 +98,11 @@ fn cause(e: Error) {
         Error::BackgroundColorNotSupported => text(b"the font allows no background colour"),
         Error::GlyphNotFound(c) => {
             text(b"the font has no glyph for ");
-            code_point(c);
+            character(c);
         }
         Error::FontEnds(c) => {
             text(b"the font ends before the glyph does for ");
-            code_point(c);
+            character(c);
         }
     }
 }

@@ -17,7 +17,7 @@ use Rattle.framebuffer.proofs.RowLaws.{outside}
 use Rattle.framebuffer.proofs.FillLaws.{fill-inside, fill-outside}
 use Rattle.redraw.specs.declared.place.Place.{Place}
 use Rattle.readings.specs.Readings.{reading, PlaceFits}
-use Rattle.readings.specs.Ground.{rubbishAt, rubbish, clearedTo, ground, ClearTo, RubbishBeside}
+use Rattle.readings.specs.Ground.{rubbishAt, rubbish, clearedTo, ground, ClearTo, RubbishBeside, GroundLaid}
 
 -- ---- rubbish
 
@@ -142,6 +142,12 @@ module _ (font : List ℕ) (place : Place) where
   unfolding clearedTo
   laid-start n bytes e = e ∙ ap rubbish (sym (ap length e ∙ length-rubbish n))
 
+  -- The boxes of the first k readings are cleared.
+  pub record LaidTo (before after : List ℕ) (k : ℕ) : Type 0 where
+    pub within : k ≤ 901
+    pub long : length after ≡ length before
+    pub is : after ≡ clearedTo font place k (rubbish (length before))
+
   pub laid-next : (n k : ℕ) {bytes next : List ℕ} → bytes ≡ clearedTo font place k (rubbish n)
       → next ≡ clearedBy (place .framebuffer .width) (place .background) (measured font (reading place k)) bytes
       → next ≡ clearedTo font place (k + 1) (rubbish n)
@@ -153,9 +159,11 @@ module _ (font : List ℕ) (place : Place) where
   -- All readings' boxes are cleared.
   pub laid : PlaceFits (place .framebuffer .width) (place .framebuffer .height) → (n k : ℕ) (bytes : List ℕ) → n ≡ place .framebuffer .width * place .framebuffer .height → k ≡ 901
       → bytes ≡ clearedTo font place k (rubbish n)
-      → (bytes ≡ ground font place) × (ClearTo 901 font place bytes × RubbishBeside 901 font place bytes)
+      → GroundLaid font place bytes
   laid fits n k bytes whole all e =
-      let is : bytes ≡ ground font place = e ∙ ap (λ (j : ℕ). clearedTo font place j (rubbish n)) all ∙ ap (λ (m : ℕ). clearedTo font place 901 (rubbish m)) whole in (
-        is,
-        (subst (ClearTo 901 font place) (sym is) (is-clear font place fits 901), subst (RubbishBeside 901 font place) (sym is) (rubbish-stays font place fits 901)),
-      )
+      let is : bytes ≡ ground font place = e ∙ ap (λ (j : ℕ). clearedTo font place j (rubbish n)) all ∙ ap (λ (m : ℕ). clearedTo font place 901 (rubbish m)) whole in
+      record {
+        laid = is;
+        clear = subst (ClearTo 901 font place) (sym is) (is-clear font place fits 901);
+        beside = subst (RubbishBeside 901 font place) (sym is) (rubbish-stays font place fits 901);
+      }

@@ -15,6 +15,11 @@ use Rattle.definitions.specs.Calls.{dimensionsOutcome}
 use Rattle.angles.specs.AngleText.{degreesThen, angleText}
 use Rattle.redraw.specs.Drawing.{drawn, after, groundOf}
 use Rattle.buffers.specs.Differences.{differences}
+use Rattle.sight.specs.declared.Sight.{Sight}
+use Rattle.sight.specs.Sights.{sightOf}
+use Rattle.sheet_totals.specs.declared.Totals.{Totals}
+use Rattle.sheet_totals.specs.Totals.{noTotals, wholeOne, partOne, unseenOne, refusedOne, tallied, Few}
+use Rattle.sheet_totals.proofs.TotalsLaws.{at-most, one}
 use Rattle.redraw.specs.Redraw.{wholeOr, readingOn, redrawCauses, redrawn, redrawnBuffer, taken}
 use Rattle.redraw.specs.Steps.{Setting, settingOf, Reading, readingOf, inSetting, groundIn, Screen, alone, showing, ClearFor}
 use Rattle.redraw.proofs.RedrawLaws.{drawn-measured, causesOf, drawn-early, drawn-late}
@@ -22,19 +27,11 @@ use Rattle.buffers.proofs.DifferenceLaws.{none-if-same}
 use Rattle.redraw.proofs.StepsLaws.{Sized, bare-sized, answers-alone, sized-next, length-left, Shown, bare-shown, nothing-shown, step-shows}
 use Rattle.readings.specs.declared.values.Found.{Found}
 use Rattle.redraw.specs.declared.place.Place.{Place}
-use Rattle.readings.specs.declared.values.Totals.{Totals}
 use Rattle.readings.specs.Readings.{readingText, reading}
 use Rattle.readings.specs.Ground.{ClearTo}
 use Rattle.readings.proofs.NarrowLaws.{faultless}
 use Rattle.readings.specs.Sheet.{toFill, stepBuffer, SheetState, screenOf, answerOn, screenAfter, wanted, differing, screenAt}
-use Rattle.readings.specs.Sheet.{Finds, refusedOne, drawnOne, tallied, Few, totalsTo, refusedTo, Sound}
-
-pub at-most : (n : ℕ) → pick (eqb n 0) 0 1 ≤ 1
-at-most n = by (eqb n 0)
-  where
-    by : (b : Bool) → pick b 0 1 ≤ 1
-    by true = omega arith
-    by false = omega arith
+use Rattle.readings.specs.Sheet.{Finds, totalsTo, aloneTo, Sound}
 
 -- ---- the texts
 
@@ -216,19 +213,20 @@ module _ (narrow : Bool) (font : List ℕ) (place : Place) (ground : List ℕ) w
   abbrev totals : ℕ → Totals
   totals k = totalsTo narrow font place ground k
 
-  one : (o : Outcome RenderedDimensions) → drawnOne o + refusedOne o ≡ 1
-  one (success d) = refl
-  one (refused n c) = refl
-
-  pub each-counted : (k : ℕ) → totals k .drawn + totals k .refused ≡ k
+  pub each-counted : (k : ℕ) → totals k .whole + totals k .part + totals k .unseen + totals k .refused ≡ k
   unfolding totalsTo
   each-counted zero = refl
-  each-counted (suc k) = omega (arith, one (answerOn font place (before k) k), each-counted k)
+  each-counted (suc k) = omega (arith, one (sightOf (place .framebuffer) (answerOn font place (before k) k)), each-counted k)
 
-  refused-as-alone : (k : ℕ) → totals k .refused ≡ refusedTo font place ground k
-  unfolding totalsTo refusedTo
-  refused-as-alone zero = refl
-  refused-as-alone (suc k) = omega (arith, refused-as-alone k, ap refusedOne (as-alone (all-known k) k))
+  -- a total that each reading adds to by what is seen of it
+  counted-alone : (total : Totals → ℕ) (count : Sight → ℕ) → total noTotals ≡ 0
+      → ((t : Totals) (s : Sight) (n : ℕ) → total (tallied t s n) ≡ total t + count s)
+      → (k : ℕ) → total (totals k) ≡ aloneTo count font place ground k
+  unfolding totalsTo aloneTo
+  counted-alone total count none adds zero = none
+  counted-alone total count none adds (suc k) =
+      adds (totals k) (sightOf (place .framebuffer) (answerOn font place (before k) k)) (differing font place ground (screenAt narrow font place ground (suc k)) k)
+      ∙ rw (counted-alone total count none adds k, as-alone (all-known k) k)
 
   none-differs : narrow ≡ false → ClearTo 901 font place ground → (k : ℕ) → k ≤ 901 → totals k .differing ≡ 0
   unfolding totalsTo
@@ -245,7 +243,10 @@ module _ (narrow : Bool) (font : List ℕ) (place : Place) (ground : List ℕ) w
   pub sound : ClearTo 901 font place ground → Sound narrow font place ground (totals 901)
   sound clear = record {
     all = each-counted 901;
-    refusals = refused-as-alone 901;
+    whole = counted-alone (λ t. t .whole) wholeOne refl (λ t s n. refl) 901;
+    part = counted-alone (λ t. t .part) partOne refl (λ t s n. refl) 901;
+    unseen = counted-alone (λ t. t .unseen) unseenOne refl (λ t s n. refl) 901;
+    refused = counted-alone (λ t. t .refused) refusedOne refl (λ t s n. refl) 901;
     each-answers = λ k h. as-alone (all-known k) k;
     none-differs = λ honest. none-differs honest clear 901 (omega arith);
     each-shown = λ honest. as-wanted honest clear;
@@ -255,16 +256,18 @@ module _ (narrow : Bool) (font : List ℕ) (place : Place) (ground : List ℕ) w
 
   pub few : {k : ℕ} {t : Totals} → k < 901 → t ≡ totals k → Few t
   few {k} {t} h e = record {
-    drawn = omega (arith, ap (λ (t : Totals). t .drawn) e, each-counted k);
-    differing = omega (arith, ap (λ (t : Totals). t .differing) e, differing-few k);
+    whole = omega (arith, ap (λ (t : Totals). t .whole) e, each-counted k);
+    part = omega (arith, ap (λ (t : Totals). t .part) e, each-counted k);
+    unseen = omega (arith, ap (λ (t : Totals). t .unseen) e, each-counted k);
     refused = omega (arith, ap (λ (t : Totals). t .refused) e, each-counted k);
+    differing = omega (arith, ap (λ (t : Totals). t .differing) e, differing-few k);
   }
 
   pub start-screen : screenOf 901 ground ≡ before 0
   unfolding screenAt
   start-screen = refl
 
-  pub start-totals : record { drawn = 0; differing = 0; refused = 0 } ≡ totals 0
+  pub start-totals : noTotals ≡ totals 0
   unfolding totalsTo
   start-totals = refl
 
@@ -280,12 +283,15 @@ module _ (narrow : Bool) (font : List ℕ) (place : Place) (ground : List ℕ) w
     next-screen =
         ap (λ (n : ℕ). screenOf n exit) (finds .old) ∙ ap (screenOf (screenAfter narrow font place (screenOf old bytes) k .old)) (finds .bytes) ∙ after-is
 
-    pub next-totals : {t next : Totals} → t ≡ totals k → next ≡ tallied t (dimensionsOutcome (found .answer)) (found .differing) → next ≡ totals (k + 1)
+    pub next-totals : {t next : Totals} → t ≡ totals k
+        → next ≡ tallied t (sightOf (place .framebuffer) (dimensionsOutcome (found .answer))) (found .differing) → next ≡ totals (k + 1)
     unfolding totalsTo
     next-totals {t} {next} e h =
         let suc-is : suc k ≡ k + 1 = omega arith in
         h
-        ∙ ap (λ (t : Totals). tallied t (dimensionsOutcome (found .answer)) (found .differing)) e
-        ∙ ap (λ (o : Outcome RenderedDimensions). tallied (totals k) o (found .differing)) (finds .answer ∙ ap (λ (s : SheetState). answerOn font place s k) here)
-        ∙ ap (tallied (totals k) (answerOn font place (before k) k)) (finds .differing ∙ ap (λ (s : SheetState). differing font place ground s k) (after-is ∙ ap before (sym suc-is)))
+        ∙ ap (λ (t : Totals). tallied t (sightOf (place .framebuffer) (dimensionsOutcome (found .answer))) (found .differing)) e
+        ∙ ap (λ (o : Outcome RenderedDimensions). tallied (totals k) (sightOf (place .framebuffer) o) (found .differing))
+        (finds .answer ∙ ap (λ (s : SheetState). answerOn font place s k) here)
+        ∙ ap (tallied (totals k) (sightOf (place .framebuffer) (answerOn font place (before k) k)))
+        (finds .differing ∙ ap (λ (s : SheetState). differing font place ground s k) (after-is ∙ ap before (sym suc-is)))
         ∙ ap totals suc-is

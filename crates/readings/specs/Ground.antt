@@ -42,3 +42,9 @@ RubbishBeside n font place bytes =
     → ((k : ℕ) → k < n → (d : RenderedDimensions) → measured font (reading place k) ≡ success d
     → InsideBox (pos column) (pos row) (d .«bounding_box») → ⊥)
     → pixel (groundOf place bytes) bytes column row ≡ rubbishAt (row * place .framebuffer .width + column)
+
+-- The ground, and both.
+pub record GroundLaid (font : List ℕ) (place : Place) (bytes : List ℕ) : Type 0 where
+  pub laid : bytes ≡ ground font place
+  pub clear : ClearTo 901 font place bytes
+  pub beside : RubbishBeside 901 font place bytes

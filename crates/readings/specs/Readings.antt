@@ -1,8 +1,10 @@
 -- The readings of the sheet, and where they are drawn.
+use mathlib.Core.Path.{_≡_}
 use mathlib.Core.List.{List, []}
 use Prim.Native.Nat.{ℕ, _≤_}
 use lib.Dec.{leb}
 use lib.IntN.{pos, _-ℤ_}
+use lib.ListN.{drop}
 use Rattle.integers.specs.Integers.{pick}
 use Rattle.redraw.specs.Drawing.{Drawing, asked}
 use Rattle.angles.specs.AngleText.{angleText}
@@ -11,6 +13,11 @@ use Rattle.redraw.specs.declared.place.Place.{Place}
 -- The text of a reading, -45.0 to +45.0 in tenths, by its number from 0; no text past the last, which is 900.
 abbrev pub readingText : ℕ → List ℕ
 readingText k = pick (leb 901 k) [] (angleText (pos k -ℤ pos 450))
+
+-- Its text stands from r to the end.
+pub record ReadingPut (k r : ℕ) (after : List ℕ) : Type 0 where
+  pub within : r ≤ 6
+  pub text : drop r after ≡ readingText k
 
 -- how it is drawn at the place
 abbrev pub reading : Place → ℕ → Drawing

@@ -3,7 +3,6 @@ use mathlib.Core.Path.{_≡_}
 use mathlib.Core.Bool.{Bool, true, false}
 use mathlib.Core.List.{List}
 use Prim.Native.Nat.{ℕ, zero, suc, _+_, _-_, _<_}
-use lib.Dec.{eqb}
 use Rattle.integers.specs.Integers.{pick}
 use Rattle.definitions.specs.Vocabulary.{BoundingBox, None, Some, RenderedDimensions}
 use Rattle.definitions.specs.Refusals.{Outcome, success, refused, anyApplies}
@@ -11,10 +10,13 @@ use Rattle.definitions.specs.Calls.{dimensionsOutcome}
 use Rattle.definitions.specs.Agreement.{on, Ground, width}
 use Rattle.redraw.specs.Drawing.{Drawing, withText, drawn, groundOf}
 use Rattle.buffers.specs.Differences.{differences}
+use Rattle.sight.specs.declared.Sight.{Sight}
+use Rattle.sight.specs.Sights.{sightOf}
+use Rattle.sheet_totals.specs.declared.Totals.{Totals}
+use Rattle.sheet_totals.specs.Totals.{noTotals, wholeOne, partOne, unseenOne, refusedOne, tallied}
 use Rattle.redraw.specs.Redraw.{readingOn, clearedBy, redrawCauses, redrawn, taken}
 use Rattle.readings.specs.declared.values.Found.{Found}
 use Rattle.redraw.specs.declared.place.Place.{Place}
-use Rattle.readings.specs.declared.values.Totals.{Totals}
 use Rattle.readings.specs.Readings.{readingText, reading}
 
 -- ---- one reading over another
@@ -82,49 +84,33 @@ pub record Finds (narrow : Bool) (font : List ℕ) (place : Place) (ground : Lis
 
 -- ---- the totals
 
--- how many of one answer are refused
-abbrev pub refusedOne : {A : Type 0} → Outcome A → ℕ
-refusedOne (success a) = 0
-refusedOne (refused n c) = 1
-
-abbrev pub drawnOne : {A : Type 0} → Outcome A → ℕ
-drawnOne (success a) = 1
-drawnOne (refused n c) = 0
-
--- one reading more, by its answer and by how many pixels differ
-abbrev pub tallied : Totals → Outcome RenderedDimensions → ℕ → Totals
-tallied t answer n = record {
-  drawn = t .drawn + drawnOne answer;
-  differing = t .differing + pick (eqb n 0) 0 1;
-  refused = t .refused + refusedOne answer;
-}
-
--- Room for one more.
-pub record Few (t : Totals) : Type 0 where
-  pub drawn : t .drawn < 901
-  pub differing : t .differing < 901
-  pub refused : t .refused < 901
-
 -- of the first n readings
 unfoldable pub totalsTo : Bool → List ℕ → Place → List ℕ → ℕ → Totals
-totalsTo narrow font place ground zero = record { drawn = 0; differing = 0; refused = 0 }
+totalsTo narrow font place ground zero = noTotals
 totalsTo narrow font place ground (suc k) =
     tallied (totalsTo narrow font place ground k)
-    (answerOn font place (screenAt narrow font place ground k) k)
+    (sightOf (place .framebuffer) (answerOn font place (screenAt narrow font place ground k) k))
     (differing font place ground (screenAt narrow font place ground (suc k)) k)
 
--- how many of the first n readings are refused when each is drawn alone on the ground
-unfoldable pub refusedTo : List ℕ → Place → List ℕ → ℕ → ℕ
-refusedTo font place ground zero = 0
-refusedTo font place ground (suc k) = refusedTo font place ground k + refusedOne (drawn font (reading place k) (groundOf place ground))
+-- what is seen of a reading that is drawn alone on the ground
+abbrev pub seenAlone : List ℕ → Place → List ℕ → ℕ → Sight
+seenAlone font place ground k = sightOf (place .framebuffer) (drawn font (reading place k) (groundOf place ground))
+
+-- of how many of the first n that is so
+unfoldable pub aloneTo : (Sight → ℕ) → List ℕ → Place → List ℕ → ℕ → ℕ
+aloneTo one font place ground zero = 0
+aloneTo one font place ground (suc k) = aloneTo one font place ground k + one (seenAlone font place ground k)
 
 -- ---- what a sheet is to be
 
--- Every reading is counted once, and answers what it answers when it is drawn alone. Without the fault the screen
--- shows after each reading what it is to show, so that none differs and a refused one leaves the field empty.
+-- Every reading is counted once, by what is seen of it when it is drawn alone, and answers what it then answers. Without the fault
+-- the screen shows after each reading what it is to show, so that none differs and a refused one leaves the field empty.
 pub record Sound (narrow : Bool) (font : List ℕ) (place : Place) (ground : List ℕ) (t : Totals) : Type 0 where
-  pub all : t .drawn + t .refused ≡ 901
-  pub refusals : t .refused ≡ refusedTo font place ground 901
+  pub all : t .whole + t .part + t .unseen + t .refused ≡ 901
+  pub whole : t .whole ≡ aloneTo wholeOne font place ground 901
+  pub part : t .part ≡ aloneTo partOne font place ground 901
+  pub unseen : t .unseen ≡ aloneTo unseenOne font place ground 901
+  pub refused : t .refused ≡ aloneTo refusedOne font place ground 901
   pub each-answers : (k : ℕ) → k < 901
       → answerOn font place (screenAt narrow font place ground k) k ≡ drawn font (reading place k) (groundOf place ground)
   pub none-differs : narrow ≡ false → t .differing ≡ 0

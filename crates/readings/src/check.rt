@@ -2,11 +2,9 @@
 ghost use mathlib.Core.Path.{_≡_};
 ghost use mathlib.Core.Bool.{true};
 ghost use lib.ListN.{length};
-ghost use Rattle.definitions.specs.Header.{Opened};
 ghost use Rattle.definitions.specs.Calls.{dimensionsOutcome};
-ghost use Rattle.checks.specs.Origins.{Checked};
-ghost use Rattle.renderer.specs.Texts.{countedWith};
-ghost use Rattle.redraw.specs.Drawing.{asked, groundOf, FitsPlace};
+ghost use Rattle.renderer.specs.Texts.{DrawableText, countedWith};
+ghost use Rattle.redraw.specs.Drawing.{asked, groundOf};
 ghost use Rattle.redraw.specs.Redraw.{readingOn, clearedBy, redrawn};
 ghost use Rattle.readings.specs.Sheet.{narrowedBox, toFill, stepBuffer};
 use crate::values::Trial;
@@ -82,8 +80,7 @@ fn clear_narrow(
     place: Place,
     screen: &mut [u8],
 )
-    requires { ⌜ Opened (now font) head × (Checked (now text) (pen .origin) (pen .«line_height») × FitsPlace
-        (length (now screen)) place) ⌝ }
+    requires { ⌜ DrawableText (now font) head (now text) pen (place .framebuffer) (length (now screen)) ⌝ }
     ensures { λ r. ⌜ now (screen .exit) ≡ clearedBy (place .framebuffer .width) (place .background)
         (toFill true (countedWith (now (font .entry)) (now (text .entry)) pen)) (now (screen .entry)) ⌝ }
 {

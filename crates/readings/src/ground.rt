@@ -5,7 +5,7 @@ ghost use lib.ListN.{length};
 ghost use Rattle.redraw.specs.Drawing.{FitsPlace, measured};
 ghost use Rattle.redraw.specs.Redraw.{clearedBy};
 ghost use Rattle.readings.specs.Readings.{reading, PlaceFits};
-ghost use Rattle.readings.specs.Ground.{rubbish, ground, ClearTo, RubbishBeside};
+ghost use Rattle.readings.specs.Ground.{rubbish, GroundLaid};
 use crate::texts::COUNT;
 use crate::texts::measure_reading;
 use framebuffer::fill::fill_box;
@@ -49,9 +49,7 @@ fn clear_reading(font: &[u8], k: usize, place: Place, buffer: &mut [u8])
 pub fn lay_ground(font: &[u8], place: Place, buffer: &mut [u8])
     requires { ⌜ PlaceFits (place .framebuffer .width) (place .framebuffer .height)
         × (length (now buffer) ≡ place .framebuffer .width * place .framebuffer .height) ⌝ }
-    ensures laid { λ r. ⌜ now (buffer .exit) ≡ ground (now (font .entry)) place ⌝ }
-    ensures clear { λ r. ⌜ ClearTo 901 (now (font .entry)) place (now (buffer .exit)) ⌝ }
-    ensures rubbish { λ r. ⌜ RubbishBeside 901 (now (font .entry)) place (now (buffer .exit)) ⌝ }
+    ensures { λ r. ⌜ GroundLaid (now (font .entry)) place (now (buffer .exit)) ⌝ }
 {
     fill_with_rubbish(&mut buffer[..]);
     let mut k: usize = 0;

@@ -1,6 +1,5 @@
-// The step of the gauge, watched: each reading is drawn over the one before, compared with the reading drawn alone, and counted.
+// The step of the gauge, watched: each reading is drawn over the one before, and compared with the reading drawn alone.
 ghost use mathlib.Core.Path.{_≡_};
-ghost use lib.Dec.{eqb};
 ghost use lib.ListN.{length};
 ghost use Rattle.integers.specs.Integers.{pick};
 ghost use Rattle.definitions.specs.Calls.{dimensionsOutcome};
@@ -8,44 +7,16 @@ ghost use Rattle.buffers.specs.Differences.{differences};
 ghost use Rattle.redraw.specs.Redraw.{redrawn, taken};
 ghost use Rattle.redraw.specs.Drawing.{groundOf};
 ghost use Rattle.readings.specs.Readings.{readingText, reading};
-ghost use Rattle.readings.specs.Sheet.{stepBuffer, screenOf, wanted, Finds, tallied, Few};
+ghost use Rattle.readings.specs.Sheet.{stepBuffer, screenOf, wanted, Finds};
 use crate::check::draw_alone;
 use crate::check::redraw_on;
 use crate::texts::write_reading;
 use crate::values::Found;
-use crate::values::Totals;
 use crate::values::Trial;
 use buffers::count_differences;
 use redraw::place::Place;
 use redraw::reading::is_taken;
 use types::results::DimensionsResult;
-
-// 1 for a number that is not 0.
-fn one_if_any(n: usize) -> usize
-    ensures { λ r. ⌜ r ≡ pick (eqb n 0) 0 1 ⌝ }
-{
-    if n == 0 { 0 } else { 1 }
-}
-
-pub fn counted(totals: Totals, found: Found) -> Totals
-    requires { ⌜ Few totals ⌝ }
-    ensures { λ r. ⌜ r ≡ tallied totals (dimensionsOutcome (found .answer)) (found .differing) ⌝ }
-{
-    let answer = found.answer;
-    let one = one_if_any(found.differing);
-    match answer {
-        DimensionsResult::Ok(_) => Totals {
-            drawn: totals.drawn + 1,
-            differing: totals.differing + one,
-            refused: totals.refused,
-        },
-        DimensionsResult::Err(_) => Totals {
-            drawn: totals.drawn,
-            differing: totals.differing + one,
-            refused: totals.refused + 1,
-        },
-    }
-}
 
 // Draws reading k over the reading `old`.
 fn draw_over(font: &[u8], old: usize, k: usize, trial: Trial, screen: &mut [u8]) -> DimensionsResult

@@ -1,10 +1,9 @@
 // The readings: -45.0 to +45.0 degrees in tenths, numbered from 0.
 ghost use mathlib.Core.Path.{_≡_};
-ghost use Prim.Native.Nat.{_≤_};
-ghost use lib.ListN.{length, drop};
+ghost use lib.ListN.{length};
 ghost use Rattle.definitions.specs.Font.{u8g2};
 ghost use Rattle.definitions.specs.Calls.{plain, measure, dimensionsOutcome};
-ghost use Rattle.readings.specs.Readings.{readingText};
+ghost use Rattle.readings.specs.Readings.{readingText, ReadingPut};
 use angles::write_angle;
 use measuring::rendered_dimensions::get_rendered_dimensions;
 use types::results::DimensionsResult;
@@ -16,7 +15,7 @@ pub const COUNT: usize = 901;
 // Writes the reading's text at the end of `out` and answers where it begins; a number past the last has none.
 pub fn write_reading(k: usize, out: &mut [u8]) -> usize
     requires { ⌜ length (now out) ≡ 6 ⌝ }
-    ensures { λ r. ⌜ (r ≤ 6) × (drop r (now (out .exit)) ≡ readingText k) ⌝ }
+    ensures { λ r. ⌜ ReadingPut k r (now (out .exit)) ⌝ }
 {
     if COUNT <= k {
         return 6;

@@ -1,4 +1,4 @@
-// What is tried, what is found of a step, and the totals. There is no code here.
+// What is tried, and what is found of a step. There is no code here.
 use redraw::place::Place;
 use types::results::DimensionsResult;
 
@@ -14,11 +14,4 @@ pub struct Found {
     pub answer: DimensionsResult,
     pub old: usize,
     pub differing: usize,
-}
-
-// How many readings were drawn, how many were refused, and after how many of both the screen differs.
-pub struct Totals {
-    pub drawn: usize,
-    pub differing: usize,
-    pub refused: usize,
 }

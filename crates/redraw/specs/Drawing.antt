@@ -8,7 +8,7 @@ use Rattle.definitions.specs.Font.{u8g2}
 use Rattle.definitions.specs.Calls.{Request, placed, plain, measure, draw, drawBuffer}
 use Rattle.definitions.specs.Agreement.{Ground, on}
 use Rattle.renderer.specs.declared.render.Context.{Context}
-use Rattle.renderer.specs.Texts.{Fits}
+use Rattle.renderer.specs.CharAnswers.{Fits}
 use Rattle.redraw.specs.declared.place.Place.{Place}
 
 pub record Drawing : Type 0 where
@@ -43,7 +43,7 @@ contextOf place = record { color = place .style .color; framebuffer = place .fra
 
 -- A buffer of so many bytes is the place's framebuffer.
 abbrev pub FitsPlace : ℕ → Place → Type 0
-FitsPlace bytes place = Fits bytes (contextOf place)
+FitsPlace bytes place = Fits bytes (place .framebuffer)
 
 -- what drawing answers and leaves, and what measuring answers
 abbrev pub drawn : List ℕ → Drawing → Ground → Outcome RenderedDimensions

@@ -14,8 +14,11 @@ use Rattle.definitions.specs.Framebuffer.{shown, framebufferCause}
 use Rattle.definitions.specs.Font.{u8g2}
 use Rattle.definitions.specs.Limits.{textCause, positionCause, backgroundCause}
 use Rattle.definitions.specs.Agreement.{Ground, on, pixel, width, height}
+use Rattle.checks.specs.declared.origin.Pen.{Pen}
 use Rattle.framebuffer.specs.Areas.{fillPicture}
-use Rattle.redraw.specs.Drawing.{Drawing, withText, drawn, after}
+use Rattle.renderer.specs.Texts.{countedWith, drawnWith}
+use Rattle.redraw.specs.declared.place.Place.{Place}
+use Rattle.redraw.specs.Drawing.{Drawing, withText, contextOf, drawn, after}
 
 -- ---- a reading on a ground
 
@@ -23,6 +26,11 @@ use Rattle.redraw.specs.Drawing.{Drawing, withText, drawn, after}
 abbrev pub wholeOr : Outcome RenderedDimensions → List ℕ → List ℕ → List ℕ
 wholeOr (success d) drawing ground = drawing
 wholeOr (refused n c) drawing ground = ground
+
+-- A checked text is counted, and shown whole or not at all.
+pub record ReadingDrawn (font text : List ℕ) (pen : Pen) (place : Place) (before after : List ℕ) (o : Outcome RenderedDimensions) : Type 0 where
+  pub counted : o ≡ countedWith font text pen
+  pub shown : after ≡ wholeOr (countedWith font text pen) (drawnWith font text pen (contextOf place) before) before
 
 -- What a reading shows on a ground: the ground with the text drawn on it if drawing the text succeeds, and the ground as it was if
 -- it does not.

@@ -1,12 +1,10 @@
 // A reading drawn over the one before, whole or not at all.
 ghost use mathlib.Core.Path.{_≡_};
 ghost use lib.ListN.{length};
-ghost use Rattle.definitions.specs.Header.{Opened};
 ghost use Rattle.definitions.specs.Calls.{dimensionsOutcome};
-ghost use Rattle.checks.specs.Origins.{Checked};
-ghost use Rattle.renderer.specs.Texts.{countedWith, drawnWith};
-ghost use Rattle.redraw.specs.Drawing.{asked, groundOf, FitsPlace, contextOf};
-ghost use Rattle.redraw.specs.Redraw.{wholeOr, clearedBy, redrawn, redrawnBuffer, taken};
+ghost use Rattle.renderer.specs.Texts.{DrawableText, countedWith};
+ghost use Rattle.redraw.specs.Drawing.{asked, groundOf};
+ghost use Rattle.redraw.specs.Redraw.{ReadingDrawn, clearedBy, redrawn, redrawnBuffer, taken};
 ghost use Rattle.redraw.specs.Steps.{settingOf, readingOf, LeavesReading};
 use crate::place::Place;
 use crate::step::StepResult;
@@ -29,8 +27,7 @@ fn clear_reading(
     place: Place,
     buffer: &mut [u8],
 )
-    requires { ⌜ Opened (now font) head × (Checked (now text) (pen .origin) (pen .«line_height») × FitsPlace
-        (length (now buffer)) place) ⌝ }
+    requires { ⌜ DrawableText (now font) head (now text) pen (place .framebuffer) (length (now buffer)) ⌝ }
     ensures { λ r. ⌜ now (buffer .exit) ≡ clearedBy (place .framebuffer .width) (place .background)
         (countedWith (now (font .entry)) (now (text .entry)) pen) (now (buffer .entry)) ⌝ }
 {
@@ -52,12 +49,9 @@ pub fn draw_reading(
     place: Place,
     buffer: &mut [u8],
 ) -> DimensionsResult
-    requires { ⌜ Opened (now font) head × (Checked (now text) (pen .origin) (pen .«line_height») × FitsPlace
-        (length (now buffer)) place) ⌝ }
-    ensures answered { λ r. ⌜ dimensionsOutcome r ≡ countedWith (now (font .entry)) (now (text .entry)) pen ⌝ }
-    ensures shown { λ r. ⌜ now (buffer .exit) ≡ wholeOr (countedWith (now (font .entry)) (now (text .entry)) pen)
-        (drawnWith (now (font .entry)) (now (text .entry)) pen (contextOf place) (now (buffer .entry)))
-        (now (buffer .entry)) ⌝ }
+    requires { ⌜ DrawableText (now font) head (now text) pen (place .framebuffer) (length (now buffer)) ⌝ }
+    ensures { λ r. ⌜ ReadingDrawn (now (font .entry)) (now (text .entry)) pen place (now (buffer .entry)) (now (buffer .exit))
+        (dimensionsOutcome r) ⌝ }
 {
     let expected = get_drawn_dimensions(font, head, text, pen);
     let DimensionsResult::Ok(_) = expected else {

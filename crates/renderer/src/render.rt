@@ -1,15 +1,14 @@
 // Drawing a text on a framebuffer.
 ghost use mathlib.Core.Path.{_≡_};
-ghost use Prim.Native.Nat.{_≤_};
 ghost use lib.ListN.{length};
 ghost use Rattle.definitions.specs.Header.{Opened};
-ghost use Rattle.definitions.specs.TextSteps.{answerShown, step, stepShown};
+ghost use Rattle.definitions.specs.TextSteps.{answerShown};
 ghost use Rattle.definitions.specs.Font.{u8g2, drawnAnswer, pixelsOf};
 ghost use Rattle.definitions.specs.Calls.{plain, draw, drawBuffer, dimensionsOutcome};
-ghost use Rattle.answers.specs.Answers.{asAnswer, RunsChecked};
-ghost use Rattle.renderer.specs.Texts.{Fits, countedWith, drawnWith};
-ghost use Rattle.checks.specs.Origins.{Checked};
-ghost use Rattle.layout.specs.Ranges.{HasRoom};
+ghost use Rattle.answers.specs.Answers.{asAnswer};
+ghost use Rattle.renderer.specs.CharAnswers.{DrawableAnswer, DrawableChar, CharDrawn};
+ghost use Rattle.renderer.specs.Texts.{DrawableText, countedWith, TextDrawn};
+ghost use Rattle.checks.specs.Origins.{CheckedText};
 use answers::Answer;
 use answers::retrieve_answer;
 use checks::limits::has_bad_color;
@@ -53,8 +52,8 @@ fn draw_answer(
     context: Context,
     buffer: &mut [u8],
 )
-    requires { ⌜ RunsChecked (now font) head (asAnswer answer) × (HasRoom origin dimensions × Fits (length (now buffer))
-        context) ⌝ }
+    requires { ⌜ DrawableAnswer (now font) head (asAnswer answer) origin dimensions (context .framebuffer)
+        (length (now buffer)) ⌝ }
     ensures { λ r. ⌜ now (buffer .exit) ≡ answerShown (context .framebuffer .width) (context .color)
         (pixelsOf (u8g2 (now (font .entry)))) origin dimensions (asAnswer answer) (now (buffer .entry)) ⌝ }
 {
@@ -88,13 +87,9 @@ fn draw_char(
     context: Context,
     buffer: &mut [u8],
 ) -> DimensionsResult
-    requires { ⌜ Opened (now font) head × (HasRoom (pen .origin) dimensions
-        × ((pen .«line_height» ≤ 65535) × Fits (length (now buffer)) context)) ⌝ }
-    ensures counted { λ r. ⌜ dimensionsOutcome r ≡ step (drawnAnswer (u8g2 (now (font .entry))) (pen .«ignore_unknown_chars»))
-        (pen .«line_height») (pen .origin) dimensions ch ⌝ }
-    ensures shown { λ r. ⌜ now (buffer .exit) ≡ stepShown (context .framebuffer .width) (context .color)
-        (pixelsOf (u8g2 (now (font .entry)))) (drawnAnswer (u8g2 (now (font .entry))) (pen .«ignore_unknown_chars»))
-        (pen .origin) dimensions ch (now (buffer .entry)) ⌝ }
+    requires { ⌜ DrawableChar (now font) head pen dimensions (context .framebuffer) (length (now buffer)) ⌝ }
+    ensures { λ r. ⌜ CharDrawn (now (font .entry)) ch dimensions pen context (now (buffer .entry)) (now (buffer .exit))
+        (dimensionsOutcome r) ⌝ }
 {
     if ch == NEWLINE {
         return DimensionsResult::Ok(add_newline(dimensions, pen.line_height));
@@ -122,11 +117,9 @@ pub fn draw_text(
     context: Context,
     buffer: &mut [u8],
 ) -> DimensionsResult
-    requires { ⌜ Opened (now font) head × (Checked (now text) (pen .origin) (pen .«line_height») × Fits (length (now buffer))
-        context) ⌝ }
-    ensures counted { λ r. ⌜ dimensionsOutcome r ≡ countedWith (now (font .entry)) (now (text .entry)) pen ⌝ }
-    ensures shown { λ r. ⌜ now (buffer .exit) ≡ drawnWith (now (font .entry)) (now (text .entry)) pen context
-        (now (buffer .entry)) ⌝ }
+    requires { ⌜ DrawableText (now font) head (now text) pen (context .framebuffer) (length (now buffer)) ⌝ }
+    ensures { λ r. ⌜ TextDrawn (now (font .entry)) (now (text .entry)) pen context (now (buffer .entry)) (now (buffer .exit))
+        (dimensionsOutcome r) ⌝ }
 {
     let mut dimensions = RenderedDimensions {
         advance: Point { x: 0, y: 0 },
@@ -155,7 +148,7 @@ pub fn get_drawn_dimensions(
     text: &[u8],
     pen: Pen,
 ) -> DimensionsResult
-    requires { ⌜ Opened (now font) head × Checked (now text) (pen .origin) (pen .«line_height») ⌝ }
+    requires { ⌜ CheckedText (now font) head (now text) pen ⌝ }
     ensures { λ r. ⌜ dimensionsOutcome r ≡ countedWith (now (font .entry)) (now (text .entry)) pen ⌝ }
 {
     let mut pixels = [0u8; 1];

@@ -7,7 +7,7 @@ use Rattle.definitions.specs.Bits.{Read, got, ends, bits, readAt}
 use Rattle.definitions.specs.Runs.{Pixels, pixels, cut, prepend, unlessCut, runs, glyphPixels, pixelsAfter, pixelsFrom}
 use Rattle.definitions.proofs.RunsLaws.{pairPixels, NewPair, runs-reads, after-reads}
 use Rattle.runs.specs.declared.Runs.{Runs}
-use Rattle.runs.specs.RunReads.{RunsRead, Pair, isWhole, unlessEnds, onPair, inFont, pairAt, nextPair}
+use Rattle.runs.specs.RunReads.{RunsRead, Pair, Short, isWhole, unlessEnds, onPair, inFont, pairAt, nextPair}
 use Rattle.runs.proofs.PairLaws.{within, beyond}
 
 -- what a read leads to is the same by pairs and by pixels
@@ -46,6 +46,12 @@ module _ (font : List ℕ) (m0 m1 : ℕ) where
   -- What a pair that is read with zeros past the font's end gives.
   abbrev pub whole : ℕ → Runs → Bool
   whole n r = isWhole (onPair (given n) (inFont font r))
+
+-- Whether the font has so many pixels from a pair on is whether it has those that are missing from a later pair on.
+pub record CountedTo (font : List ℕ) (m0 m1 limit n : ℕ) (first : Runs) (missing : ℕ) (runs : Runs) : Type 0 where
+  pub limited : limit ≡ 8 * length font
+  pub short : Short runs
+  pub same : whole font m0 m1 n first ≡ whole font m0 m1 missing runs
 
 -- ---- whether the font has all of the runs
 

@@ -9,8 +9,8 @@ use Rattle.definitions.specs.Font.{u8g2, pixelList, pixelsOf}
 use Rattle.definitions.specs.Runs.{Pixels, pixels, cut, glyphPixels}
 use Rattle.definitions.proofs.RunsLaws.{pixel-in-pair, pixels-after-pair}
 use Rattle.runs.specs.declared.Runs.{Runs}
-use Rattle.runs.specs.RunReads.{Pair, Ends, isWhole, onPair, inFont, pairAt, nextPair}
-use Rattle.runs.specs.Stands.{Stands, StandsAt, CheckedGlyph}
+use Rattle.runs.specs.RunReads.{Pair, Ends, Short, isWhole, onPair, inFont, pairAt, nextPair}
+use Rattle.runs.specs.Stands.{Stands, StandsAt, CheckedPixel}
 use Rattle.runs.proofs.RunReadsLaws.{given, first-gives, next-gives, some-pixels}
 
 -- a pair that leads to pixels is one that the font has
@@ -48,6 +48,11 @@ module _ {font : List ℕ} {m0 m1 n : ℕ} {ps : List ℕ} {runs : Runs} {offset
         place = p .0;
       }
 
+-- Where the first pair leads to a pixel, the pair and the offset do.
+pub record Leads (font : List ℕ) (m0 m1 pixel : ℕ) (first : Runs) (offset₀ : ℕ) (runs : Runs) (offset : ℕ) : Type 0 where
+  pub short : Short runs
+  pub leads : (n : ℕ) (ps : List ℕ) → pixel < n → Stands font m0 m1 n ps first offset₀ pixel → Stands font m0 m1 n ps runs offset pixel
+
 -- ---- a glyph whose runs the font has
 
 whole : (r : Pixels) → isWhole r ≡ true → r ≡ pixels (pixelList r)
@@ -55,11 +60,11 @@ whole (pixels ps) e = refl
 whole cut e = impossible cc
 
 -- Counted from the first pair a pixel is where it is among all.
-pub stands-first : {font : List ℕ} {head : FontReader} {g : GlyphReader} {i : ℕ} {q : Runs} → CheckedGlyph font head g → i < g .«glyph_width» * g .«glyph_height»
+pub stands-first : {font : List ℕ} {head : FontReader} {g : GlyphReader} {i : ℕ} {q : Runs} → CheckedPixel font head g i
     → inFont font q ≡ pairAt font (head .m0) (head .m1) (g .«bit_pos») → StandsAt font head g q i i
-stands-first {font} {head} {g} {i} {q} c h e =
+stands-first {font} {head} {g} {i} {q} p e =
     let n = g .«glyph_width» * g .«glyph_height» in
-    let all : glyphPixels font head g ≡ pixels (pixelsOf (u8g2 font) g) = rw (← c .opened .read) (whole (glyphPixels font head g) (c .whole)) in
-    let p = had font q (given font (head .m0) (head .m1) n) (pixelsOf (u8g2 font) g)
-    (rw e (sym (some-pixels font head g (λ z. omega arith) ∙ first-gives font (head .m0) (head .m1) n (g .«bit_pos»)) ∙ all)) in
-    record { before = 0; index = omega arith; rest = rw sub-zero (p .1); place = p .0 }
+    let all : glyphPixels font head g ≡ pixels (pixelsOf (u8g2 font) g) = rw (← p .checked .opened .read) (whole (glyphPixels font head g) (p .checked .whole)) in
+    let h = had font q (given font (head .m0) (head .m1) n) (pixelsOf (u8g2 font) g)
+    (rw e (sym (some-pixels font head g (λ z. omega (arith, p .within)) ∙ first-gives font (head .m0) (head .m1) n (g .«bit_pos»)) ∙ all)) in
+    record { before = 0; index = omega arith; rest = rw sub-zero (h .1); place = h .0 }

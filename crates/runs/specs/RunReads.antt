@@ -1,7 +1,8 @@
 -- The reading of runs, pair by pair, as the code does it: each pair from the bit at which its numbers begin.
+use mathlib.Core.Path.{_≡_}
 use mathlib.Core.Bool.{Bool, true, false}
 use mathlib.Core.List.{List}
-use Prim.Native.Nat.{ℕ, _+_, _*_, _/_, _%_, _^_, _≤_}
+use Prim.Native.Nat.{ℕ, _+_, _*_, _/_, _%_, _^_, _≤_, _<_}
 use lib.Dec.{ltb, eqb}
 use lib.ListN.{length}
 use Rattle.integers.specs.Integers.{pick}
@@ -20,6 +21,11 @@ pub record Readable (font : List ℕ) (m0 m1 at : ℕ) : Type 0 where
   pub ones : m1 ≤ 8
   pub most : length font ≤ 1048576
   pub place : at ≤ 8 * length font
+
+-- the widths of a pair's numbers
+pub record Widths (m0 m1 : ℕ) : Type 0 where
+  pub zeros : m0 ≤ 8
+  pub ones : m1 ≤ 8
 
 -- the numbers of a pair are bytes
 pub record Short (runs : Runs) : Type 0 where
@@ -61,3 +67,14 @@ pairOf bits m0 m1 next = record { zeros = bits % 2 ^ m0; ones = bits / 2 ^ m0 % 
 -- A pair that is read with zeros past the font's end: it is one if the font has the bit after it.
 abbrev pub inFont : List ℕ → Runs → RunsRead
 inFont font runs = pick (ltb (runs .«bit_pos») (8 * length font)) (Pair runs) Ends
+
+-- The first pair of a glyph.
+pub record FirstPair (font : List ℕ) (m0 m1 start : ℕ) (r : Runs) : Type 0 where
+  pub read : inFont font r ≡ pairAt font m0 m1 start
+  pub short : Short r
+
+-- The pair after a pair, read further on.
+pub record PairAfter (font : List ℕ) (m0 m1 : ℕ) (runs r : Runs) : Type 0 where
+  pub read : inFont font r ≡ nextPair font m0 m1 runs
+  pub short : Short r
+  pub later : runs .«bit_pos» < r .«bit_pos»

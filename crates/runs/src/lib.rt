@@ -5,8 +5,8 @@ ghost use lib.ListN.{length, drop};
 ghost use Rattle.definitions.specs.Bits.{bits as fontBits};
 ghost use Rattle.definitions.specs.Header.{Opened};
 ghost use Rattle.definitions.specs.Runs.{runs as runPixels, glyphPixels};
-ghost use Rattle.runs.specs.RunReads.{Readable, Short, isWhole, pairOf, inFont, pairAt, nextPair};
-ghost use Rattle.runs.specs.Stands.{CheckedGlyph, StandsAt};
+ghost use Rattle.runs.specs.RunReads.{Readable, Widths, Short, isWhole, pairOf, FirstPair, PairAfter};
+ghost use Rattle.runs.specs.Stands.{CheckedPixel, PlaceOf};
 use glyph_reader::window::bytes_at;
 use types::font_reader::FontReader;
 use types::glyph_reader::GlyphReader;
@@ -31,7 +31,7 @@ impl Runs {
 
 // Both numbers of a pair, m0 and m1 bits wide: the lowest bits of `bits`.
 fn pair_of(bits: u32, m0: u8, m1: u8, bit_pos: usize) -> Runs
-    requires { ⌜ (m0 ≤ 8) × (m1 ≤ 8) ⌝ }
+    requires { ⌜ Widths m0 m1 ⌝ }
     ensures { λ r. ⌜ r ≡ pairOf bits m0 m1 «bit_pos» ⌝ }
 {
     Runs {
@@ -44,7 +44,7 @@ fn pair_of(bits: u32, m0: u8, m1: u8, bit_pos: usize) -> Runs
 // The first pair of a glyph.
 fn first_pair(font: &[u8], m0: u8, m1: u8, start: usize) -> Runs
     requires { ⌜ Readable (now font) m0 m1 start ⌝ }
-    ensures { λ r. ⌜ (inFont (now (font .entry)) r ≡ pairAt (now (font .entry)) m0 m1 start) × Short r ⌝ }
+    ensures { λ r. ⌜ FirstPair (now (font .entry)) m0 m1 start r ⌝ }
 {
     let end = start + (m0 as usize) + (m1 as usize);
     pair_of(bytes_at(font, start / 8) >> (start % 8), m0, m1, end)
@@ -54,8 +54,7 @@ fn first_pair(font: &[u8], m0: u8, m1: u8, start: usize) -> Runs
 // shifted, so that the compiler shifts only for a new pair.
 pub fn next_pair(font: &[u8], m0: u8, m1: u8, runs: Runs) -> Runs
     requires { ⌜ Readable (now font) m0 m1 (runs .«bit_pos») × Short runs ⌝ }
-    ensures { λ r. ⌜ (inFont (now (font .entry)) r ≡ nextPair (now (font .entry)) m0 m1 runs)
-        × (Short r × (runs .«bit_pos» < r .«bit_pos»)) ⌝ }
+    ensures { λ r. ⌜ PairAfter (now (font .entry)) m0 m1 runs r ⌝ }
 {
     let start = runs.bit_pos;
     let word = bytes_at(font, start / 8);
@@ -110,9 +109,8 @@ pub struct Place {
 
 // The place of a pixel of a glyph whose runs were checked: whole pairs are passed over.
 pub fn seek(font: &[u8], head: FontReader, glyph: GlyphReader, pixel: usize) -> Place
-    requires { ⌜ CheckedGlyph (now font) head glyph × (pixel < glyph .«glyph_width» * glyph .«glyph_height») ⌝ }
-    ensures { λ r. ⌜ StandsAt (now (font .entry)) head glyph (r .runs) (r .offset) pixel
-        × ((r .offset < r .runs .zeros + r .runs .ones) × Short (r .runs)) ⌝ }
+    requires { ⌜ CheckedPixel (now font) head glyph pixel ⌝ }
+    ensures { λ r. ⌜ PlaceOf (now (font .entry)) head glyph pixel r ⌝ }
 {
     let mut runs = first_pair(font, head.m0, head.m1, glyph.bit_pos);
     let mut offset = pixel;

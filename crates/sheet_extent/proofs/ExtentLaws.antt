@@ -8,7 +8,6 @@ use Rattle.definitions.specs.Vocabulary.{Framebuffer, BoundingBox, None, Some, 
 use Rattle.definitions.specs.Refusals.{Outcome, success, refused}
 use Rattle.definitions.specs.Geometry.{left, top, right, bottom, InsideBox}
 use Rattle.definitions.specs.TextSteps.{movedBox}
-use Rattle.redraw.specs.Drawing.{measured}
 use Rattle.sheet_extent.specs.declared.values.Extent.{Extent}
 use Rattle.sheet_extent.specs.declared.values.Options.{Options}
 use Rattle.redraw.specs.declared.place.Place.{Place}
@@ -19,7 +18,7 @@ use Rattle.definitions.specs.Framebuffer.{sized}
 use Rattle.definitions.specs.Calls.{placed, plain}
 use Rattle.definitions.proofs.MovedLaws.{measured-at-zero}
 use Rattle.readings.specs.Readings.{readingText, PlaceFits}
-use Rattle.sheet_extent.specs.Extent.{atOrigin, widened, withBox, withReading, extentOf, Within, HoldsReadings, NearExtent}
+use Rattle.sheet_extent.specs.Extent.{atOrigin, widened, withBox, withReading, extentOf, Within, HoldsReadings, NearEdge, NearExtent, AllMeasured}
 use Rattle.sheet_extent.specs.Extent.{beforeZero, inside, positionFor, sideOf, side, placeAt, placeFor, Uncut, OnFramebuffer, AllSeen}
 
 -- ---- between the edges
@@ -42,16 +41,13 @@ module _ (e : Extent) (r : Rectangle) where
   }
 
 -- Edges of 32 bits leave them in reach.
-abbrev Near : ℤ → Type 0
-Near z = (negsuc 8589934591 ≤ℤ z) × (z ≤ℤ pos 8589934592)
+near-first : {edge start : ℤ} → NearEdge edge → SFits w32 start → NearEdge (minZ edge start)
+near-first {edge} {start} a f = record { low = omega (zarith, min-is edge start, range f); high = omega (zarith, min-is edge start, range f) }
 
-near-first : {edge start : ℤ} → Near edge → SFits w32 start → Near (minZ edge start)
-near-first {edge} {start} a f = (omega (zarith, min-is edge start, range f), omega (zarith, min-is edge start, range f))
-
-near-last : {edge start : ℤ} {len : ℕ} → Near edge → SFits w32 start → len < 2 ^ 32 → Near (maxZ edge (start +ℤ pos len))
+near-last : {edge start : ℤ} {len : ℕ} → NearEdge edge → SFits w32 start → len < 2 ^ 32 → NearEdge (maxZ edge (start +ℤ pos len))
 near-last {edge} {start} {len} a f h =
     let m = max-is edge (start +ℤ pos len) in
-    (omega (zarith, m, plus start (pos len), range f), omega (zarith, m, plus start (pos len), range f))
+    record { low = omega (zarith, m, plus start (pos len), range f); high = omega (zarith, m, plus start (pos len), range f) }
 
 pub near-widened : (e : Extent) (r : Rectangle) → NearExtent e → SFits w32 (left r) → SFits w32 (top r) → r .size .width < 2 ^ 32 → r .size .height < 2 ^ 32
     → NearExtent (widened e r)
@@ -114,9 +110,16 @@ module _ (font : List ℕ) (v : VerticalPosition) where
   all-between (suc n) = holds-next n (extentOf font v n) (all-between n)
 
   -- as the loop goes
-  pub no-readings : (record { left = pos 0; top = pos 0; right = pos 0; bottom = pos 0 } ≡ extentOf font v 0) × NearExtent record { left = pos 0; top = pos 0; right = pos 0; bottom = pos 0 }
+  pub record MeasuredTo (k : ℕ) (e : Extent) : Type 0 where
+    pub within : k ≤ 901
+    pub edges : e ≡ extentOf font v k
+    pub near : NearExtent e
+
+  pub no-readings : MeasuredTo 0 record { left = pos 0; top = pos 0; right = pos 0; bottom = pos 0 }
   unfolding extentOf
-  no-readings = (refl, record { left = (omega zarith, omega zarith); top = (omega zarith, omega zarith); right = (omega zarith, omega zarith); bottom = (omega zarith, omega zarith) })
+  no-readings =
+      let zero : NearEdge (pos 0) = record { low = omega zarith; high = omega zarith } in
+      record { within = omega arith; edges = refl; near = record { left = zero; top = zero; right = zero; bottom = zero } }
 
   pub next-reading : (k : ℕ) {e next : Extent} → e ≡ extentOf font v k → next ≡ withReading e (atOrigin font v k) → next ≡ extentOf font v (k + 1)
   unfolding extentOf
@@ -124,10 +127,10 @@ module _ (font : List ℕ) (v : VerticalPosition) where
       let suc-is : suc k ≡ k + 1 = omega arith in
       h ∙ ap (λ (x : Extent). withReading x (atOrigin font v k)) e ∙ ap (extentOf font v) suc-is
 
-  pub all-readings : (k : ℕ) {e : Extent} → k ≡ 901 → e ≡ extentOf font v k → (e ≡ extentOf font v 901) × HoldsReadings 901 font v e
-  all-readings k {e} all h =
-      let is : e ≡ extentOf font v 901 = h ∙ ap (extentOf font v) all in
-      (is, subst (HoldsReadings 901 font v) (sym is) (all-between 901))
+  pub all-readings : {k : ℕ} {e : Extent} → k ≡ 901 → MeasuredTo k e → AllMeasured font v e
+  all-readings {k} {e} all m =
+      let is : e ≡ extentOf font v 901 = m .edges ∙ ap (extentOf font v) all in
+      record { edges = is; between = subst (HoldsReadings 901 font v) (sym is) (all-between 901); near = m .near }
 
   -- the origin is no further than the last edges
   past-box : (e : Extent) (b : BoundingBox) → (pos 0 ≤ℤ e .right) × (pos 0 ≤ℤ e .bottom) → (pos 0 ≤ℤ withBox e b .right) × (pos 0 ≤ℤ withBox e b .bottom)

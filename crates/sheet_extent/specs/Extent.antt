@@ -62,11 +62,21 @@ HoldsReadings n font v e =
     → (r : Rectangle) → d .«bounding_box» ≡ Some r → Within r e
 
 -- Edges far inside 64 bits, so that a coordinate and the margin can be added.
+pub record NearEdge (z : ℤ) : Type 0 where
+  pub low : negsuc 8589934591 ≤ℤ z
+  pub high : z ≤ℤ pos 8589934592
+
 pub record NearExtent (e : Extent) : Type 0 where
-  pub left : (negsuc 8589934591 ≤ℤ e .left) × (e .left ≤ℤ pos 8589934592)
-  pub top : (negsuc 8589934591 ≤ℤ e .top) × (e .top ≤ℤ pos 8589934592)
-  pub right : (negsuc 8589934591 ≤ℤ e .right) × (e .right ≤ℤ pos 8589934592)
-  pub bottom : (negsuc 8589934591 ≤ℤ e .bottom) × (e .bottom ≤ℤ pos 8589934592)
+  pub left : NearEdge (e .left)
+  pub top : NearEdge (e .top)
+  pub right : NearEdge (e .right)
+  pub bottom : NearEdge (e .bottom)
+
+-- The edges of all readings.
+pub record AllMeasured (font : List ℕ) (v : VerticalPosition) (e : Extent) : Type 0 where
+  pub edges : e ≡ extentOf font v 901
+  pub between : HoldsReadings 901 font v e
+  pub near : NearExtent e
 
 -- ---- place and framebuffer; the margin is 3 pixels
 

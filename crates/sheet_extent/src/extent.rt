@@ -1,9 +1,9 @@
 // The edges of all readings, and a place and a framebuffer that follow from them.
 ghost use mathlib.Core.Path.{_≡_};
-ghost use lib.IntN.{pos, negsuc, _+ℤ_};
-ghost use lib.Signed.{_≤ℤ_};
+ghost use lib.IntN.{pos, _+ℤ_};
 ghost use Rattle.integers.specs.Integers.{minZ, maxZ};
-ghost use Rattle.sheet_extent.specs.Extent.{atOrigin, widened, withReading, extentOf, HoldsReadings, NearExtent, beforeZero, inside, side};
+ghost use Rattle.sheet_extent.specs.Extent.{atOrigin, widened, withReading, NearEdge, NearExtent, AllMeasured};
+ghost use Rattle.sheet_extent.specs.Extent.{beforeZero, inside, side};
 use crate::values::Extent;
 use readings::texts::COUNT;
 use readings::texts::measure_reading;
@@ -80,9 +80,7 @@ fn with_reading(extent: Extent, font: &[u8], k: usize, vertical_pos: VerticalPos
 }
 
 pub fn measure_all(font: &[u8], vertical_pos: VerticalPosition) -> Extent
-    ensures edges { λ r. ⌜ r ≡ extentOf (now (font .entry)) «vertical_pos» 901 ⌝ }
-    ensures between { λ r. ⌜ HoldsReadings 901 (now (font .entry)) «vertical_pos» r ⌝ }
-    ensures near { λ r. ⌜ NearExtent r ⌝ }
+    ensures { λ r. ⌜ AllMeasured (now (font .entry)) «vertical_pos» r ⌝ }
 {
     let mut extent = Extent {
         left: 0,
@@ -120,7 +118,7 @@ pub fn inside(edge: i64) -> i32
 
 // How many pixels there are from the framebuffer's first to the margin past the last edge: 1 to 256.
 pub fn side(start: i32, end: i64) -> usize
-    requires { ⌜ (negsuc 8589934591 ≤ℤ end) × (end ≤ℤ pos 8589934592) ⌝ }
+    requires { ⌜ NearEdge end ⌝ }
     ensures { λ r. ⌜ r ≡ side start end ⌝ }
 {
     let n = (start as i64) + end + (MARGIN as i64);

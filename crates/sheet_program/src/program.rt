@@ -1,54 +1,22 @@
-// The sheet as a program: the font's readings are drawn and checked, the image goes into the file sheet.pgm.
-ghost use mathlib.Core.Path.{_≡_};
-ghost use Prim.Native.Nat.{_≤_};
+// The sheet as a program: the font's readings are drawn and checked, their pictures go into the file sheet.cells.
 ghost use lib.ListN.{length};
 ghost use Rattle.sheet_extent.specs.Extent.{placeFor};
-ghost use Rattle.sheet_program.specs.Sheets.{SheetFits, SheetOf};
+ghost use Rattle.sheet_program.specs.Sheets.{Buffers, LargeBuffers, SheetOf};
+use crate::cells::write_head;
 use crate::run::run;
 use crate::values::Sheet;
 use bytes::copy;
 use font_file::FontFile;
-use libc::STDOUT_FILENO;
 use readings::ground::lay_ground;
-use readings::texts::COUNT;
-use readings::values::Totals;
 use readings::values::Trial;
 use redraw::place::Place;
 use sheet_extent::place::place_for;
 use sheet_extent::values::Options;
-use sheet_image::band::columns;
+use sheet_report::print_totals;
+use sheet_report::print_verdict;
 use types::error::Error;
-use types::framebuffer::Framebuffer;
 
-fn print_number(n: usize, words: &[u8]) {
-    io::print_decimal(STDOUT_FILENO, n as u64);
-    printing::text(words);
-}
-
-fn print_totals(totals: Totals) {
-    print_number(totals.drawn, b" angles drawn, ");
-    print_number(totals.differing, b" with a difference, ");
-    print_number(totals.refused, b" refused\n");
-    if totals.refused != 0 {
-        printing::text(
-            b"a refused angle leaves the field empty; any pixel left there counts as a difference\n",
-        );
-    }
-}
-
-// The head of a PGM image of all readings, n in a row.
-fn write_head(image: i32, framebuffer: Framebuffer, n: usize)
-    requires { ⌜ (framebuffer .width ≤ 256) × ((framebuffer .height ≤ 256) × ((1 ≤ n) × (n ≤ 30))) ⌝ }
-{
-    let rows = (COUNT + n - 1) / n;
-    io::write_all(image, b"P5\n");
-    io::print_decimal(image, (n * framebuffer.width) as u64);
-    io::write_all(image, b" ");
-    io::print_decimal(image, (rows * framebuffer.height) as u64);
-    io::write_all(image, b"\n255\n");
-}
-
-// Makes the sheet on framebuffers of the place's size.
+// Makes the sheet on framebuffers of the place's size. It is made whether or not its pictures can be written.
 fn fill_sheet(
     font: &[u8],
     place: Place,
@@ -56,41 +24,33 @@ fn fill_sheet(
     ground: &mut [u8],
     screen: &mut [u8],
     alone: &mut [u8],
-    band: &mut [u8],
 ) -> Sheet
-    requires { ⌜ SheetFits (place .framebuffer) (length (now ground)) (length (now screen)) (length (now alone))
-        (length (now band)) ⌝ }
+    requires { ⌜ Buffers (place .framebuffer) (length (now ground)) (length (now screen)) (length (now alone)) ⌝ }
     ensures { λ r. ⌜ SheetOf narrow (now (font .entry)) place r ⌝ }
 {
     lay_ground(font, place, &mut ground[..]);
     copy(&ground[..], &mut screen[..]);
-    let path = b"sheet.pgm";
-    let image = os::open_overwrite(path);
-    if image < 0 {
-        os::fail(path);
-        return Sheet::NoImage;
-    }
     let framebuffer = place.framebuffer;
-    write_head(image, framebuffer, columns(ground.len()));
+    let cells = os::open_overwrite(b"sheet.cells");
+    let begun = write_head(cells, framebuffer);
     let trial = Trial { place, narrow };
-    let totals = run(font, trial, &ground[..], screen, alone, band, image);
-    libc::close(image);
-    Sheet::Made(totals)
+    let sheet = run(font, trial, &ground[..], screen, alone, cells);
+    let closed = libc::close(cells);
+    let totals = sheet.totals;
+    let written = begun & sheet.written & (closed == 0);
+    Sheet { totals, written }
 }
 
-// The same on buffers for the largest framebuffers, of 256 × 256 pixels. Of a sheet that is made, whatever the
-// font, the anchor and the place, every reading is counted once and, without the fault, none differs and a refused one leaves the
-// field empty.
+// The same on buffers for the largest framebuffers, of 256 × 256 pixels. Whatever the font, the anchor and the place, every reading
+// is counted once and, without the fault, none differs and a refused one leaves the field empty.
 pub fn make_sheet(
     font: &[u8],
     options: Options,
     ground: &mut [u8],
     screen: &mut [u8],
     alone: &mut [u8],
-    band: &mut [u8],
 ) -> Sheet
-    requires { ⌜ (length (now ground) ≡ 65536) × ((length (now screen) ≡ 65536)
-        × ((length (now alone) ≡ 65536) × (length (now band) ≡ 262000))) ⌝ }
+    requires { ⌜ LargeBuffers (length (now ground)) (length (now screen)) (length (now alone)) ⌝ }
     ensures { λ r. ⌜ SheetOf (options .narrow) (now (font .entry)) (placeFor (now (font .entry)) options) r ⌝ }
 {
     let place = place_for(font, options);
@@ -103,27 +63,18 @@ pub fn make_sheet(
         &mut ground[..cell],
         &mut screen[..cell],
         &mut alone[..cell],
-        band,
     )
 }
 
-// Makes the sheet of a font, and prints its totals.
+// Makes the sheet of a font, and prints its totals and the verdict.
 fn show_sheet(font: &[u8], options: Options) {
     let mut ground = [0u8; 65536];
     let mut screen = [0u8; 65536];
     let mut alone = [0u8; 65536];
-    let mut band = [0u8; 262000];
-    let sheet = make_sheet(
-        font,
-        options,
-        &mut ground,
-        &mut screen,
-        &mut alone,
-        &mut band,
-    );
-    if let Sheet::Made(totals) = sheet {
-        print_totals(totals);
-    }
+    let sheet = make_sheet(font, options, &mut ground, &mut screen, &mut alone);
+    let totals = sheet.totals;
+    print_totals(totals);
+    print_verdict(totals, sheet.written);
 }
 
 // The program, for the font in that file.

@@ -1,8 +1,8 @@
 // What a sheet came to. There is no code here.
-use readings::values::Totals;
+use sheet_totals::Totals;
 
-// What a sheet came to. Without its image there is none.
-pub enum Sheet {
-    Made(Totals),
-    NoImage,
+// The totals, and whether all pictures were written.
+pub struct Sheet {
+    pub totals: Totals,
+    pub written: bool,
 }

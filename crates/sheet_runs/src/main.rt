@@ -1,6 +1,7 @@
 // The sheet's stored runs. With the fault put in, one column too few filled, its output lists the angles at which an old pixel stays.
 // At a place from which the readings run off the framebuffer, to the left and above, and in a font that ends within its "5", each
-// reading with a 5 is refused after its first characters, its field stays empty, and the next one leaves no difference.
+// reading with a 5 is refused after its first characters, its field stays empty, and the next one leaves no difference. Then places
+// from which some readings are seen whole and some in part, and none at all.
 use sheet_extent::values::Options;
 use sheet_extent::values::Wanted;
 use sheet_program::program::start;
@@ -31,7 +32,22 @@ fn run_cut() {
     );
 }
 
+fn run_at(x: i32) {
+    start(
+        b"gauge.bin",
+        Options {
+            vertical_pos: VerticalPosition::Top,
+            wanted: Wanted::At(Point { x, y: 3 }),
+            narrow: false,
+        },
+    );
+}
+
 fn main() {
     run_narrow();
     run_cut();
+    printing::text(b"top at 232 3: long readings run off the framebuffer to the right\n");
+    run_at(232);
+    printing::text(b"top at 256 3: no reading is seen\n");
+    run_at(256);
 }

@@ -1,13 +1,12 @@
 // Measuring a text line by line. A line is measured from its own start, since how far it is moved is known only at its end.
 ghost use mathlib.Core.Path.{_≡_};
 ghost use Prim.Native.Nat.{_≤_};
-ghost use Rattle.definitions.specs.Header.{Opened};
 ghost use Rattle.definitions.specs.TextSteps.{start, movedBox, withLine, nextLine, lineStep, linesDimensions, measureLines};
 ghost use Rattle.definitions.specs.Font.{u8g2, measuredAnswer};
 ghost use Rattle.definitions.specs.Calls.{codePointsOf, dimensionsOutcome};
-ghost use Rattle.text_lines.specs.Lines.{asState, stateOutcome};
-ghost use Rattle.checks.specs.Origins.{Checked};
-ghost use Rattle.layout.specs.Ranges.{Near, LineInReach, LineHasRoom};
+ghost use Rattle.text_lines.specs.Lines.{asState, stateOutcome, Movable, CanAdd};
+ghost use Rattle.checks.specs.Origins.{CheckedText};
+ghost use Rattle.layout.specs.Ranges.{LineHasRoom};
 use answers::try_retrieve_glyph_data;
 use checks::origin::Pen;
 use content::text::NextChar;
@@ -47,7 +46,7 @@ fn empty_line() -> RenderedDimensions
 }
 
 fn move_box(bounding_box: BoundingBox, x: i32, y: i32) -> BoundingBox
-    requires { ⌜ LineInReach «bounding_box» × (Near x × Near y) ⌝ }
+    requires { ⌜ Movable «bounding_box» x y ⌝ }
     ensures { λ r. ⌜ r ≡ movedBox x y «bounding_box» ⌝ }
 {
     let BoundingBox::Some(rectangle) = bounding_box else {
@@ -103,7 +102,7 @@ fn add_char(
     horizontal_align: HorizontalAlignment,
     pen: Pen,
 ) -> LineResult
-    requires { ⌜ Opened (now font) head × (LineHasRoom (pen .origin) (asState state) × (pen .«line_height» ≤ 65535)) ⌝ }
+    requires { ⌜ CanAdd (now font) head state pen ⌝ }
     ensures { λ r. ⌜ stateOutcome r ≡ lineStep (measuredAnswer (u8g2 (now (font .entry))) (pen .«ignore_unknown_chars»))
         «horizontal_align» (pen .«line_height») (pen .origin) (asState state) ch ⌝ }
 {
@@ -155,7 +154,7 @@ pub fn measure_lines(
     horizontal_align: HorizontalAlignment,
     pen: Pen,
 ) -> DimensionsResult
-    requires { ⌜ Opened (now font) head × Checked (now text) (pen .origin) (pen .«line_height») ⌝ }
+    requires { ⌜ CheckedText (now font) head (now text) pen ⌝ }
     ensures { λ r. ⌜ dimensionsOutcome r ≡ measureLines (measuredAnswer (u8g2 (now (font .entry)))
         (pen .«ignore_unknown_chars»)) «horizontal_align» (pen .«line_height») (pen .origin)
         (codePointsOf (now (text .entry))) ⌝ }

@@ -4,6 +4,7 @@ use Rattle.integers.specs.Integers.{minZ, maxZ}
 use Rattle.integers.proofs.Laws.{zarith, plus, minus, min-is, max-is, castable}
 use Rattle.definitions.specs.Geometry.{spanLength, SpanInReach}
 use Rattle.definitions.proofs.JoinLaws.{end, length-nonneg}
+use Rattle.utils.specs.Spans.{SpansInReach}
 
 module _ {a : ℤ} {m : ℕ} (h : SpanInReach a m) where
   pub length-below : m < 2 ^ 31
@@ -16,10 +17,10 @@ module _ {a : ℤ} {m : ℕ} (h : SpanInReach a m) where
   pub end-stored : SFits w32 a → (toZ w32 (ofZ w32 a) +ℤ toZ w32 m) ≡ end a m
   end-stored f = let l = length-below in simp (toZ-ofZ, f, toZ-pos w32)
 
-  module _ {b : ℤ} {n : ℕ} (k : SpanInReach b n) where
-    pub length-fits : SFits w32 (maxZ (end a m) (end b n) -ℤ minZ a b)
-    length-fits =
-        omega (zarith, minus (maxZ (end a m) (end b n)) (minZ a b), max-is (end a m) (end b n), min-is a b, plus a (pos m), plus b (pos n))
+module _ {a b : ℤ} {m n : ℕ} (h : SpansInReach a b m n) where
+  pub length-fits : SFits w32 (maxZ (end a m) (end b n) -ℤ minZ a b)
+  length-fits =
+      omega (zarith, minus (maxZ (end a m) (end b n)) (minZ a b), max-is (end a m) (end b n), min-is a b, plus a (pos m), plus b (pos n))
 
-    pub length-casts : T (nonNeg (maxZ (end a m) (end b n) -ℤ minZ a b)) × Fits w32 (spanLength a b m n)
-    length-casts = castable tt length-fits (length-nonneg a b m n)
+  pub length-casts : T (nonNeg (maxZ (end a m) (end b n) -ℤ minZ a b)) × Fits w32 (spanLength a b m n)
+  length-casts = castable tt length-fits (length-nonneg a b m n)

@@ -10,7 +10,8 @@ use types::geometry::Rectangle;
 use types::geometry::Size;
 ghost use mathlib.Core.Path.{_≡_};
 ghost use Rattle.integers.specs.Integers.{minZ, maxZ};
-ghost use Rattle.definitions.specs.Geometry.{spanLength, joinRectangles, join, SpanInReach, RectangleInReach, InReach};
+ghost use Rattle.definitions.specs.Geometry.{spanLength, joinRectangles, join, RectangleInReach, InReach};
+ghost use Rattle.utils.specs.Spans.{SpansInReach};
 
 pub fn min(a: i32, b: i32) -> i32
     ensures { λ r. ⌜ r ≡ minZ a b ⌝ }
@@ -27,7 +28,7 @@ pub fn max(a: i32, b: i32) -> i32
 // The length of the smallest span over two, each a start and a length: the columns of two
 // rectangles, or their rows.
 fn span_length(start1: i32, start2: i32, length1: u32, length2: u32) -> u32
-    requires { ⌜ SpanInReach start1 length1 × SpanInReach start2 length2 ⌝ }
+    requires { ⌜ SpansInReach start1 start2 length1 length2 ⌝ }
     ensures { λ r. ⌜ r ≡ spanLength start1 start2 length1 length2 ⌝ }
 {
     let end = max(start1 + (length1 as i32), start2 + (length2 as i32));

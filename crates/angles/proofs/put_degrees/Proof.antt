@@ -1,5 +1,5 @@
 -- `put_degrees` meets its contract: `degreesThen` makes the same test. Assumes nothing.
-use Rattle.integers.proofs.Prelude.{_≡_, sym, _∙_, arith, drop, needs}
+use Rattle.integers.proofs.Prelude.{sym, _∙_, arith, drop, needs}
 use Rattle.angles.proofs.AngleLaws.{one-digit, two-digits}
 use Rattle.angles.proofs.put_degrees.Statement.{statement}
 use Rattle.angles.proofs.put_degrees.Tie as tie
@@ -10,7 +10,11 @@ returns c =
     let a = s .args in
     let p = c .before .before .before .put-before .ensures in
     let d = c .before .before .before .before .digit-of .ensures in
-    (omega (arith, p .0), (omega (arith, p .0), p .1 ∙ rw d (sym (one-digit (a .n) (drop (a .start) (a .out .now)) (c .if1 .taken)))))
+    record {
+      least = omega (arith, p .next);
+      most = omega (arith, p .next);
+      text = p .text ∙ rw d (sym (one-digit (a .n) (drop (a .start) (a .out .now)) (c .if1 .taken)));
+    }
 
 returns-2 : tie.Need-returns-2
 returns-2 c =
@@ -20,7 +24,11 @@ returns-2 c =
     let q = c .before .before .put-before2 .ensures in
     let d = c .before .before .before .before .before .before .before .before .before .digit-of .ensures in
     let e = c .before .before .before .digit-of2 .ensures in
-    (omega (arith, p .0, q .0), (omega (arith, p .0, q .0), q .1 ∙ rw (p .1, d, e) (sym (two-digits (a .n) (drop (a .start) (a .out .now)) (c .before .before .before .before .before .if1 .left)))))
+    record {
+      least = omega (arith, p .next, q .next);
+      most = omega (arith, p .next, q .next);
+      text = q .text ∙ rw (p .text, d, e) (sym (two-digits (a .n) (drop (a .start) (a .out .now)) (c .before .before .before .before .before .if1 .left)));
+    }
 
 pub put-degrees-spec : {M : Type 1} → statement M
 put-degrees-spec =

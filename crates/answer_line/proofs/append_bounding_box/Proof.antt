@@ -10,12 +10,12 @@ enum-told c = search needs
 returns : tie.Need-returns
 returns c =
     let w = c .before .before .append .ensures in
-    (omega (arith, w .ends), spelled-as (simp (c .before .before .before .before .before .enum-told .given .1)) w)
+    record { few = omega (arith, w .ends); is = spelled-as (simp (c .before .before .before .before .before .enum-told .given .1)) w }
 
 returns-2 : tie.Need-returns-2
 returns-2 c =
     let w = c .before .before .append-rectangle .ensures in
-    (w .0, spelled-as (simp (c .before .before .before .before .before .b .given .1)) (w .1))
+    record { few = w .few; is = spelled-as (simp (c .before .before .before .before .before .b .given .1)) (w .is) }
 
 pub append-bounding-box-spec : {M : Type 1} → statement M
 append-bounding-box-spec =

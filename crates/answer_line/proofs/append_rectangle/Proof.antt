@@ -10,15 +10,16 @@ returns : tie.Need-returns
 returns c =
     let r = c .before .before .before .before .before .before .before .before .before .before .before .before .before .before .before .before .before .before .before .args .r in
     let fx : SFits w32 (left r) = search needs in
-    let fy : SFits w32 (top r) = search needs in (
-      omega arith,
-      spelled-as (simp (toZ-ofZ, fx, fy))
+    let fy : SFits w32 (top r) = search needs in
+    record {
+      few = omega arith;
+      is = spelled-as (simp (toZ-ofZ, fx, fy))
           (four-words (omega arith)
-          (c .before .before .before .before .before .before .before .before .before .before .before .before .before .before .before .append-signed .ensures .1)
-          (c .before .before .before .before .before .before .before .before .before .before .append-signed2 .ensures .1)
-          (c .before .before .before .before .before .before .append-unsigned .ensures .1)
-          (c .before .before .append-unsigned2 .ensures .1)),
-    )
+          (c .before .before .before .before .before .before .before .before .before .before .before .before .before .before .before .append-signed .ensures .is)
+          (c .before .before .before .before .before .before .before .before .before .before .append-signed2 .ensures .is)
+          (c .before .before .before .before .before .before .append-unsigned .ensures .is)
+          (c .before .before .append-unsigned2 .ensures .is));
+    }
 
 pub append-rectangle-spec : {M : Type 1} → statement M
 append-rectangle-spec =

@@ -12,8 +12,8 @@ returns c =
     spelled-as (simp (number, point))
     (refusal-ends (omega arith)
     (c .before .before .before .before .before .before .before .append .ensures)
-    (c .before .before .before .before .before .append-unsigned .ensures .1)
-    (c .before .before .before .append-unsigned2 .ensures .1)
+    (c .before .before .before .before .before .append-unsigned .ensures .is)
+    (c .before .before .before .append-unsigned2 .ensures .is)
     (c .append2 .ensures))
 
 pub refusal-line-spec : {M : Type 1} → statement M

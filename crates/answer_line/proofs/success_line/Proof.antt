@@ -13,9 +13,9 @@ returns c =
     spelled-as (simp (toZ-ofZ, fx, fy))
     (success-ends (omega arith)
     (c .before .before .before .before .before .before .before .before .before .before .before .append .ensures)
-    (c .before .before .before .before .before .before .before .before .append-signed .ensures .1)
-    (c .before .before .before .before .before .append-signed2 .ensures .1)
-    (c .before .before .before .append-bounding-box .ensures .1)
+    (c .before .before .before .before .before .before .before .before .append-signed .ensures .is)
+    (c .before .before .before .before .before .append-signed2 .ensures .is)
+    (c .before .before .before .append-bounding-box .ensures .is)
     (c .append2 .ensures))
 
 pub success-line-spec : {M : Type 1} → statement M

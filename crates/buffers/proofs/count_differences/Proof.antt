@@ -1,19 +1,15 @@
 -- `count_differences` meets its contract. The loop's invariant: those counted and those among the pixels that are left are all.
 -- Assumes nothing.
-use Rattle.integers.proofs.Prelude.{_≡_, ⊎-elim, _+_, _≤_, _<_, _-_, arith, length, drop, needs}
-use Rattle.buffers.specs.Differences.{differences}
-use Rattle.buffers.proofs.DifferenceLaws.{alike, unlike, none-left}
+use Rattle.integers.proofs.Prelude.{⊎-elim, _<_, _-_, arith, length, needs}
+use Rattle.buffers.proofs.DifferenceLaws.{CountedTo, alike, unlike, none-left}
 use Rattle.buffers.proofs.count_differences.Statement.{statement}
 use Rattle.buffers.proofs.count_differences.Tie as tie
 
 abbrev Inv-loop : tie.InvT-loop
-Inv-loop a b n₀ i₀ n i = (i ≤ length a) × ((n ≤ i) × (n + differences (drop i a) (drop i b) ≡ differences a b))
+Inv-loop a b n₀ i₀ n i = CountedTo a b n i
 
 abbrev μ-loop : tie.MeasureT-loop
 μ-loop a b n₀ i₀ n i = length a - i
-
-loop-holds : tie.Need-loop-holds Inv-loop μ-loop
-loop-holds c = (omega arith, (omega arith, omega arith))
 
 loop-again : tie.Need-loop-again Inv-loop μ-loop
 loop-again c =
@@ -22,8 +18,8 @@ loop-again c =
     let s = c .before .before .before .before .before .pre in
     let h : l .i < length (a .a .now) = omega arith in
     ⊎-elim
-    (λ w. (omega arith, (omega arith, omega (arith, unlike (a .a .now) (a .b .now) s (l .i) h (w .0 .taken)))))
-    (λ w. (omega arith, (omega arith, omega (arith, alike (a .a .now) (a .b .now) s (l .i) h (w .0 .left)))))
+    (λ w. let e = unlike (a .a .now) (a .b .now) s (l .i) h (w .0 .taken) in search needs)
+    (λ w. let e = alike (a .a .now) (a .b .now) s (l .i) h (w .0 .left) in search needs)
     (c .if1 .came)
 
 returns : tie.Need-returns Inv-loop μ-loop
@@ -35,5 +31,5 @@ returns c =
 pub count-differences-spec : {M : Type 1} → statement M
 count-differences-spec =
     tie.close
-    (tie.spec Inv-loop μ-loop loop-holds (λ c. search needs) (λ c. search needs) (λ c. search needs) (λ c. search needs)
+    (tie.spec Inv-loop μ-loop (λ c. search needs) (λ c. search needs) (λ c. search needs) (λ c. search needs) (λ c. search needs)
     (λ c. search needs) loop-again returns)

@@ -30,10 +30,13 @@ abbrev area : tie.After-known-told → Rectangle
 area c = c .before .bounding-box .given .0 .0
 
 glyph-area : (c : tie.After-known-told) → GlyphArea (start c .args .glyph) (area c)
-glyph-area c = box-area (start c .args .glyph) (area c) (subst (λ (b : BoundingBox). GlyphBox (start c .args .glyph) b) (c .before .bounding-box .given .1) (start c .pre .1 .0))
+glyph-area c = box-area (start c .args .glyph) (area c) (subst (λ (b : BoundingBox). GlyphBox (start c .args .glyph) b) (c .before .bounding-box .given .1) (start c .pre .box))
 
 get-visible-part-requires : tie.Need-get-visible-part-requires
-get-visible-part-requires c κs = let g = glyph-area c in let f = start c .pre .1 .1 in ((g .left, g .top), (f .wide, f .high))
+get-visible-part-requires c κs =
+    let g = glyph-area c in
+    let f = start c .pre .window in
+    record { columns = record { near = g .left; small = f .wide }; rows = record { near = g .top; small = f .high } }
 
 part-is : (c : tie.After-get-visible-part) → let a = start (c .before) .args in c .get-visible-part .result ≡ visiblePart (area (c .before) .«top_left») (a .glyph) (a .framebuffer)
 part-is c = c .get-visible-part .ensures
@@ -47,8 +50,8 @@ returns-2 c =
     let g = glyph-area (q .before) in
     sym (ap (λ (b : BoundingBox). shown (a .framebuffer .width) (boxPicture (a .color) ps b) (a .buffer .now)) (q .before .before .bounding-box .given .1)
     ∙ ⊎-elim
-    (λ w. beside g (a .framebuffer) (part-is q) (a .buffer .now) (s .pre .1 .1) (a .color) ps (w .taken))
-    (λ w. above-or-below g (a .framebuffer) (part-is q) (a .buffer .now) (s .pre .1 .1) (a .color) ps (leb-true _ _ (w .2 .taken)))
+    (λ w. beside g (a .framebuffer) (part-is q) (a .buffer .now) (s .pre .window) (a .color) ps (w .taken))
+    (λ w. above-or-below g (a .framebuffer) (part-is q) (a .buffer .now) (s .pre .window) (a .color) ps (leb-true _ _ (w .2 .taken)))
     (c .if1 .came))
 
 -- something of the glyph is seen
@@ -70,8 +73,8 @@ draw-rows-requires c κs =
     let m = c .before in
     let q = seen m in
     let s = start (q .before) in
-    let f = subst (λ (n : ℕ). BufferFits n (s .args .framebuffer .width) (s .args .framebuffer .height)) (sym (same-size m)) (s .pre .1 .1) in
-    (s .pre .0, part-fits (glyph-area (q .before)) (s .args .framebuffer) (part-is q) f (some-columns m) (some-rows m))
+    let f = subst (λ (n : ℕ). BufferFits n (s .args .framebuffer .width) (s .args .framebuffer .height)) (sym (same-size m)) (s .pre .window) in
+    record { checked = s .pre .checked; fits = part-fits (glyph-area (q .before)) (s .args .framebuffer) (part-is q) f (some-columns m) (some-rows m) }
 
 -- what the ones are drawn on, and with
 draws : (c : tie.At-match2-came) → let q = seen c in let a = start (q .before) .args in let ps = pixelsOf (u8g2 (a .font .now)) (a .glyph) in
@@ -86,8 +89,8 @@ draws c =
     let y = rows-seen g (a .framebuffer) (part-is q) (some-rows c) in
     let b = q .before .before .bounding-box .given .1 in
     ⊎-elim
-    (λ w. draws-transparent _ _ (area (q .before)) _ x y (a .glyph) (g .width) (a .buffer .now) (s .pre .1 .1) b (w .4) (w .1 .given .1) (w .3))
-    (λ w. draws-background _ _ (area (q .before)) _ x y (a .glyph) (g .width) (a .buffer .now) (s .pre .1 .1) b (w .8) (w .1 .given .1) (w .7 ∙ w .4 .ensures))
+    (λ w. draws-transparent _ _ (area (q .before)) _ x y (a .glyph) (g .width) (a .buffer .now) (s .pre .window) b (w .4) (w .1 .given .1) (w .3))
+    (λ w. draws-background _ _ (area (q .before)) _ x y (a .glyph) (g .width) (a .buffer .now) (s .pre .window) b (w .8) (w .1 .given .1) (w .7 ∙ w .4 .ensures))
     (c .match2 .came)
 
 same-length : tie.Need-same-length

@@ -10,7 +10,7 @@ returns : tie.Need-returns
 unfolding measuringLine
 returns c =
     let w = c .result-line .ensures in
-    (counted (omega arith) w, spelled-as (ap outcomeLine (c .before .before .measured .ensures)) w)
+    record { counted = counted (omega arith) w; is = spelled-as (ap outcomeLine (c .before .before .measured .ensures)) w }
 
 pub measure-line-spec : {M : Type 1} → statement M
 measure-line-spec = tie.close (tie.spec (λ c κs. search needs) (λ c κs. search needs) returns)

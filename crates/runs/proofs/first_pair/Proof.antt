@@ -8,11 +8,11 @@ returns : tie.Need-returns
 returns c =
     let s = c .before .before .before in
     let a = s .args in
-    rw (c .pair-of .ensures) (
-      pair-is (a .font .now) (a .m0) (a .m1) (a .start / 8) (c .before .bytes-at .result) (a .start % 8) (a .start) _ (c .before .bytes-at .ensures)
-          (omega (arith, s .pre .zeros, s .pre .ones)) (omega arith) refl,
-      pair-short _ (a .m0) (a .m1) _ (s .pre .zeros) (s .pre .ones),
-    )
+    rw (c .pair-of .ensures) record {
+      read = pair-is (a .font .now) (a .m0) (a .m1) (a .start / 8) (c .before .bytes-at .result) (a .start % 8) (a .start) _ (c .before .bytes-at .ensures)
+          (omega (arith, s .pre .zeros, s .pre .ones)) (omega arith) refl;
+      short = pair-short _ (a .m0) (a .m1) _ (s .pre .zeros) (s .pre .ones);
+    }
 
 pub first-pair-spec : {M : Type 1} → statement M
 first-pair-spec =

@@ -3,14 +3,14 @@
 use Rattle.integers.proofs.Prelude.{_≡_, sym, ap, _∙_, _-_, _*_, arith, length, drop, needs}
 use Rattle.definitions.specs.Bits.{bits}
 use Rattle.definitions.specs.Runs.{runs}
-use Rattle.runs.specs.RunReads.{Short, isWhole}
-use Rattle.runs.proofs.RunReadsLaws.{whole, first-gives, whole-not, whole-last, whole-next}
+use Rattle.runs.specs.RunReads.{isWhole}
+use Rattle.runs.proofs.RunReadsLaws.{whole, CountedTo, first-gives, whole-not, whole-last, whole-next}
 use Rattle.runs.proofs.has_pixels.Statement.{statement}
 use Rattle.runs.proofs.has_pixels.Tie as tie
 
 abbrev Inv-loop : tie.InvT-loop
 Inv-loop font m0 m1 start pixels limit runs₀ missing₀ runs missing =
-    (limit ≡ 8 * length font) × (Short runs × (whole font m0 m1 missing₀ runs₀ ≡ whole font m0 m1 missing runs))
+    CountedTo font m0 m1 limit missing₀ runs₀ missing runs
 
 abbrev μ-loop : tie.MeasureT-loop
 μ-loop font m0 m1 start pixels limit runs₀ missing₀ runs missing = 8 * length font - runs .«bit_pos»
@@ -20,7 +20,7 @@ gives : (c : tie.At-loop Inv-loop μ-loop) → let a = c .before .before .before
     isWhole (runs (a .m0) (a .m1) (a .pixels) (drop (a .start) (bits (a .font .now)))) ≡ whole (a .font .now) (a .m0) (a .m1) (c .loop .missing) (c .loop .runs)
 gives c =
     let a = c .before .before .before .args in
-    ap isWhole (first-gives (a .font .now) (a .m0) (a .m1) (a .pixels) (a .start)) ∙ rw (sym (c .before .first-pair .ensures .0)) (c .loop .inv .1 .1)
+    ap isWhole (first-gives (a .font .now) (a .m0) (a .m1) (a .pixels) (a .start)) ∙ rw (sym (c .before .first-pair .ensures .read)) (c .loop .inv .same)
 
 returns : tie.Need-returns Inv-loop μ-loop
 returns c =
@@ -32,14 +32,13 @@ loop-again : tie.Need-loop-again Inv-loop μ-loop
 loop-again c =
     let a = c .before .before .before .before .before .before .before .before .before .args in
     let l = c .before .before .before .before .before .before .loop in
-    let next = c .next-pair .ensures in (
-      l .inv .0,
-      (
-        next .1 .0,
-        l .inv .1 .1
-            ∙ rw (c .before .count2 .ensures) (whole-next (a .font .now) (a .m0) (a .m1) (l .missing) (l .runs) (omega arith) _ (omega arith) (next .0)),
-      ),
-    )
+    let next = c .next-pair .ensures in
+    record {
+      limited = l .inv .limited;
+      short = next .short;
+      same = l .inv .same
+          ∙ rw (c .before .count2 .ensures) (whole-next (a .font .now) (a .m0) (a .m1) (l .missing) (l .runs) (omega arith) _ (omega arith) (next .read));
+    }
 
 returns-2 : tie.Need-returns-2 Inv-loop μ-loop
 returns-2 c =

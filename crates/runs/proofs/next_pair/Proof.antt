@@ -8,10 +8,12 @@ returns : tie.Need-returns
 returns c =
     let s = c .before .before .before in
     let a = s .args in
-    let at = a .runs .«bit_pos» in (
-      again-is (a .font .now) (a .m0) (a .m1) (a .runs) (at / 8) (c .before .bytes-at .result) (at % 8) (c .before .bytes-at .ensures) (omega arith) (omega arith) (c .if1 .taken),
-      (record { zeros = s .pre .1 .zeros; ones = s .pre .1 .ones }, omega arith),
-    )
+    let at = a .runs .«bit_pos» in
+    record {
+      read = again-is (a .font .now) (a .m0) (a .m1) (a .runs) (at / 8) (c .before .bytes-at .result) (at % 8) (c .before .bytes-at .ensures) (omega arith) (omega arith) (c .if1 .taken);
+      short = search needs;
+      later = omega arith;
+    }
 
 returns-2 : tie.Need-returns-2
 returns-2 c =
@@ -20,10 +22,11 @@ returns-2 c =
     let p = s .pre .0 in
     let at = a .runs .«bit_pos» in
     let word = c .before .before .bytes-at in
-    rw (c .pair-of .ensures) (
-      new-is (a .font .now) (a .m0) (a .m1) (a .runs) (at / 8) (word .result) (at % 8) (word .ensures) (omega arith) (omega arith) _ (c .before .if1 .left) (p .zeros) (p .ones) refl,
-      (pair-short _ (a .m0) (a .m1) _ (p .zeros) (p .ones), omega arith),
-    )
+    rw (c .pair-of .ensures) record {
+      read = new-is (a .font .now) (a .m0) (a .m1) (a .runs) (at / 8) (word .result) (at % 8) (word .ensures) (omega arith) (omega arith) _ (c .before .if1 .left) (p .zeros) (p .ones) refl;
+      short = pair-short _ (a .m0) (a .m1) _ (p .zeros) (p .ones);
+      later = omega arith;
+    }
 
 pub next-pair-spec : {M : Type 1} → statement M
 next-pair-spec =

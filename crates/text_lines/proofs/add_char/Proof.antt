@@ -13,7 +13,7 @@ returns : tie.Need-returns
 returns c = simp (c .add-newline .ensures, eq-eqb _ _ (c .before .before .if1 .taken))
 
 add-answer-requires : tie.Need-add-answer-requires
-add-answer-requires c κs = answer-room (c .before .before .before .before .pre .1 .0)
+add-answer-requires c κs = answer-room (c .before .before .before .before .pre .room)
 
 -- the letter is added to the line
 module _ (c : tie.After-add-answer) where
@@ -34,7 +34,7 @@ returns-3 : tie.Need-returns-3
 returns-3 c =
     let k = c .before .before .before .before in
     let e = sym (added k) ∙ ap dimensionsOutcome (c .before .before .line .given .1) in
-    simp (ne-eqb _ _ (k .before .before .before .if1 .left), e, toZ-ofZ, near-fits (entry k .pre .1 .0 .y))
+    simp (ne-eqb _ _ (k .before .before .before .if1 .left), e, toZ-ofZ, near-fits (entry k .pre .room .y))
 
 pub add-char-spec : {M : Type 1} → statement M
 add-char-spec =

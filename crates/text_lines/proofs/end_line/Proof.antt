@@ -70,7 +70,7 @@ move-box-requires c κs =
     let k = c .before .before .before .before .before .before in
     let s = entry k in
     simp (offset-is k, toZ-ofZ, origin-x s, origin-y s, advance-y s)
-    (simp (toZ-ofZ, column-fits s, row-fits s) (s .pre .line, (column-near (s .pre) (s .args .horizontal-align), s .pre .row)))
+    (simp (toZ-ofZ, column-fits s, row-fits s) record { box = s .pre .line; right = column-near (s .pre) (s .args .horizontal-align); down = s .pre .row })
 
 combine-bounding-boxes-requires : tie.Need-combine-bounding-boxes-requires
 combine-bounding-boxes-requires c κs =

@@ -36,7 +36,7 @@ here : (c : tie.After-known-told3 Inv-loop μ-loop)
 here c = position _ _ (first (c .before .before .before .before))
 
 loop-holds : tie.Need-loop-holds Inv-loop μ-loop
-loop-holds c = simp (c .empty-line .ensures) (aligned-start (c .before .before .before .pre .1))
+loop-holds c = simp (c .empty-line .ensures) (aligned-start (c .before .before .before .pre .checked))
 
 enum-told : tie.Need-enum-told Inv-loop μ-loop
 enum-told c = search needs
@@ -51,19 +51,19 @@ add-char-requires : tie.Need-add-char-requires Inv-loop μ-loop
 add-char-requires c κs =
     let l = c .before .before .before .before .before in
     let s = l .before .before .before .before in
-    (s .pre .0, (aligned-room (s .pre .1) (l .loop .inv), s .pre .1 .line))
+    record { opened = s .pre .opened; room = aligned-room (s .pre .checked) (l .loop .inv); line = s .pre .checked .line }
 
 returns-2 : tie.Need-returns-2 Inv-loop μ-loop
 returns-2 c =
     let k = c .before .before .before .before in
     let l = k .before .before .before .before .before in
-    aligned-stops (l .before .before .before .before .pre .1) (l .loop .inv) (first k)
+    aligned-stops (l .before .before .before .before .pre .checked) (l .loop .inv) (first k)
     (sym (c .before .before .before .add-char .ensures) ∙ ap stateOutcome (c .before .added .given .1))
 
 add-at : tie.Need-add-at Inv-loop μ-loop
 add-at c =
     let p = here c in
-    omega (arith, c .before .before .before .before .before .before .before .before .before .before .before .before .before .pre .1 .short)
+    omega (arith, c .before .before .before .before .before .before .before .before .before .before .before .before .before .pre .checked .short)
 
 loop-less : tie.Need-loop-less Inv-loop μ-loop
 loop-less c = let p = here c in omega arith
@@ -73,17 +73,17 @@ loop-again c =
     let k = c .before .before .before .before in
     let l = k .before .before .before .before .before in
     let s = l .before .before .before .before in
-    aligned-next (s .pre .1) (l .loop .inv) (first k) (measured-small (s .pre .0) _)
+    aligned-next (s .pre .checked) (l .loop .inv) (first k) (measured-small (s .pre .opened) _)
     (sym (c .before .before .before .add-char .ensures) ∙ ap stateOutcome (c .before .added2 .given .1))
 
 end-text-requires : tie.Need-end-text-requires Inv-loop μ-loop
-end-text-requires c κs = let l = c .before .before in aligned-room (l .before .before .before .before .pre .1) (l .loop .inv)
+end-text-requires c κs = let l = c .before .before in aligned-room (l .before .before .before .before .pre .checked) (l .loop .inv)
 
 returns-3 : tie.Need-returns-3 Inv-loop μ-loop
 returns-3 c =
     let l = c .before .before .before in
     ap success (c .end-text .ensures)
-    ∙ aligned-end (l .before .before .before .before .pre .1) (l .loop .inv) (c .before .before .loop-test .left)
+    ∙ aligned-end (l .before .before .before .before .pre .checked) (l .loop .inv) (c .before .before .loop-test .left)
 
 pub measure-lines-spec : {M : Type 1} → statement M
 measure-lines-spec =

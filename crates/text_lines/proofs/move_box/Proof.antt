@@ -15,19 +15,19 @@ module _ (c : tie.After-known-told) where
   box = c .before .bounding-box .given .0 .0
 
   in-reach : LineRectangle box
-  in-reach = simp (c .before .bounding-box .given .1) at (entry .pre .0)
+  in-reach = simp (c .before .bounding-box .given .1) at (entry .pre .box)
 
 add-t7 : tie.Need-add-t7
 add-t7 c =
     let k = c .before .before .before .before in
     let s = entry k in
-    simp (toZ-ofZ, s .fits .x, start-fits (in-reach k .columns)) (moved-fits (s .pre .1 .0) (in-reach k .columns))
+    simp (toZ-ofZ, s .fits .x, start-fits (in-reach k .columns)) (moved-fits (s .pre .right) (in-reach k .columns))
 
 add-t8 : tie.Need-add-t8
 add-t8 c =
     let k = c .before .before .before .before .before .before in
     let s = entry k in
-    simp (toZ-ofZ, s .fits .y, start-fits (in-reach k .rows)) (moved-fits (s .pre .1 .1) (in-reach k .rows))
+    simp (toZ-ofZ, s .fits .y, start-fits (in-reach k .rows)) (moved-fits (s .pre .down) (in-reach k .rows))
 
 returns-2 : tie.Need-returns-2
 returns-2 c =
@@ -35,7 +35,7 @@ returns-2 c =
     let s = entry k in
     simp (k .before .bounding-box .given .1)
     (simp
-    (toZ-ofZ, s .fits .x, s .fits .y, start-fits (in-reach k .columns), start-fits (in-reach k .rows), moved-fits (s .pre .1 .0) (in-reach k .columns), moved-fits (s .pre .1 .1) (in-reach k .rows)))
+    (toZ-ofZ, s .fits .x, s .fits .y, start-fits (in-reach k .columns), start-fits (in-reach k .rows), moved-fits (s .pre .right) (in-reach k .columns), moved-fits (s .pre .down) (in-reach k .rows)))
 
 pub move-box-spec : {M : Type 1} → statement M
 move-box-spec =

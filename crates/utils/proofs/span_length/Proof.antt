@@ -12,7 +12,7 @@ abbrev difference : tie.Start → ℤ
 difference s = maxZ (end (s .args .start1) (s .args .length1)) (end (s .args .start2) (s .args .length2)) -ℤ minZ (s .args .start1) (s .args .start2)
 
 fits : (s : tie.Start) → SFits w32 (difference s)
-fits s = length-fits (s .pre .0) (s .pre .1)
+fits s = length-fits (s .pre)
 
 subtracted : (c : tie.After-min) → (toZ w32 (ofZ w32 (c .before .max .result)) -ℤ toZ w32 (ofZ w32 (c .min .result))) ≡ difference (c .before .before)
 subtracted c =
@@ -20,20 +20,20 @@ subtracted c =
     let f : SFits w32 (c .before .max .result) = record { sfits = c .before .max .ok } in
     let g : SFits w32 (c .min .result) = record { sfits = c .min .ok } in
     simp (toZ-ofZ, f, g)
-    (simp (c .before .max .ensures, c .min .ensures, end-stored (s .pre .0) (s .fits .start1), end-stored (s .pre .1) (s .fits .start2))
-    (simp (toZ-ofZ, s .fits .start1, s .fits .start2, end-fits (s .pre .0), end-fits (s .pre .1))))
+    (simp (c .before .max .ensures, c .min .ensures, end-stored (s .pre .first) (s .fits .start1), end-stored (s .pre .second) (s .fits .start2))
+    (simp (toZ-ofZ, s .fits .start1, s .fits .start2, end-fits (s .pre .first), end-fits (s .pre .second))))
 
 cast-max : tie.Need-cast-max
-cast-max c = let l = length-below (c .pre .0) in search needs
+cast-max c = let l = length-below (c .pre .first) in search needs
 
 add-max : tie.Need-add-max
-add-max c = simp (end-stored (c .pre .0) (c .fits .start1)) (end-fits (c .pre .0))
+add-max c = simp (end-stored (c .pre .first) (c .fits .start1)) (end-fits (c .pre .first))
 
 cast-max-2 : tie.Need-cast-max-2
-cast-max-2 c = let l = length-below (c .pre .1) in search needs
+cast-max-2 c = let l = length-below (c .pre .second) in search needs
 
 add-max-2 : tie.Need-add-max-2
-add-max-2 c = simp (end-stored (c .pre .1) (c .fits .start2)) (end-fits (c .pre .1))
+add-max-2 c = simp (end-stored (c .pre .second) (c .fits .start2)) (end-fits (c .pre .second))
 
 sub-result : tie.Need-sub-result
 sub-result c = simp (subtracted c) (fits (c .before .before))
@@ -41,7 +41,7 @@ sub-result c = simp (subtracted c) (fits (c .before .before))
 cast-result : tie.Need-cast-result
 cast-result c =
     let s = c .before .before in
-    simp (subtracted c, toZ-ofZ, fits s) (length-casts (s .pre .0) (s .pre .1))
+    simp (subtracted c, toZ-ofZ, fits s) (length-casts (s .pre))
 
 returns : tie.Need-returns
 returns c = simp (subtracted c, toZ-ofZ, fits (c .before .before))

@@ -1,14 +1,18 @@
 -- `text::is_utf8` meets its contract. The loop keeps that the whole text decodes exactly if the bytes from `at` on do; each
 -- character that is read moves `at` over its bytes (`position`). Assumes nothing.
-use Rattle.integers.proofs.Prelude.{_≡_, refl, sym, ap, _∙_, _-_, _≤_, arith, length, drop, needs}
+use Rattle.integers.proofs.Prelude.{_≡_, refl, sym, ap, _∙_, List, ℕ, _-_, _≤_, arith, length, drop, needs}
 use Rattle.definitions.specs.Utf8.{decode, isUtf8}
 use Rattle.definitions.proofs.Utf8Laws.{Position, position, not-utf8, at-end, utf8-next}
 use Rattle.content.specs.Text.{asCharacter}
 use Rattle.content.proofs.text.is_utf8.Statement.{statement}
 use Rattle.content.proofs.text.is_utf8.Tie as tie
 
+record ReadTo (text : List ℕ) (at : ℕ) : Type 0 where
+  within : at ≤ length text
+  same : isUtf8 (decode text) ≡ isUtf8 (decode (drop at text))
+
 abbrev Inv-loop : tie.InvT-loop
-Inv-loop text at₀ at = (at ≤ length text) × (isUtf8 (decode text) ≡ isUtf8 (decode (drop at text)))
+Inv-loop text at₀ at = ReadTo text at
 
 abbrev μ-loop : tie.MeasureT-loop
 μ-loop text at₀ at = length text - at
@@ -20,7 +24,7 @@ here : (c : tie.After-known-told Inv-loop μ-loop)
 here c = position _ _ (sym (c .before .before .before .next-char .ensures) ∙ ap asCharacter (c .before .next .given .1))
 
 loop-holds : tie.Need-loop-holds Inv-loop μ-loop
-loop-holds c = (omega arith, refl)
+loop-holds c = record { within = omega arith; same = refl }
 
 enum-told : tie.Need-enum-told Inv-loop μ-loop
 enum-told c = search needs
@@ -28,7 +32,7 @@ enum-told c = search needs
 returns : tie.Need-returns Inv-loop μ-loop
 returns c =
     let l = c .before .before .before .before .loop in
-    sym (l .inv .1 ∙ ap isUtf8 (not-utf8 _ (l .at) (c .before .before .before .loop-test .taken) (sym (c .before .before .next-char .ensures) ∙ ap asCharacter (c .enum-told .given .1))))
+    sym (l .inv .same ∙ ap isUtf8 (not-utf8 _ (l .at) (c .before .before .before .loop-test .taken) (sym (c .before .before .next-char .ensures) ∙ ap asCharacter (c .enum-told .given .1))))
 
 add-at : tie.Need-add-at Inv-loop μ-loop
 add-at c = let p = here c in omega arith
@@ -37,12 +41,12 @@ loop-less : tie.Need-loop-less Inv-loop μ-loop
 loop-less c = let p = here c in omega arith
 
 loop-again : tie.Need-loop-again Inv-loop μ-loop
-loop-again c = let p = here c in (p .within, c .before .before .before .before .before .loop .inv .1 ∙ utf8-next _ _ p)
+loop-again c = let p = here c in record { within = p .within; same = c .before .before .before .before .before .loop .inv .same ∙ utf8-next _ _ p }
 
 returns-2 : tie.Need-returns-2 Inv-loop μ-loop
 returns-2 c =
     let l = c .before .loop in
-    sym (l .inv .1 ∙ ap isUtf8 (at-end _ (l .at) (c .loop-test .left)))
+    sym (l .inv .same ∙ ap isUtf8 (at-end _ (l .at) (c .loop-test .left)))
 
 pub is-utf8-spec : {M : Type 1} → statement M
 is-utf8-spec =

@@ -9,10 +9,10 @@ returns c =
     let head =
     four-pieces (omega arith)
     (c .before .before .before .before .before .before .before .append .ensures)
-    (c .before .before .before .before .before .append-unsigned .ensures .1)
-    (c .before .before .before .append-unsigned2 .ensures .1)
+    (c .before .before .before .before .before .append-unsigned .ensures .is)
+    (c .before .before .before .append-unsigned2 .ensures .is)
     (c .append2 .ensures) in
-    (counted (omega arith) head, head)
+    record { counted = counted (omega arith) head; is = head }
 
 pub write-head-spec : {M : Type 1} → statement M
 write-head-spec =

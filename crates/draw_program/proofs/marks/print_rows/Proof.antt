@@ -12,13 +12,13 @@ abbrev μ-loop : tie.MeasureT-loop
 μ-loop pixels width height y₀ y = height - y
 
 mul-start : tie.Need-mul-start Inv-loop μ-loop
-mul-start c = let s = c .before .before .before in omega (arith, row-within (s .args .width) (s .args .height) (c .before .loop .y) (c .loop-test .taken), area-most (s .pre .0) (s .pre .1 .0))
+mul-start c = let s = c .before .before .before in omega (arith, row-within (s .args .width) (s .args .height) (c .before .loop .y) (c .loop-test .taken), area-most (s .pre .wide) (s .pre .high))
 
 add-end : tie.Need-add-end Inv-loop μ-loop
-add-end c = let s = c .before .before .before in omega (arith, row-within (s .args .width) (s .args .height) (c .before .loop .y) (c .loop-test .taken), area-most (s .pre .0) (s .pre .1 .0))
+add-end c = let s = c .before .before .before in omega (arith, row-within (s .args .width) (s .args .height) (c .before .loop .y) (c .loop-test .taken), area-most (s .pre .wide) (s .pre .high))
 
 part-print-row-end : tie.Need-part-print-row-end Inv-loop μ-loop
-part-print-row-end c = let s = c .before .before .before in omega (arith, row-within (s .args .width) (s .args .height) (c .before .loop .y) (c .loop-test .taken), s .pre .1 .1)
+part-print-row-end c = let s = c .before .before .before in omega (arith, row-within (s .args .width) (s .args .height) (c .before .loop .y) (c .loop-test .taken), s .pre .area)
 
 pub print-rows-spec : {M : Type 1} → statement M
 print-rows-spec =

@@ -1,22 +1,21 @@
 -- `with_word` meets its contract: WordsLaws.antt has what the comparisons decide. Assumes nothing.
 use Rattle.integers.proofs.Prelude.{_∙_, needs}
 use Rattle.draw_program.proofs.WordsLaws.{same-is}
-use Rattle.draw_program.specs.Words.{pgm, background}
 use Rattle.draw_program.proofs.options.with_word.Statement.{statement}
 use Rattle.draw_program.proofs.options.with_word.Tie as tie
 
 returns : tie.Need-returns
 returns c =
     let first = c .before .is-same in
-    rw (same-is _ pgm (first .result) (first .ensures .0) (first .ensures .1) ∙ c .if1 .taken)
+    rw (same-is (first .ensures) ∙ c .if1 .taken)
 
 returns-2 : tie.Need-returns-2
 returns-2 c =
     let first = c .before .before .before .before .is-same in
     let second = c .before .is-same2 in
     rw (
-      same-is _ pgm (first .result) (first .ensures .0) (first .ensures .1) ∙ c .before .before .before .if1 .left,
-      same-is _ background (second .result) (second .ensures .0) (second .ensures .1) ∙ c .if2 .taken,
+      same-is (first .ensures) ∙ c .before .before .before .if1 .left,
+      same-is (second .ensures) ∙ c .if2 .taken,
     )
 
 returns-3 : tie.Need-returns-3
@@ -24,8 +23,8 @@ returns-3 c =
     let first = c .before .before .before .before .is-same in
     let second = c .before .is-same2 in
     rw (
-      same-is _ pgm (first .result) (first .ensures .0) (first .ensures .1) ∙ c .before .before .before .if1 .left,
-      same-is _ background (second .result) (second .ensures .0) (second .ensures .1) ∙ c .if2 .left,
+      same-is (first .ensures) ∙ c .before .before .before .if1 .left,
+      same-is (second .ensures) ∙ c .if2 .left,
     )
 
 pub with-word-spec : {M : Type 1} → statement M

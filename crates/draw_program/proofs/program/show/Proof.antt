@@ -7,8 +7,7 @@ use Rattle.draw_program.proofs.program.show.Tie as tie
 show-drawn-requires : tie.Need-show-drawn-requires
 show-drawn-requires c κs =
     let s = c .before .before .before .before in
-    let h = subst Showable (c .before .drawing4 .given .1) (s .pre .0) in
-    (h .0, (h .1, s .pre .1))
+    (subst Showable (c .before .drawing4 .given .1) (s .pre .0), s .pre .1)
 
 pub show-spec : {M : Type 1} → statement M
 show-spec =

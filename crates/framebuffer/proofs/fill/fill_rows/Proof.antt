@@ -1,14 +1,12 @@
 -- The invariant: the rows above `row` are filled; FillLaws has the step to the next. Assumes nothing.
-use Rattle.integers.proofs.Prelude.{_≡_, sym, _∙_, _+_, _-_, _*_, _≤_, mul-le-mul-right, arith, length, needs}
-use Rattle.framebuffer.proofs.FillLaws.{filledTo, no-row, next-row}
+use Rattle.integers.proofs.Prelude.{_≡_, refl, sym, _∙_, _+_, _-_, _*_, _≤_, mul-le-mul-right, arith, length, needs}
+use Rattle.framebuffer.proofs.FillLaws.{RowsFilled, no-row, next-row}
 use Rattle.framebuffer.proofs.fill.fill_rows.Statement.{statement}
 use Rattle.framebuffer.proofs.fill.fill_rows.Tie as tie
 
 abbrev Inv-loop : tie.InvT-loop
 Inv-loop left right top bottom color framebuffer buffer₀ row₀ buffer row =
-    (top ≤ row)
-    × ((row ≤ bottom)
-    × ((length buffer ≡ length buffer₀) × ((some : 1 ≤ framebuffer .width) → buffer ≡ filledTo some color left right top buffer₀ row)))
+    RowsFilled (framebuffer .width) color left right top bottom buffer₀ buffer row
 
 abbrev μ-loop : tie.MeasureT-loop
 μ-loop left right top bottom color framebuffer buffer₀ row₀ buffer row = bottom - row
@@ -16,8 +14,12 @@ abbrev μ-loop : tie.MeasureT-loop
 loop-holds : tie.Need-loop-holds Inv-loop μ-loop
 loop-holds c =
     let a = c .before .args in
-    let p = c .before .pre in
-    (omega arith, (omega (arith, p .rows), (omega arith, λ some. sym (no-row some (a .color) (a .left) (a .right) (a .top) (a .buffer .now)))))
+    record {
+      begun = omega arith;
+      within = omega (arith, c .before .pre .rows);
+      long = refl;
+      filled = λ some. sym (no-row some (a .color) (a .left) (a .right) (a .top) (a .buffer .now));
+    }
 
 -- the row lies on the framebuffer
 row-in : (c : tie.In-loop Inv-loop μ-loop) → let a = c .before .before .before .args in
@@ -45,7 +47,7 @@ add-end c = let p = c .before .before .before .before .pre in omega (arith, smal
 part-fill-end : tie.Need-part-fill-end Inv-loop μ-loop
 part-fill-end c =
     let p = c .before .before .before .before .pre in
-    omega (arith, row-in (c .before), p .columns, p .within, c .before .before .loop .inv .1 .1 .0)
+    omega (arith, row-in (c .before), p .columns, p .within, c .before .before .loop .inv .long)
 
 loop-again : tie.Need-loop-again Inv-loop μ-loop
 loop-again c =
@@ -54,24 +56,21 @@ loop-again c =
     let a = s .args in
     let l = i .before .loop in
     let at = l .row * a .framebuffer .width + a .left in
-    let n : at + (a .right - a .left) - at ≡ a .right - a .left = omega arith in (
-      omega arith,
-      (
-        omega arith,
-        (
-          c .before .buffer .given .1 ∙ l .inv .1 .1 .0,
-          λ some. next-row some (a .color) (a .left) (a .right) (a .top) (a .buffer .now) (l .row) (s .pre .columns) (l .inv .0) (s .pre .within) (row-in i) _ n
-              (l .inv .1 .1 .1 some) (c .before .before .fill .ensures),
-        ),
-      ),
-    )
+    let n : at + (a .right - a .left) - at ≡ a .right - a .left = omega arith in
+    record {
+      begun = omega arith;
+      within = omega arith;
+      long = c .before .buffer .given .1 ∙ l .inv .long;
+      filled = λ some. next-row some (a .color) (a .left) (a .right) (a .top) (a .buffer .now) (l .row) (s .pre .columns) (l .inv .begun) (s .pre .within) (row-in i) _ n
+          (l .inv .filled some) (c .before .before .fill .ensures);
+    }
 
 returns : tie.Need-returns Inv-loop μ-loop
 returns c =
     let s = c .before .before .before in
     let l = c .before .loop in
     let e : l .row ≡ s .args .bottom = omega arith in
-    l .inv .1 .1 .1 (s .pre .some) ∙ rw e
+    l .inv .filled (s .pre .some) ∙ rw e
 
 pub fill-rows-spec : {M : Type 1} → statement M
 fill-rows-spec =

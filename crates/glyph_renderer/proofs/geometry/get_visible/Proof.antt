@@ -20,13 +20,13 @@ cast-clamp : tie.Need-cast-clamp
 cast-clamp c = simp (toZ-ofZ, c .fits .start) (wide c)
 
 sub-clamp : tie.Need-sub-clamp
-sub-clamp c = rw (above-is c) (difference-fits 0 (c .args .start) (omega arith) (c .pre .0))
+sub-clamp c = rw (above-is c) (difference-fits 0 (c .args .start) (omega arith) (c .pre .near))
 
 cast-clamp-3 : tie.Need-cast-clamp-3
 cast-clamp-3 c = cast-clamp (c .before)
 
 sub-clamp-2 : tie.Need-sub-clamp-2
-sub-clamp-2 c = let s = c .before in rw (below-is s) (difference-fits (s .args .limit) (s .args .start) (s .pre .1) (s .pre .0))
+sub-clamp-2 c = let s = c .before in rw (below-is s) (difference-fits (s .args .limit) (s .args .start) (s .pre .small) (s .pre .near))
 
 returns : tie.Need-returns
 returns c =

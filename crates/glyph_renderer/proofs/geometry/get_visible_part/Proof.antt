@@ -8,8 +8,8 @@ returns : tie.Need-returns
 returns c =
     let d = c .before .before .before .before in
     let s = d .before .before .before .before in
-    let x = near-fits (s .pre .0 .0) in
-    let y = near-fits (s .pre .0 .1) in
+    let x = near-fits (s .pre .columns .near) in
+    let y = near-fits (s .pre .rows .near) in
     simp (d .before .before .get-visible .ensures, d .get-visible2 .ensures, c .before .before .clamp-start .ensures, c .clamp-start2 .ensures, toZ-ofZ)
 
 pub get-visible-part-spec : {M : Type 1} → statement M

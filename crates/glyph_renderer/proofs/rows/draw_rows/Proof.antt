@@ -13,25 +13,25 @@ use Rattle.glyph_renderer.proofs.rows.draw_rows.Statement.{statement}
 use Rattle.glyph_renderer.proofs.rows.draw_rows.Tie as tie
 
 -- from one state to another, whatever the glyph's pixels and the framebuffer at the call
-abbrev Leads : List ℕ → FontReader → VisiblePart → ℕ → Framebuffer → ℕ → List ℕ → Runs → (from to line left : ℕ)
-    → List ℕ → Runs → (from to line left : ℕ) → Type 0
-Leads font head part value framebuffer wide buffer₀ runs₀ from₀ to₀ line₀ left₀ buffer runs from to line left =
-    (n : ℕ) (ps entry : List ℕ)
-    → Lies (onesOf ps wide part value) n (framebuffer .width) entry
-    → At font (head .m0) (head .m1) n (onesOf ps wide part value) (framebuffer .width) entry buffer₀ runs₀ from₀ to₀ line₀ left₀
-    → At font (head .m0) (head .m1) n (onesOf ps wide part value) (framebuffer .width) entry buffer runs from to line left
+record Leads (font : List ℕ) (head : FontReader) (part : VisiblePart) (value : ℕ) (framebuffer : Framebuffer) (wide : ℕ) (buffer₀ : List ℕ) (runs₀ : Runs)
+    (from₀ to₀ line₀ left₀ : ℕ) (buffer : List ℕ) (runs : Runs) (from to line left : ℕ) : Type 0 where
+  short : Short runs
+  long : length buffer ≡ length buffer₀
+  leads : (n : ℕ) (ps entry : List ℕ)
+      → Lies (onesOf ps wide part value) n (framebuffer .width) entry
+      → At font (head .m0) (head .m1) n (onesOf ps wide part value) (framebuffer .width) entry buffer₀ runs₀ from₀ to₀ line₀ left₀
+      → At font (head .m0) (head .m1) n (onesOf ps wide part value) (framebuffer .width) entry buffer runs from to line left
 
 abbrev Inv-loop : tie.InvT-loop
 Inv-loop font head part value framebuffer buffer₀ glyph-width visible runs from₀ to₀ line₀ left₀ buffer from to line left =
-    (length buffer ≡ length buffer₀) × Leads font head part value framebuffer glyph-width buffer₀ runs from₀ to₀ line₀ left₀ buffer runs from to line left
+    Leads font head part value framebuffer glyph-width buffer₀ runs from₀ to₀ line₀ left₀ buffer runs from to line left
 
 abbrev μ-loop : tie.MeasureT-loop
 μ-loop font head part value framebuffer buffer₀ glyph-width visible runs from₀ to₀ line₀ left₀ buffer from to line left = to
 
 abbrev Inv-pairs : tie.InvT-pairs
 Inv-pairs font head part value framebuffer buffer₀ glyph-width visible runs₀ from₀ to₀ line₀ left₀ buffer runs from to line left =
-    Short runs
-    × ((length buffer ≡ length buffer₀) × Leads font head part value framebuffer glyph-width buffer₀ runs₀ from₀ to₀ line₀ left₀ buffer runs from to line left)
+    Leads font head part value framebuffer glyph-width buffer₀ runs₀ from₀ to₀ line₀ left₀ buffer runs from to line left
 
 abbrev μ-pairs : tie.MeasureT-pairs
 μ-pairs font head part value framebuffer buffer₀ glyph-width visible runs₀ from₀ to₀ line₀ left₀ buffer runs from to line left =
@@ -46,7 +46,7 @@ ones s = let a = s .args in onesOf (pixelsOf (u8g2 (a .font .now)) (a .glyph)) (
 
 lies : (s : tie.Start Inv-loop μ-loop Inv-pairs μ-pairs) → let a = s .args in
     Lies (ones s) (a .glyph .«glyph_width» * a .glyph .«glyph_height») (a .framebuffer .width) (a .buffer .now)
-lies s = part-lies (s .pre .1) _ _ refl
+lies s = part-lies (s .pre .fits) _ _ refl
 
 -- the calls before the loops
 abbrev less : tie.After-struct-known8 Inv-loop μ-loop Inv-pairs μ-pairs → tie.After-less Inv-loop μ-loop Inv-pairs μ-pairs
@@ -62,7 +62,7 @@ initial : (c : tie.After-struct-known8 Inv-loop μ-loop Inv-pairs μ-pairs) → 
 initial c =
     let s = start c in
     let place = seek c .seek in
-    at-start (lies s) (omega (arith, s .pre .1 .some-rows)) (omega (arith, place .ensures .1 .0)) (place .ensures .0) (less c .less .ensures)
+    at-start (lies s) (omega (arith, s .pre .fits .some-rows)) (omega (arith, place .ensures .inside)) (place .ensures .stands) (less c .less .ensures)
     (ap (λ (k : ℕ). k - place .result .offset) (c .before .before .before .before .before .count .ensures))
 
 -- where the inner loop stands
@@ -71,40 +71,40 @@ known : (c : tie.At-loop Inv-loop μ-loop Inv-pairs μ-pairs) → let s = start 
     (c .loop .buffer) (c .before .pairs .runs) (c .loop .from) (c .loop .to) (c .loop .line) (c .loop .left)
 known c =
     let l = lies (start (c .before .before)) in
-    c .loop .inv .1 _ _ _ l (c .before .pairs .inv .1 .1 _ _ _ l (initial (c .before .before)))
+    c .loop .inv .leads _ _ _ l (c .before .pairs .inv .leads _ _ _ l (initial (c .before .before)))
 
 -- the row's part lies on the framebuffer
 room : (c : tie.At-loop Inv-loop μ-loop Inv-pairs μ-pairs) → c .loop .line + (ones (start (c .before .before)) .visible) ≤ length (c .loop .buffer)
-room c = omega (arith, c .loop .inv .0, c .before .pairs .inv .1 .0, part-in (lies (start (c .before .before))) (known c))
+room c = omega (arith, c .loop .inv .long, c .before .pairs .inv .long, part-in (lies (start (c .before .before))) (known c))
 
 -- .. and is small
 small : (c : tie.At-loop Inv-loop μ-loop Inv-pairs μ-pairs) → c .loop .line + (ones (start (c .before .before)) .visible) ≤ 65536
-small c = omega (arith, room c, c .loop .inv .0, c .before .pairs .inv .1 .0, part-small (start (c .before .before) .pre .1))
+small c = omega (arith, room c, c .loop .inv .long, c .before .pairs .inv .long, part-small (start (c .before .before) .pre .fits))
 
 mul-seek : tie.Need-mul-seek Inv-loop μ-loop Inv-pairs μ-pairs
 mul-seek c =
     let s = c .before .before .before .before .before in
     let w : s .args .glyph .«glyph_width» ≤ 255 = search needs in
     let h : s .args .glyph .«glyph_height» ≤ 255 = search needs in
-    omega (arith, first-pixel (s .pre .1), mul-le-mul w h)
+    omega (arith, first-pixel (s .pre .fits), mul-le-mul w h)
 
 seek-requires : tie.Need-seek-requires Inv-loop μ-loop Inv-pairs μ-pairs
-seek-requires c κs = let p = c .before .before .before .before .before .pre in (p .0, first-pixel (p .1))
+seek-requires c κs = let p = c .before .before .before .before .before .pre in record { checked = p .checked; within = first-pixel (p .fits) }
 
 mul-line : tie.Need-mul-line Inv-loop μ-loop Inv-pairs μ-pairs
-mul-line c = omega (arith, line-small (c .before .before .before .before .before .before .before .before .before .before .before .before .pre .1))
+mul-line c = omega (arith, line-small (c .before .before .before .before .before .before .before .before .before .before .before .before .pre .fits))
 
 add-line : tie.Need-add-line Inv-loop μ-loop Inv-pairs μ-pairs
-add-line c = omega (arith, line-small (c .before .before .before .before .before .before .before .before .before .before .before .before .before .pre .1))
+add-line c = omega (arith, line-small (c .before .before .before .before .before .before .before .before .before .before .before .before .before .pre .fits))
 
 sub-left : tie.Need-sub-left Inv-loop μ-loop Inv-pairs μ-pairs
-sub-left c = omega (arith, start c .pre .1 .some-rows)
+sub-left c = omega (arith, start c .pre .fits .some-rows)
 
 pairs-holds : tie.Need-pairs-holds Inv-loop μ-loop Inv-pairs μ-pairs
-pairs-holds c = (seek c .seek .ensures .1 .1, (refl, λ n ps entry l a. a))
+pairs-holds c = record { short = seek c .seek .ensures .short; long = refl; leads = λ n ps entry l a. a }
 
 loop-holds : tie.Need-loop-holds Inv-loop μ-loop Inv-pairs μ-pairs
-loop-holds c = (refl, λ n ps entry l a. a)
+loop-holds c = record { short = c .pairs .inv .short; long = refl; leads = λ n ps entry l a. a }
 
 add-end : tie.Need-add-end Inv-loop μ-loop Inv-pairs μ-pairs
 add-end c = omega (arith, small (c .before))
@@ -115,7 +115,7 @@ part-fill-columns-end c = let r = room (c .before) in search needs
 add-line-2 : tie.Need-add-line-2 Inv-loop μ-loop Inv-pairs μ-pairs
 add-line-2 c =
     let l = c .before .before .before .before .before .before .before in
-    let f = start (l .before .before) .pre .1 .window in
+    let f = start (l .before .before) .pre .fits .window in
     omega (arith, small l, f .wide, f .high)
 
 sub-left-2 : tie.Need-sub-left-2 Inv-loop μ-loop Inv-pairs μ-pairs
@@ -123,21 +123,23 @@ sub-left-2 c = omega (arith, known (c .before .before .before .before .before .b
 
 loop-less : tie.Need-loop-less Inv-loop μ-loop Inv-pairs μ-pairs
 loop-less c =
-    let p = start (c .before .before .before .before .before .before .before .before .before .before) .pre .1 in
+    let p = start (c .before .before .before .before .before .before .before .before .before .before) .pre .fits in
     omega (arith, p .some-columns, p .in-width, c .before .before .before .before .before .before .before .loop-test .taken)
 
 loop-again : tie.Need-loop-again Inv-loop μ-loop Inv-pairs μ-pairs
 loop-again c =
     let l = c .before .before .before .before .before .before .before .before in
     let s = start (l .before .before) in
-    let k : l .loop .line + ones s .visible - l .loop .line ≡ ones s .visible = omega arith in (
-      c .before .before .before .before .buffer .given .1 ∙ l .loop .inv .0,
-      λ n ps entry lies begin.
-          let at = l .loop .inv .1 n ps entry lies begin in
+    let k : l .loop .line + ones s .visible - l .loop .line ≡ ones s .visible = omega arith in
+    record {
+      short = l .loop .inv .short;
+      long = c .before .before .before .before .buffer .given .1 ∙ l .loop .inv .long;
+      leads = λ n ps entry lies begin.
+          let at = l .loop .inv .leads n ps entry lies begin in
           rw (c .before .before .less2 .ensures)
           (at-row lies at k
-          (c .before .before .before .before .before .before .before .loop-test .taken) (omega (arith, at .some, c .if1 .left)) (c .before .before .before .before .before .fill-columns .ensures)),
-    )
+          (c .before .before .before .before .before .before .before .loop-test .taken) (omega (arith, at .some, c .if1 .left)) (c .before .before .before .before .before .fill-columns .ensures));
+    }
 
 add-end-2 : tie.Need-add-end-2 Inv-loop μ-loop Inv-pairs μ-pairs
 add-end-2 c = omega (arith, small (c .before))
@@ -149,8 +151,8 @@ next-pair-requires : tie.Need-next-pair-requires Inv-loop μ-loop Inv-pairs μ-p
 next-pair-requires c κs =
     let l = c .before .before .before .before .before in
     let p = known l .stands .place in
-    let short = l .before .pairs .inv .0 in
-    let checked = start (l .before .before) .pre .0 in
+    let short = l .before .pairs .inv .short in
+    let checked = start (l .before .before) .pre .checked in
     search needs
 
 -- the pair's end lies less than two runs after the row's
@@ -159,7 +161,7 @@ next-in : (c : tie.After-next-pair Inv-loop μ-loop Inv-pairs μ-pairs)
 next-in c =
     let s = start (c .before .before .before .before .before .before .before .before) in
     let w : s .args .glyph .«glyph_width» ≤ 255 = search needs in
-    let short = c .next-pair .ensures .1 .0 in
+    let short = c .next-pair .ensures .short in
     omega (arith, c .before .before .before .before .before .loop-test .left, short .zeros, short .ones)
 
 add-from : tie.Need-add-from Inv-loop μ-loop Inv-pairs μ-pairs
@@ -169,23 +171,22 @@ add-to : tie.Need-add-to Inv-loop μ-loop Inv-pairs μ-pairs
 add-to c = omega (arith, next-in (c .before .before))
 
 pairs-less : tie.Need-pairs-less Inv-loop μ-loop Inv-pairs μ-pairs
-pairs-less c = omega (arith, known (c .before .before .before .before .before .before .before .before) .stands .place, c .before .before .next-pair .ensures .1 .1)
+pairs-less c = omega (arith, known (c .before .before .before .before .before .before .before .before) .stands .place, c .before .before .next-pair .ensures .later)
 
 pairs-again : tie.Need-pairs-again Inv-loop μ-loop Inv-pairs μ-pairs
 pairs-again c =
     let l = c .before .before .before .before .before .before .before .before in
     let s = start (l .before .before) in
     let next = c .before .before .next-pair .ensures in
-    let k : l .loop .line + ones s .visible - l .loop .line ≡ ones s .visible = omega arith in (
-      next .1 .0,
-      (
-        c .before .before .before .before .buffer2 .given .1 ∙ l .loop .inv .0 ∙ l .before .pairs .inv .1 .0,
-        λ n ps entry lies begin.
-            let at = l .loop .inv .1 n ps entry lies (l .before .pairs .inv .1 .1 n ps entry lies begin) in
-            at-next lies at k
-            (c .before .before .before .before .before .before .before .loop-test .left) (next .0) (c .before .before .before .before .before .fill-columns2 .ensures),
-      ),
-    )
+    let k : l .loop .line + ones s .visible - l .loop .line ≡ ones s .visible = omega arith in
+    record {
+      short = next .short;
+      long = c .before .before .before .before .buffer2 .given .1 ∙ l .loop .inv .long ∙ l .before .pairs .inv .long;
+      leads = λ n ps entry lies begin.
+          let at = l .loop .inv .leads n ps entry lies (l .before .pairs .inv .leads n ps entry lies begin) in
+          at-next lies at k
+          (c .before .before .before .before .before .before .before .loop-test .left) (next .read) (c .before .before .before .before .before .fill-columns2 .ensures);
+    }
 
 returns : tie.Need-returns Inv-loop μ-loop Inv-pairs μ-pairs
 returns c =

@@ -9,13 +9,13 @@ glyph-advance : (c : tie.Start) → SFits w8 (c .args .glyph .advance)
 glyph-advance c = search needs
 
 combine-bounding-boxes-requires : tie.Need-combine-bounding-boxes-requires
-combine-bounding-boxes-requires c κs = (c .before .before .before .before .before .before .pre .box, c .before .before .before .before .get-next-bounding-box .ensures .1)
+combine-bounding-boxes-requires c κs = (c .before .before .before .before .before .before .pre .box, c .before .before .before .before .get-next-bounding-box .ensures .reach)
 
 returns : tie.Need-returns
 returns c =
     let m = c .before .before in
     let s = c .before .before .before .before .before .before .before in
-    simp (stored w32 (m .moved .ok) (m .moved .ensures), c .combine-bounding-boxes .ensures, c .before .before .before .before .before .get-next-bounding-box .ensures .0)
+    simp (stored w32 (m .moved .ok) (m .moved .ensures), c .combine-bounding-boxes .ensures, c .before .before .before .before .before .get-next-bounding-box .ensures .is)
     (simp (toZ-ofZ, near-fits (s .pre .x), near-fits (s .pre .y), glyph-advance s))
 
 pub add-glyph-spec : {M : Type 1} → statement M

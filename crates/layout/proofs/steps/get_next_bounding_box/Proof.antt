@@ -72,7 +72,7 @@ get-glyph-bounding-box-requires c κs =
     (s .pre .column, s .pre .row)
 
 returns : tie.Need-returns
-returns c = (box-is c, in-reach c)
+returns c = record { is = box-is c; reach = in-reach c }
 
 pub get-next-bounding-box-spec : {M : Type 1} → statement M
 get-next-bounding-box-spec =

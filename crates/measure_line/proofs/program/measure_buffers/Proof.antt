@@ -9,7 +9,7 @@ returns : tie.Need-returns
 returns c =
     let a = c .before .before .before .before .before .before .args in
     let w = c .measure-line .ensures in
-    (w .0, λ file input f g. spelled-as (files-line file input (a .font .now) (a .text .now) (a .n) (a .k) f g (omega arith) (omega arith)) (w .1))
+    (w .counted, λ file input f g. spelled-as (files-line file input (a .font .now) (a .text .now) (a .n) (a .k) f g (omega arith) (omega arith)) (w .is))
 
 pub measure-buffers-spec : {M : Type 1} → statement M
 measure-buffers-spec =

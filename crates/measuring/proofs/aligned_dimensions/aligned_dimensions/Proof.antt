@@ -44,7 +44,7 @@ module _ (c : tie.After-known-told4) where
 measure-lines-requires : tie.Need-measure-lines-requires
 measure-lines-requires c κs =
     let k = font-known c in
-    (opened _ (head k) (opens k), request-checked _ (opens k) (asked k) (ascent-fits k) (descent-fits k) (passes c))
+    record { opened = opened _ (head k) (opens k); checked = request-checked _ (opens k) (asked k) (ascent-fits k) (descent-fits k) (passes c) }
 
 returns : tie.Need-returns
 unfolding alignedDimensions

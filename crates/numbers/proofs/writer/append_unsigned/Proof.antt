@@ -5,7 +5,7 @@ use Rattle.numbers.proofs.writer.append_unsigned.Statement.{statement}
 use Rattle.numbers.proofs.writer.append_unsigned.Tie as tie
 
 returns : tie.Need-returns
-returns c = (omega arith, then (omega arith) (c .before .before .before .before .before .before .append .ensures) (c .before .before .append-decimal .ensures .1))
+returns c = record { few = omega arith; is = then (omega arith) (c .before .before .before .before .before .before .append .ensures) (c .before .before .append-decimal .ensures .is) }
 
 pub append-unsigned-spec : {M : Type 1} → statement M
 append-unsigned-spec =

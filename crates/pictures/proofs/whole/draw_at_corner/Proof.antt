@@ -12,10 +12,10 @@ fits-y : (c : tie.Start) → SFits w32 (c .args .rectangle .«top_left» .y)
 fits-y c = search needs
 
 near-x : (c : tie.Start) → negsuc 1048575 ≤ℤ toZ w32 (ofZ w32 (c .args .rectangle .«top_left» .x))
-near-x c = simp (toZ-ofZ, fits-x c) (corner-near (c .pre .0) .left-low)
+near-x c = simp (toZ-ofZ, fits-x c) (corner-near (c .pre .measured) .left-low)
 
 near-y : (c : tie.Start) → negsuc 1048575 ≤ℤ toZ w32 (ofZ w32 (c .args .rectangle .«top_left» .y))
-near-y c = simp (toZ-ofZ, fits-y c) (corner-near (c .pre .0) .top-low)
+near-y c = simp (toZ-ofZ, fits-y c) (corner-near (c .pre .measured) .top-low)
 
 opposite-requires : tie.Need-opposite-requires
 opposite-requires c κs =
@@ -37,11 +37,15 @@ returns c =
     let y = stored w32 (second .ok) (simp (toZ-ofZ, fits-x s, fits-y s) at (second .ensures)) in
     let answer =
     c .before .before .render .ensures .0
-    ∙ call-answers (a .font .now) (a .text .now) (a .line-height) (a .color) (a .rectangle) _ _ (a .framebuffer) (a .pixels .now) x y (s .pre .0) (s .pre .1) in
+    ∙ call-answers (a .font .now) (a .text .now) (a .line-height) (a .color) (a .rectangle) _ _ (a .framebuffer) (a .pixels .now) x y (s .pre .measured) (s .pre .framed) in
     let shows =
     c .before .before .render .ensures .1
-    ∙ call-shows (a .font .now) (a .text .now) (a .line-height) (a .color) (a .rectangle) _ _ (a .framebuffer) (a .pixels .now) x y (s .pre .0) (s .pre .1) in
-    (answer, (shows, call-seen (a .font .now) (a .text .now) (a .line-height) (a .color) (a .rectangle) _ _ (a .framebuffer) (a .pixels .now) x y (s .pre .0) (s .pre .1) answer))
+    ∙ call-shows (a .font .now) (a .text .now) (a .line-height) (a .color) (a .rectangle) _ _ (a .framebuffer) (a .pixels .now) x y (s .pre .measured) (s .pre .framed) in
+    record {
+      answered = answer;
+      shown = shows;
+      seen = call-seen (a .font .now) (a .text .now) (a .line-height) (a .color) (a .rectangle) _ _ (a .framebuffer) (a .pixels .now) x y (s .pre .measured) (s .pre .framed) answer;
+    }
 
 pub draw-at-corner-spec : {M : Type 1} → statement M
 draw-at-corner-spec =

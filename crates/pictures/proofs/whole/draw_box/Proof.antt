@@ -7,29 +7,29 @@ use Rattle.pictures.proofs.whole.draw_box.Tie as tie
 
 returns : tie.Need-returns
 returns c =
-    let m = c .before .before .before .before .before .before .before .pre .0 in
-    (refl, ((m .advance, m .box), inl (c .if1 .taken)))
+    let m = c .before .before .before .before .before .before .before .pre .measured in
+    record { kept = refl; advance = m .advance; measured = m .box; large = inl (c .if1 .taken) }
 
 returns-2 : tie.Need-returns-2
 returns-2 c =
-    let m = c .before .before .before .before .before .before .before .before .pre .0 in
-    (refl, ((m .advance, m .box), inr (c .if2 .taken)))
+    let m = c .before .before .before .before .before .before .before .before .pre .measured in
+    record { kept = refl; advance = m .advance; measured = m .box; large = inr (c .if2 .taken) }
 
 mul-n : tie.Need-mul-n
 mul-n c = omega (arith, area-most (c .before .if1 .left) (c .if2 .left))
 
 slice-relend-prefix-draw-at-corner : tie.Need-slice-relend-prefix-draw-at-corner
-slice-relend-prefix-draw-at-corner c = omega (arith, area-most (c .before .if1 .left) (c .if2 .left), c .before .before .before .before .before .before .before .before .pre .1)
+slice-relend-prefix-draw-at-corner c = omega (arith, area-most (c .before .if1 .left) (c .if2 .left), c .before .before .before .before .before .before .before .before .pre .room)
 
 slice-aggregate-draw-at-corner : tie.Need-slice-aggregate-draw-at-corner
 slice-aggregate-draw-at-corner c =
     let s = c .before .before .before .before .before .before .before .before .before in
-    sym (part-length (s .args .rectangle) (s .args .buffer .now) (c .before .before .if1 .left) (c .before .if2 .left) (s .pre .1))
+    sym (part-length (s .args .rectangle) (s .args .buffer .now) (c .before .before .if1 .left) (c .before .if2 .left) (s .pre .room))
 
 draw-at-corner-requires : tie.Need-draw-at-corner-requires
 draw-at-corner-requires c κs =
     let s = c .before .before .before .before .before .before .before .before .before in
-    (s .pre .0, framed (s .args .rectangle) (s .args .buffer .now) (c .before .before .if1 .left) (c .before .if2 .left) (s .pre .1))
+    record { measured = s .pre .measured; framed = framed (s .args .rectangle) (s .args .buffer .now) (c .before .before .if1 .left) (c .before .if2 .left) (s .pre .room) }
 
 returns-3 : tie.Need-returns-3
 returns-3 c =
@@ -39,7 +39,7 @@ returns-3 c =
     let high = c .before .before .before .before .before .before .before .if2 .left in
     let r = s .args .rectangle in
     let is = ap dimensionsOutcome (c .before .answer .given .1) in
-    inr (r, called r (s .args .buffer .now) wide high (s .pre .1) (s .args .color) (s .pre .0) is (call .0) (call .1 .0) (call .1 .1))
+    inr (r, called r (s .args .buffer .now) wide high (s .pre .room) (s .args .color) (s .pre .measured) is call)
 
 returns-4 : tie.Need-returns-4
 returns-4 c =
@@ -49,7 +49,7 @@ returns-4 c =
     let high = c .before .before .before .before .before .before .before .if2 .left in
     let r = s .args .rectangle in
     let is = ap dimensionsOutcome (c .before .answer2 .given .1) in
-    (r, (refl, called r (s .args .buffer .now) wide high (s .pre .1) (s .args .color) (s .pre .0) is (call .0) (call .1 .0) (call .1 .1)))
+    record { box = r; size-is = refl; called = called r (s .args .buffer .now) wide high (s .pre .room) (s .args .color) (s .pre .measured) is call }
 
 pub draw-box-spec : {M : Type 1} → statement M
 draw-box-spec =

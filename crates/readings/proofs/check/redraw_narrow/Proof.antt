@@ -35,14 +35,14 @@ module _ (c : tie.After-known-told2) where
   is-ready = ready _ _ (new entry) (screen entry) step passes (λ i. omega (arith, c .before .before .before .before .before .before .before .before .shared-slice-known .given i))
 
 clear-narrow-requires : tie.Need-clear-narrow-requires
-clear-narrow-requires c κs = let r = is-ready (c .before .before .before .before) in (r .opens, (r .old-checked, r .fits))
+clear-narrow-requires c κs = let r = is-ready (c .before .before .before .before) in record { opened = r .opens; checked = r .old-checked; fits = r .fits }
 
 draw-reading-requires : tie.Need-draw-reading-requires
 draw-reading-requires c κs =
     let k = c .before .before .before .before .before .before .before .before in
     let r = is-ready k in
     let a = entry k .args in
-    (r .opens, (r .new-checked, subst (λ (n : ℕ). FitsPlace n (a .place)) (sym (c .before .before .screen .given)) (r .fits)))
+    record { opened = r .opens; checked = r .new-checked; fits = subst (λ (n : ℕ). FitsPlace n (a .place)) (sym (c .before .before .screen .given)) (r .fits) }
 
 returns : tie.Need-returns
 unfolding stepBuffer
@@ -61,8 +61,8 @@ returns-2 c =
     let s = entry k in
     let a = s .args in
     let between = rw (r .old-at) at (c .before .before .before .before .before .before .clear-narrow .ensures) in (
-      answers (a .font .now) (a .old-text .now) (new s) (a .place .background) (screen s) (toFill true) (r .unrefused) (rw (r .new-at) at (d .0)),
-      leaves (a .font .now) (a .old-text .now) (new s) (a .place .background) (screen s) (toFill true) (r .unrefused) between (rw (r .new-at) at (d .1)),
+      answers (a .font .now) (a .old-text .now) (new s) (a .place .background) (screen s) (toFill true) (r .unrefused) (rw (r .new-at) at (d .counted)),
+      leaves (a .font .now) (a .old-text .now) (new s) (a .place .background) (screen s) (toFill true) (r .unrefused) between (rw (r .new-at) at (d .shown)),
     )
 
 pub redraw-narrow-spec : {M : Type 1} → statement M

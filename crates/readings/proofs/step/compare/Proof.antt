@@ -11,7 +11,7 @@ returns : tie.Need-returns
 returns c =
     let a = c .before .before .before .before .before .before .before .before .before .before .before .before .before .before .before .args in
     let w = c .before .before .before .before .before .before .before .before .before .write-reading in
-    let e = to-the-end (w .last .1 .0) (w .result) 6 (c .before .before .before .before .before .before .before .before .text2 .given) ∙ w .ensures .1 in
+    let e = to-the-end (w .last .1 .0) (w .result) 6 (c .before .before .before .before .before .before .before .before .text2 .given) ∙ w .ensures .text in
     c .count-differences .ensures
     ∙ ap (differences (a .screen .now))
     (c .before .before .before .before .draw-alone .ensures ∙ ap (λ (t : List ℕ). readingOn (a .font .now) (asked (a .place) t) (groundOf (a .place) (a .ground .now))) e)

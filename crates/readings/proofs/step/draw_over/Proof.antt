@@ -12,8 +12,8 @@ returns c =
     let a = c .before .before .before .before .before .before .before .before .before .before .before .before .before .before .before .before .args in
     let w = c .before .before .before .before .before .before .before .before .before .before .before .before .write-reading in
     let v = c .before .before .before .before .before .before .before .before .before .write-reading2 in
-    let e = to-the-end (w .last .1 .0) (w .result) 6 (c .before .before .before .before .before .before .before .before .before .before .before .old-text2 .given) ∙ w .ensures .1 in
-    let f = to-the-end (v .last .1 .0) (v .result) 6 (c .before .before .before .before .before .before .before .before .new-text2 .given) ∙ v .ensures .1 in
+    let e = to-the-end (w .last .1 .0) (w .result) 6 (c .before .before .before .before .before .before .before .before .before .before .before .old-text2 .given) ∙ w .ensures .text in
+    let f = to-the-end (v .last .1 .0) (v .result) 6 (c .before .before .before .before .before .before .before .before .new-text2 .given) ∙ v .ensures .text in
     let r = c .before .before .redraw-on .ensures in
     let p = groundOf (a .trial .place) (a .screen .now) in (
       both-texts (λ o n. redrawn (a .font .now) o (asked (a .trial .place) n) p) e f (r .0),

@@ -1,5 +1,5 @@
 -- `measure_reading` meets its contract: what is measured is the part that `write_reading` wrote. Assumes nothing.
-use Rattle.integers.proofs.Prelude.{ap, _∙_, false, List, ℕ, needs}
+use Rattle.integers.proofs.Prelude.{ap, _∙_, List, ℕ, needs}
 use Rattle.definitions.specs.Font.{u8g2}
 use Rattle.definitions.specs.Calls.{plain, measure}
 use Rattle.readings.proofs.ReadingLaws.{to-the-end}
@@ -12,7 +12,7 @@ returns c =
     let w = c .before .before .before .before .write-reading in
     c .get-rendered-dimensions .ensures
     ∙ ap (λ (t : List ℕ). measure (u8g2 (a .font .now)) (plain t (a .placement) (a .vertical-pos)))
-    (to-the-end (w .last .1 .0) (w .result) 6 (c .before .before .before .text2 .given) ∙ w .ensures .1)
+    (to-the-end (w .last .1 .0) (w .result) 6 (c .before .before .before .text2 .given) ∙ w .ensures .text)
 
 pub measure-reading-spec : {M : Type 1} → statement M
 measure-reading-spec =

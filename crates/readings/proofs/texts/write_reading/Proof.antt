@@ -14,7 +14,7 @@ module _ (k : ℕ) (h : k < 901) where
 returns : tie.Need-returns
 returns c =
     let a = c .before .before .args in
-    (omega arith, drop-of-length-le (a .out .now) {i = 6} (omega (arith, c .before .before .pre)) ∙ simp (le-leb _ _ (c .if1 .taken)))
+    record { within = omega arith; text = drop-of-length-le (a .out .now) {i = 6} (omega (arith, c .before .before .pre)) ∙ simp (le-leb _ _ (c .if1 .taken)) }
 
 sub-write-angle : tie.Need-sub-write-angle
 sub-write-angle c = simp (plain (c .before .before .args .k) (c .if1 .left)) (angle-fits (c .before .before .args .k) (c .if1 .left))
@@ -24,14 +24,14 @@ write-angle-requires c κs =
     let k = c .before .before .before .args .k in
     let h = c .before .if1 .left in
     simp (plain k h, toZ-ofZ, angle-fits k h)
-    (c .before .before .before .pre, (omega (zarith, minus (pos k) (pos 450)), omega (zarith, minus (pos k) (pos 450))))
+    record { six = c .before .before .before .pre; low = omega (zarith, minus (pos k) (pos 450)); high = omega (zarith, minus (pos k) (pos 450)) }
 
 returns-2 : tie.Need-returns-2
 returns-2 c =
     let k = c .before .before .before .before .before .before .args .k in
     let h = c .before .before .before .before .if1 .left in
     let w = c .before .before .write-angle .ensures in
-    (omega (arith, w .0), w .1 ∙ simp (plain k h, toZ-ofZ, angle-fits k h, lt-leb _ _ h))
+    record { within = omega (arith, w .within); text = w .text ∙ simp (plain k h, toZ-ofZ, angle-fits k h, lt-leb _ _ h) }
 
 pub write-reading-spec : {M : Type 1} → statement M
 write-reading-spec =

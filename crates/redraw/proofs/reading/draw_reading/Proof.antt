@@ -1,5 +1,5 @@
 -- What drawing the text would answer decides; drawing it then answers the same.
-use Rattle.integers.proofs.Prelude.{_≡_, sym, ap, _∙_, needs}
+use Rattle.integers.proofs.Prelude.{sym, ap, _∙_, needs}
 use Rattle.definitions.specs.Calls.{dimensionsOutcome}
 use Rattle.redraw.proofs.reading.draw_reading.Statement.{statement}
 use Rattle.redraw.proofs.reading.draw_reading.Tie as tie
@@ -11,14 +11,15 @@ returns : tie.Need-returns
 returns c =
     let g = c .before .before .get-drawn-dimensions .ensures in
     let e = sym g ∙ ap dimensionsOutcome (c .enum-told2 .given .1) in
-    (g, rw e)
+    record { counted = g; shown = rw e }
 
 returns-2 : tie.Need-returns-2
 returns-2 c =
     let k = c .before .before .before .before .before .before in
     let g = k .before .before .get-drawn-dimensions .ensures in
     let e = sym g ∙ ap dimensionsOutcome (k .enum-told .given .1) in
-    (c .before .before .draw-text .ensures .0, rw e (c .before .before .draw-text .ensures .1))
+    let drawn = c .before .before .draw-text .ensures in
+    record { counted = drawn .counted; shown = rw e (drawn .shown) }
 
 pub draw-reading-spec : {M : Type 1} → statement M
 draw-reading-spec =

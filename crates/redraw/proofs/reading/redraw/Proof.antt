@@ -2,7 +2,6 @@
 -- on a ground is `leaves-reading` of StepsLaws.
 use Rattle.integers.proofs.Prelude.{_≡_, sym, ap, subst, _∙_, ℕ, arith, needs}
 use Rattle.definitions.specs.Refusals.{success}
-use Rattle.definitions.specs.Calls.{dimensionsOutcome}
 use Rattle.definitions.specs.Agreement.{Ground}
 use Rattle.redraw.specs.Drawing.{Drawing, asked, groundOf, FitsPlace}
 use Rattle.redraw.specs.declared.step.Step.{Step}
@@ -51,7 +50,7 @@ draw-reading-requires c κs =
     let k = c .before .before .before .before .before .before .before .before in
     let r = is-ready k in
     let a = entry k .args in
-    (r .opens, (r .new-checked, subst (λ (n : ℕ). FitsPlace n (a .place)) (sym (c .before .before .buffer .given)) (r .fits)))
+    record { opened = r .opens; checked = r .new-checked; fits = subst (λ (n : ℕ). FitsPlace n (a .place)) (sym (c .before .before .buffer .given)) (r .fits) }
 
 returns : tie.Need-returns
 returns c =
@@ -70,9 +69,9 @@ returns-2 c =
     let r = is-ready k in
     let s = entry k in
     let a = s .args in
-    let answered = answers (a .font .now) (a .old-text .now) (new s) (a .place .background) (screen s) (λ o. o) (r .unrefused) (rw (r .new-at) at (d .0)) in
+    let answered = answers (a .font .now) (a .old-text .now) (new s) (a .place .background) (screen s) (λ o. o) (r .unrefused) (rw (r .new-at) at (d .counted)) in
     let between = simp (r .old-at, r .new-at) at (c .before .before .before .before .before .before .clear-reading .ensures) in
-    let shown = leaves (a .font .now) (a .old-text .now) (new s) (a .place .background) (screen s) (λ o. o) (r .unrefused) between (rw (r .new-at) at (d .1)) in
+    let shown = leaves (a .font .now) (a .old-text .now) (new s) (a .place .background) (screen s) (λ o. o) (r .unrefused) between (rw (r .new-at) at (d .shown)) in
     (answered, (shown, leaves-reading (setting s) (a .old-text .now) (reading s) answered shown))
 
 pub redraw-spec : {M : Type 1} → statement M

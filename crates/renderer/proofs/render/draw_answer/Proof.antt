@@ -1,5 +1,5 @@
 -- `answerShown` goes by the same cases.
-use Rattle.integers.proofs.Prelude.{_≡_, ap, _∙_, _+ℤ_, needs}
+use Rattle.integers.proofs.Prelude.{ap, _∙_, _+ℤ_, needs}
 use Rattle.answers.specs.Answers.{asAnswer}
 use Rattle.renderer.proofs.render.draw_answer.Statement.{statement}
 use Rattle.renderer.proofs.render.draw_answer.Tie as tie
@@ -8,18 +8,13 @@ render-glyph-requires : tie.Need-render-glyph-requires
 render-glyph-requires c κs =
     let k = c .before .before in
     let s = k .before .before .before .before .before .before in
-    let d = s .args .dimensions .advance in (
-      s .pre .0 _ (ap asAnswer (k .before .before .answer .given .1)),
-      (
-        record {
-          x = s .args .origin .x +ℤ d .x;
-          y = s .args .origin .y +ℤ d .y;
-          is = k .get-next-bounding-box .ensures .0;
-          reach = k .get-next-bounding-box .ensures .1;
-        },
-        s .pre .1 .1,
-      ),
-    )
+    let d = s .args .dimensions .advance in
+    let b = k .get-next-bounding-box .ensures in
+    record {
+      checked = s .pre .runs _ (ap asAnswer (k .before .before .answer .given .1));
+      box = record { x = s .args .origin .x +ℤ d .x; y = s .args .origin .y +ℤ d .y; is = b .is; reach = b .reach };
+      window = s .pre .fits;
+    }
 
 enum-told : tie.Need-enum-told
 enum-told c = search needs
@@ -27,7 +22,7 @@ enum-told c = search needs
 returns : tie.Need-returns
 returns c =
     let k = c .before .before .before .before .before in
-    c .before .before .render-glyph .ensures ∙ simp (k .get-next-bounding-box .ensures .0, k .before .before .answer .given .1)
+    c .before .before .render-glyph .ensures ∙ simp (k .get-next-bounding-box .ensures .is, k .before .before .answer .given .1)
 
 returns-2 : tie.Need-returns-2
 returns-2 c = simp (c .enum-told .given .1)

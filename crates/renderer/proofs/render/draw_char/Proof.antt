@@ -1,24 +1,26 @@
 -- A newline is code point 10; any other is looked up, drawn and counted.
-use Rattle.integers.proofs.Prelude.{_≡_, sym, _∙_, eq-eqb, ne-eqb, needs}
+use Rattle.integers.proofs.Prelude.{sym, _∙_, eq-eqb, ne-eqb, needs}
 use Rattle.answers.proofs.AnswersLaws.{runs-checked}
 use Rattle.renderer.proofs.render.draw_char.Statement.{statement}
 use Rattle.renderer.proofs.render.draw_char.Tie as tie
 
 returns : tie.Need-returns
-returns c = (simp (c .add-newline .ensures, eq-eqb _ _ (c .before .if1 .taken)), simp (eq-eqb _ _ (c .before .if1 .taken)))
+returns c = record { counted = simp (c .add-newline .ensures, eq-eqb _ _ (c .before .if1 .taken)); shown = simp (eq-eqb _ _ (c .before .if1 .taken)) }
 
 draw-answer-requires : tie.Need-draw-answer-requires
 draw-answer-requires c κs =
-    let s = c .before .before .before .before .before .before in (
-      λ g e. runs-checked (s .pre .0) (s .args .pen .«ignore_unknown_chars») (s .args .ch) g (sym (c .before .retrieve-answer .ensures) ∙ e),
-      (s .pre .1 .0, s .pre .1 .1 .1),
-    )
+    let s = c .before .before .before .before .before .before in
+    record {
+      runs = λ g e. runs-checked (s .pre .opened) (s .args .pen .«ignore_unknown_chars») (s .args .ch) g (sym (c .before .retrieve-answer .ensures) ∙ e);
+      room = s .pre .room;
+      fits = s .pre .fits;
+    }
 
 returns-2 : tie.Need-returns-2
 returns-2 c =
     let looked = c .before .before .before .before .before .retrieve-answer .ensures in
     let other = ne-eqb _ _ (c .before .before .before .before .before .before .before .if1 .left) in
-    (simp (c .add-answer .ensures, looked, other), c .before .before .before .draw-answer .ensures ∙ simp (looked, other))
+    record { counted = simp (c .add-answer .ensures, looked, other); shown = c .before .before .before .draw-answer .ensures ∙ simp (looked, other) }
 
 pub draw-char-spec : {M : Type 1} → statement M
 draw-char-spec =

@@ -5,7 +5,7 @@ use Rattle.definitions.specs.Utf8.{character, firstCharacter}
 use Rattle.definitions.specs.Font.{u8g2, drawnAnswer, pixelsOf}
 use Rattle.definitions.specs.Calls.{dimensionsOutcome}
 use Rattle.definitions.proofs.Utf8Laws.{Position, position, none-malformed}
-use Rattle.renderer.specs.Texts.{Fits}
+use Rattle.renderer.specs.CharAnswers.{Fits}
 use Rattle.layout.proofs.MeasureLaws.{measured-room, measured-end, measured-stops}
 use Rattle.renderer.proofs.RenderLaws.{drawn-small, DrawnTo, drawn-start, drawn-end, drawn-next, drawn-stops}
 use Rattle.renderer.proofs.render.draw_text.Statement.{statement}
@@ -33,7 +33,7 @@ here : (c : tie.After-known-told2 Inv-loop μ-loop)
 here c = position _ _ (first (c .before .before .before .before .before .before .before))
 
 loop-holds : tie.Need-loop-holds Inv-loop μ-loop
-loop-holds c = drawn-start _ _ _ _ _ _ _ _ (c .before .before .before .pre .1 .0)
+loop-holds c = drawn-start _ _ _ _ _ _ _ _ (c .before .before .before .pre .checked)
 
 enum-told : tie.Need-enum-told Inv-loop μ-loop
 enum-told c = search needs
@@ -50,13 +50,13 @@ returns c =
 draw-char-requires : tie.Need-draw-char-requires Inv-loop μ-loop
 draw-char-requires c κs =
     let l = c .before .before .before .before .before .before in
-    let s = c .before .before .before .before .before .before .before .before .before .before in (
-      s .pre .0,
-      (
-        measured-room (s .pre .1 .0) (l .loop .inv .reached),
-        (s .pre .1 .0 .line, subst (λ (n : ℕ). Fits n (s .args .context)) (sym (l .loop .inv .kept)) (s .pre .1 .1)),
-      ),
-    )
+    let s = c .before .before .before .before .before .before .before .before .before .before in
+    record {
+      opened = s .pre .opened;
+      room = measured-room (s .pre .checked) (l .loop .inv .reached);
+      line = s .pre .checked .line;
+      fits = subst (λ (n : ℕ). Fits n (s .args .context .framebuffer)) (sym (l .loop .inv .kept)) (s .pre .fits);
+    }
 
 same-length-2 : tie.Need-same-length-2 Inv-loop μ-loop
 same-length-2 c = c .before .before .before .buffer .given ∙ c .before .before .before .before .before .before .before .before .before .before .before .loop .inv .kept
@@ -67,13 +67,15 @@ returns-2 c =
     let t = c .before .before .before .before .before .before .before .before .before .before .before .loop .inv in
     let s = c .before .before .before .before .before .before .before .before .before .before .before .before .before .before .before in
     let e = ap dimensionsOutcome (c .enum-told2 .given .1) in
-    let stops = sym (c .before .before .before .before .draw-char .ensures .0) ∙ e in (
-      e ∙ sym (measured-stops (s .pre .1 .0) (t .reached) (first k) stops),
-      drawn-stops _ _ _ _ _ _ _ _ (s .pre .1 .0) t (first k) stops (c .before .before .before .before .draw-char .ensures .1),
-    )
+    let drawn = c .before .before .before .before .draw-char .ensures in
+    let stops = sym (drawn .counted) ∙ e in
+    record {
+      counted = e ∙ sym (measured-stops (s .pre .checked) (t .reached) (first k) stops);
+      shown = drawn-stops _ _ _ _ _ _ _ _ (s .pre .checked) t (first k) stops (drawn .shown);
+    }
 
 add-at : tie.Need-add-at Inv-loop μ-loop
-add-at c = let p = here c in omega (arith, c .before .before .before .before .before .before .before .before .before .before .before .before .before .before .before .before .pre .1 .0 .short)
+add-at c = let p = here c in omega (arith, c .before .before .before .before .before .before .before .before .before .before .before .before .before .before .before .before .pre .checked .short)
 
 loop-less : tie.Need-loop-less Inv-loop μ-loop
 loop-less c = let p = here c in omega arith
@@ -83,9 +85,10 @@ loop-again c =
     let k = c .before .before .before .before .before .before .before in
     let t = c .before .before .before .before .before .before .before .before .before .before .before .before .loop .inv in
     let s = c .before .before .before .before .before .before .before .before .before .before .before .before .before .before .before .before in
-    drawn-next _ _ _ _ _ _ _ _ (s .pre .1 .0) t (first k) (drawn-small (s .pre .0) _)
-    (sym (c .before .before .before .before .before .draw-char .ensures .0) ∙ ap dimensionsOutcome (c .before .drawn .given .1))
-    (c .before .before .before .before .before .draw-char .ensures .1)
+    let drawn = c .before .before .before .before .before .draw-char .ensures in
+    drawn-next _ _ _ _ _ _ _ _ (s .pre .checked) t (first k) (drawn-small (s .pre .opened) _)
+    (sym (drawn .counted) ∙ ap dimensionsOutcome (c .before .drawn .given .1))
+    (drawn .shown)
     (c .before .before .before .before .buffer .given)
 
 same-length-3 : tie.Need-same-length-3 Inv-loop μ-loop
@@ -94,8 +97,8 @@ same-length-3 c = c .before .loop .inv .kept
 returns-3 : tie.Need-returns-3 Inv-loop μ-loop
 returns-3 c =
     let t = c .before .loop .inv in
-    let k = c .before .before .before .before .before .pre .1 .0 in
-    (sym (measured-end k (t .reached) (c .loop-test .left)), drawn-end _ _ _ _ _ _ _ _ k t (c .loop-test .left))
+    let k = c .before .before .before .before .before .pre .checked in
+    record { counted = sym (measured-end k (t .reached) (c .loop-test .left)); shown = drawn-end _ _ _ _ _ _ _ _ k t (c .loop-test .left) }
 
 pub draw-text-spec : {M : Type 1} → statement M
 draw-text-spec =

@@ -75,10 +75,12 @@ draw-text-requires : tie.Need-draw-text-requires
 draw-text-requires c κs =
     let p = c .before .before .before in
     let k = font-known p in
-    let a = entry k .args in (
-      is-open k,
-      (request-checked _ (opens k) (asked k) (heights k .0) (heights k .1) (passes p), size-fits (a .framebuffer) (a .buffer .now) (size-in (sized-at p))),
-    )
+    let a = entry k .args in
+    record {
+      opened = is-open k;
+      checked = request-checked _ (opens k) (asked k) (heights k .0) (heights k .1) (passes p);
+      fits = size-fits (a .framebuffer) (a .buffer .now) (size-in (sized-at p));
+    }
 
 returns-3 : tie.Need-returns-3
 returns-3 c =
@@ -101,7 +103,7 @@ returns-5 c =
     let a = entry k .args in
     let whole = drawn-whole (a .font .now) (asked k) (a .style .color) (a .framebuffer) (a .buffer .now) (opens k)
     (size-in (sized-at p)) (passes p) (color-tested p ∙ sym (c .before .before .before .before .before .has-bad-color .ensures) ∙ c .before .before .before .before .if2 .left) in
-    (c .before .before .draw-text .ensures .0 ∙ whole .0, c .before .before .draw-text .ensures .1 ∙ whole .1)
+    (c .before .before .draw-text .ensures .counted ∙ whole .0, c .before .before .draw-text .ensures .shown ∙ whole .1)
 
 pub render-spec : {M : Type 1} → statement M
 render-spec =

@@ -12,12 +12,12 @@ abbrev total : tie.Start → ℤ
 total c = c .args .start +ℤ c .args .end +ℤ pos 3
 
 sum-fits : (c : tie.Start) → SFits w64 (c .args .start +ℤ c .args .end)
-sum-fits c = omega (zarith, c .pre .0, c .pre .1, plus (c .args .start) (c .args .end), range (c .fits .start))
+sum-fits c = omega (zarith, c .pre .low, c .pre .high, plus (c .args .start) (c .args .end), range (c .fits .start))
 
 total-fits : (c : tie.Start) → SFits w64 (total c)
 total-fits c =
     let a = c .args in
-    omega (zarith, c .pre .0, c .pre .1, plus (a .start) (a .end), plus (a .start +ℤ a .end) (pos 3), range (c .fits .start))
+    omega (zarith, c .pre .low, c .pre .high, plus (a .start) (a .end), plus (a .start +ℤ a .end) (pos 3), range (c .fits .start))
 
 low : (c : tie.Else2) → pos 1 ≤ℤ total (c .before .before)
 low c =

@@ -17,7 +17,7 @@ returns c =
     let fb : SFits w64 (m .result .bottom) = search needs in
     let w = c .before .before .before .side .ensures ∙ both side (toZ-ofZ fx) (toZ-ofZ fr) in
     let h = c .side2 .ensures ∙ both side (toZ-ofZ fy) (toZ-ofZ fb) in
-    let e = is-place (a .font .now) (a .options) (m .ensures .0) (p .ensures) w h in
+    let e = is-place (a .font .now) (a .options) (m .ensures .edges) (p .ensures) w h in
     (e, λ wanted. subst (λ (q : Place). Uncut q (extentOf (a .font .now) (a .options .«vertical_pos») 901) → AllSeen (a .font .now) q) (sym e) (all-seen (a .font .now) (a .options) wanted))
 
 pub place-for-spec : {M : Type 1} → statement M

@@ -2,33 +2,26 @@
 use Rattle.integers.proofs.Prelude.{ap, subst, _∙_, List, ℕ, arith, needs}
 use Rattle.buffers.proofs.CopyLaws.{whole}
 use Rattle.readings.specs.Sheet.{totalsTo, Sound}
-use Rattle.sheet_program.proofs.FitLaws.{cell-size}
 use Rattle.sheet_program.proofs.program.fill_sheet.Statement.{statement}
 use Rattle.sheet_program.proofs.program.fill_sheet.Tie as tie
 
-columns-requires : tie.Need-columns-requires
-columns-requires c κs =
-    let k = cell-size (c .before .before .before .before .before .before .before .before .before .before .before .before .before .before .before .before .before .before .before .pre) in
-    let same = c .before .before .before .before .before .before .before .before .before .before .before .ground .given in
-    (omega (arith, k .0, same), omega (arith, k .1, same))
-
 run-requires : tie.Need-run-requires
-run-requires c κs = (search needs, c .before .before .before .before .before .before .before .before .before .before .before .before .before .copy .ensures .1 ∙ whole _ _ (search needs))
+run-requires c κs = record { fits = search needs; begins = c .before .before .before .before .before .before .before .before .before .copy .ensures .1 ∙ whole _ _ (search needs) }
 
-returns-2 : tie.Need-returns-2
-returns-2 c =
-    let s = c .before .before .before .before .before .before .before .before .before .before .before .before .before .before .before .before .before
-    .before .before .before .before .before .before .before .before .before in
-    let a = s .before .before .before .before .before .before .before .args in
-    let g = s .lay-ground .ensures in
-    let r = c .before .before .before .before .before .before .before .run in (
-      r .ensures .0 ∙ ap (λ (l : List ℕ). totalsTo (a .narrow) (a .font .now) (a .place) l 901) (g .0),
-      subst (λ (l : List ℕ). Sound (a .narrow) (a .font .now) (a .place) l (r .result)) (g .0) (r .ensures .1 .1 (g .1 .0)),
-    )
+returns : tie.Need-returns
+returns c =
+    let r = c .before .before .before .before .before .before .before .run in
+    let g = c .before .before .before .before .before .before .before .before .before .before .before .before .before .before .before .before .before .before .before .before .before .before .lay-ground in
+    let a = c .before .before .before .before .before .before .before .before .before .before .before .before .before .before .before .before .before .before .before .before .before .before .before .before .before .before .before .before .args in
+    record {
+      totals = r .ensures .totals ∙ ap (λ (l : List ℕ). totalsTo (a .narrow) (a .font .now) (a .place) l 901) (g .ensures .laid);
+      sound =
+          subst (λ (l : List ℕ). Sound (a .narrow) (a .font .now) (a .place) l (r .result .totals)) (g .ensures .laid)
+          (r .ensures .sound (g .ensures .clear));
+    }
 
 pub fill-sheet-spec : {M : Type 1} → statement M
 fill-sheet-spec =
     tie.close
-    (tie.spec (λ c κs. search needs) (λ c κs. search needs) (λ c κs. search needs) (λ c κs. search needs) (λ c. search needs)
-    (λ c. search needs) (λ c. search needs) columns-requires (λ c κs. search needs) run-requires (λ c κs. search needs)
-    (λ c. search needs) (λ c. search needs) (λ c. search needs) (λ c. search needs) returns-2)
+    (tie.spec (λ c κs. search needs) (λ c κs. search needs) (λ c. search needs) (λ c κs. search needs) (λ c κs. search needs)
+    run-requires (λ c κs. search needs) (λ c. search needs) (λ c. search needs) (λ c. search needs) returns)

@@ -1,0 +1,300 @@
+/* Every call from C: what it answers, and each refusal that it can meet. Prints what is not as papayahelm.h says, and how many
+ * checks there were; the program's status is 0 where all hold. It is C and C++ alike. Codes without a meaning and lists of
+ * readings are in oracle/boundary.c. */
+#include "papayahelm.h"
+#include <stdio.h>
+#include <stdlib.h>
+
+static int checks, failures;
+
+#define CHECK(condition)                                     \
+    do {                                                     \
+        checks++;                                            \
+        if (!(condition)) {                                  \
+            failures++;                                      \
+            printf("line %d: not %s\n", __LINE__, #condition); \
+        }                                                    \
+    } while (0)
+
+/* Font T of document 01: "-" and "4", no background colour. */
+static const uint8_t T[35] = {2,  0, 2,  2,  3,  3, 2, 3,   3,  2, 3,  0, 0,   3,  0,  3, 0, 0,
+                              10, 0, 10, 0, 12, 45, 5, 138, 62, 2, 52, 5, 146, 60, 73, 0, 0};
+
+/* What a call is handed. A test changes what it is about. */
+struct input {
+    const uint8_t *font;
+    size_t font_len;
+    const uint8_t *text;
+    size_t text_len;
+    int32_t x, y;
+    uint32_t anchor, align, line_height, skip, background;
+    size_t width, height, buffer_len;
+};
+
+enum { WIDTH = 16, HEIGHT = 8, CELLS = WIDTH * HEIGHT };
+
+static uint8_t buffer[CELLS + 1];
+static int64_t out[PAPAYAHELM_HEADER_LEN];
+
+static struct input input_of(const char *text) {
+    struct input in = {T, sizeof T, (const uint8_t *)text, strlen(text), 2, 5, 0, 0, 4, 0, 0, WIDTH, HEIGHT, CELLS};
+    return in;
+}
+
+/* The calls on a text; the third argument of each test is which of them can meet the refusal. */
+enum { MEASURE = 1, ALIGNED = 2, DRAW = 4, REDRAW_OLD = 8, REDRAW_NEW = 16, TEXTS = 31, DRAWS = 28 };
+
+static uint32_t call(int which, const struct input *in) {
+    const uint8_t *minus = (const uint8_t *)"-";
+    switch (which) {
+    case MEASURE:
+        return papayahelm_measure(in->font, in->font_len, in->text, in->text_len, in->x, in->y, in->anchor, in->line_height,
+                                  in->skip, out, PAPAYAHELM_OUT_LEN);
+    case ALIGNED:
+        return papayahelm_measure_aligned(in->font, in->font_len, in->text, in->text_len, in->x, in->y, in->anchor, in->align,
+                                          in->line_height, in->skip, out, PAPAYAHELM_OUT_LEN);
+    case DRAW:
+        return papayahelm_draw(in->font, in->font_len, in->text, in->text_len, in->x, in->y, in->anchor, in->line_height,
+                               in->skip, in->background, 1, 2, in->width, in->height, buffer, in->buffer_len, out,
+                               PAPAYAHELM_OUT_LEN);
+    case REDRAW_OLD:
+        return papayahelm_redraw(in->font, in->font_len, in->text, in->text_len, minus, 1, in->x, in->y, in->anchor,
+                                 in->line_height, in->background, 1, 2, 3, in->width, in->height, buffer, in->buffer_len, out,
+                                 PAPAYAHELM_OUT_LEN);
+    default:
+        return papayahelm_redraw(in->font, in->font_len, minus, 1, in->text, in->text_len, in->x, in->y, in->anchor,
+                                 in->line_height, in->background, 1, 2, 3, in->width, in->height, buffer, in->buffer_len, out,
+                                 PAPAYAHELM_OUT_LEN);
+    }
+}
+
+static int buffer_is(uint8_t value) {
+    for (size_t i = 0; i < sizeof buffer; i++)
+        if (buffer[i] != value) return 0;
+    return 1;
+}
+
+static int out_is(int64_t a, int64_t b, int64_t c, int64_t d, int64_t e, int64_t f, int64_t g, int64_t h) {
+    const int64_t expected[PAPAYAHELM_OUT_LEN] = {a, b, c, d, e, f, g, h};
+    return memcmp(out, expected, sizeof expected) == 0;
+}
+
+/* Each of the calls in `which` answers with this status, and after 1 to 6 has changed no pixel. */
+static void refuses(const struct input *in, int which, uint32_t status, int64_t code_point) {
+    for (int one = 1; one < TEXTS; one *= 2) {
+        if ((which & one) == 0) continue;
+        memset(buffer, 9, sizeof buffer);
+        memset(out, 255, sizeof out);
+        CHECK(call(one, in) == status);
+        CHECK(out_is(code_point, 0, 0, 0, 0, 0, 0, 0) && out[PAPAYAHELM_OUT_LEN] == -1);
+        CHECK(status > 6 || buffer_is(9));
+        CHECK(strlen(papayahelm_words(status)) > 10);
+        CHECK(papayahelm_is_taken(status) == (status > 6));
+    }
+}
+
+static void headers(void) {
+    const int64_t expected[PAPAYAHELM_HEADER_LEN] = {2, 0, 2, 2, 3, 3, 2, 3, 3, 2, 3, 0, 0, 3, 0, 3, 0, 10, 10, 12, 4};
+    CHECK(papayahelm_open(T, sizeof T, out, PAPAYAHELM_HEADER_LEN) == PAPAYAHELM_OK);
+    CHECK(memcmp(out, expected, sizeof expected) == 0);
+    CHECK(out[PAPAYAHELM_LINE_HEIGHT] == 4 && out[PAPAYAHELM_FONT_BOX_HEIGHT] == 3 && out[PAPAYAHELM_ASCENT] == 3);
+    /* what is stored in the order of the enum */
+    uint8_t font[23];
+    for (int i = 0; i < 23; i++) font[i] = (uint8_t)(i < 9 ? i % 8 + 1 : 100 + i);
+    CHECK(papayahelm_open(font, 23, out, PAPAYAHELM_HEADER_LEN) == PAPAYAHELM_OK);
+    CHECK(out[PAPAYAHELM_GLYPH_COUNT] == 1 && out[PAPAYAHELM_SUPPORTS_BACKGROUND_COLOR] == 1);
+    CHECK(out[PAPAYAHELM_M0] == 3 && out[PAPAYAHELM_M1] == 4 && out[PAPAYAHELM_BITCNT_W] == 5 && out[PAPAYAHELM_BITCNT_H] == 6);
+    CHECK(out[PAPAYAHELM_BITCNT_X] == 7 && out[PAPAYAHELM_BITCNT_Y] == 8 && out[PAPAYAHELM_BITCNT_D] == 1);
+    CHECK(out[PAPAYAHELM_FONT_BOX_WIDTH] == 109 && out[PAPAYAHELM_FONT_BOX_HEIGHT] == 110);
+    CHECK(out[PAPAYAHELM_FONT_BOX_X] == 111 && out[PAPAYAHELM_FONT_BOX_Y] == 112);
+    CHECK(out[PAPAYAHELM_ASCENT] == 113 && out[PAPAYAHELM_DESCENT] == 114);
+    CHECK(out[PAPAYAHELM_ASCENT_OF_PARENTHESES] == 115 && out[PAPAYAHELM_DESCENT_OF_PARENTHESES] == 116);
+    CHECK(out[PAPAYAHELM_OFFSET_UPPER_A] == 117 * 256 + 118 && out[PAPAYAHELM_OFFSET_LOWER_A] == 119 * 256 + 120);
+    CHECK(out[PAPAYAHELM_OFFSET_0X0100] == 121 * 256 + 122 && out[PAPAYAHELM_LINE_HEIGHT] == 111);
+    /* refused: nothing is stored */
+    memset(out, 255, sizeof out);
+    CHECK(papayahelm_open(T, 22, out, PAPAYAHELM_HEADER_LEN) == PAPAYAHELM_FONT_LENGTH);
+    font[10] = 128;
+    CHECK(papayahelm_open(font, 23, out, PAPAYAHELM_HEADER_LEN) == PAPAYAHELM_FONT_HEADER);
+    CHECK(papayahelm_open(T, sizeof T, out, PAPAYAHELM_HEADER_LEN - 1) == PAPAYAHELM_BAD_ARGUMENT);
+    CHECK(out[0] == -1 && out[20] == -1);
+    CHECK(papayahelm_font_box(T, 22, PAPAYAHELM_ANCHOR_TOP, out, PAPAYAHELM_OUT_LEN) == PAPAYAHELM_FONT_LENGTH);
+    CHECK(out_is(0, 0, 0, 0, 0, 0, 0, 0));
+    CHECK(papayahelm_font_box(font, 23, PAPAYAHELM_ANCHOR_TOP, out, PAPAYAHELM_OUT_LEN) == PAPAYAHELM_FONT_HEADER);
+    CHECK(papayahelm_font_box(T, sizeof T, 4, out, PAPAYAHELM_OUT_LEN) == PAPAYAHELM_BAD_ARGUMENT);
+}
+
+static void boxes(void) {
+    const int64_t tops[4] = {-3, 1, -1, -3};
+    for (uint32_t anchor = 0; anchor < 4; anchor++) {
+        CHECK(papayahelm_font_box(T, sizeof T, anchor, out, PAPAYAHELM_OUT_LEN) == PAPAYAHELM_OK);
+        CHECK(out_is(0, 0, 0, 1, 0, tops[anchor], 2, 3));
+    }
+}
+
+static void texts(void) {
+    struct input in = input_of("-4");
+    CHECK(call(MEASURE, &in) == PAPAYAHELM_OK && out_is(0, 6, 0, 1, 2, 2, 5, 3));
+    const int64_t lefts[3] = {2, 0, -3};
+    for (in.align = 0; in.align < 3; in.align++) CHECK(call(ALIGNED, &in) == PAPAYAHELM_OK && out_is(0, 0, 0, 1, lefts[in.align], 2, 5, 3));
+    in = input_of("");
+    CHECK(call(MEASURE, &in) == PAPAYAHELM_OK && out_is(0, 0, 0, 0, 0, 0, 0, 0));
+    in = input_of("-\n4");
+    CHECK(call(MEASURE, &in) == PAPAYAHELM_OK && out_is(0, 3, 4, 1, 2, 2, 2, 7));
+    in = input_of("-A4");
+    in.skip = 1;
+    CHECK(call(MEASURE, &in) == PAPAYAHELM_OK && out_is(0, 6, 0, 1, 2, 2, 5, 3));
+    CHECK(call(ALIGNED, &in) == PAPAYAHELM_OK && out_is(0, 0, 0, 1, 2, 2, 5, 3));
+}
+
+static void drawings(void) {
+    struct input in = input_of("-4");
+    memset(buffer, 9, sizeof buffer);
+    CHECK(call(DRAW, &in) == PAPAYAHELM_OK && out_is(0, 6, 0, 1, 2, 2, 5, 3));
+    int set = 0;
+    for (int i = 0; i < CELLS; i++) set += buffer[i] == 1;
+    CHECK(set == 5 && buffer[2 * WIDTH + 2] == 1 && buffer[2 * WIDTH + 3] == 1 && buffer[CELLS] == 9);
+    CHECK(buffer[3 * WIDTH + 5] == 1 && buffer[4 * WIDTH + 5] == 1 && buffer[4 * WIDTH + 6] == 1);
+    /* with a background colour, in a font that allows it */
+    uint8_t font[sizeof T];
+    memcpy(font, T, sizeof T);
+    font[1] = 1;
+    in = input_of("4");
+    in.font = font;
+    in.background = 1;
+    CHECK(call(DRAW, &in) == PAPAYAHELM_OK && buffer[3 * WIDTH + 2] == 1 && buffer[3 * WIDTH + 3] == 2);
+    /* over the old text, which is cleared with 3 */
+    memset(buffer, 9, sizeof buffer);
+    in = input_of("4");
+    CHECK(call(REDRAW_NEW, &in) == PAPAYAHELM_OK && out_is(0, 3, 0, 1, 2, 3, 2, 2));
+    CHECK(buffer[2 * WIDTH + 2] == 3 && buffer[2 * WIDTH + 3] == 3 && buffer[3 * WIDTH + 2] == 1 && buffer[3 * WIDTH + 3] == 9);
+}
+
+static void refusals(void) {
+    struct input in = input_of("-");
+    in.font_len = 22;
+    refuses(&in, TEXTS, PAPAYAHELM_FONT_LENGTH, 0);
+    uint8_t *long_font = (uint8_t *)calloc(1048577, 1);
+    if (long_font == NULL) exit(2);
+    in.font = long_font;
+    in.font_len = 1048577;
+    refuses(&in, TEXTS, PAPAYAHELM_FONT_LENGTH, 0);
+    in.font_len = 1048576;
+    refuses(&in, TEXTS, PAPAYAHELM_FONT_HEADER, 0);
+    free(long_font);
+
+    in = input_of("-");
+    in.width = 0;
+    refuses(&in, DRAWS, PAPAYAHELM_FRAMEBUFFER_SIZE, 0);
+    in.width = 257;
+    refuses(&in, DRAWS, PAPAYAHELM_FRAMEBUFFER_SIZE, 0);
+    in.width = (size_t)-1;
+    in.height = (size_t)-1;
+    in.buffer_len = 1;
+    refuses(&in, DRAWS, PAPAYAHELM_FRAMEBUFFER_SIZE, 0);
+    in = input_of("-");
+    in.buffer_len = CELLS + 1;
+    refuses(&in, DRAWS, PAPAYAHELM_FRAMEBUFFER_SIZE, 0);
+
+    in = input_of("-\xFF");
+    refuses(&in, TEXTS, PAPAYAHELM_TEXT_ENCODING, 0);
+    char long_text[4098];
+    memset(long_text, '\n', 4097);
+    long_text[4097] = 0;
+    in = input_of(long_text);
+    refuses(&in, TEXTS, PAPAYAHELM_TEXT_ENCODING, 0);
+    in.text_len = 4096;
+    CHECK(call(MEASURE, &in) == PAPAYAHELM_OK && out[PAPAYAHELM_ADVANCE_Y] == 4 * 4096);
+
+    in = input_of("-");
+    in.x = 1048577;
+    refuses(&in, TEXTS, PAPAYAHELM_POSITION_OR_LINE_HEIGHT, 0);
+    in = input_of("-");
+    in.y = -1048577;
+    refuses(&in, TEXTS, PAPAYAHELM_POSITION_OR_LINE_HEIGHT, 0);
+    in = input_of("-");
+    in.line_height = 65536;
+    refuses(&in, TEXTS, PAPAYAHELM_POSITION_OR_LINE_HEIGHT, 0);
+
+    in = input_of("-");
+    in.background = 1;
+    refuses(&in, DRAWS, PAPAYAHELM_BACKGROUND_COLOR_NOT_SUPPORTED, 0);
+
+    in = input_of("-A");
+    refuses(&in, TEXTS & ~REDRAW_OLD, PAPAYAHELM_GLYPH_NOT_FOUND, 'A');
+    in = input_of("-\xF4\x8F\xBF\xBF");
+    refuses(&in, TEXTS & ~REDRAW_OLD, PAPAYAHELM_GLYPH_NOT_FOUND, 0x10FFFF);
+
+    /* without its last two bytes T has no end of its list, without three "4" can be measured but not drawn */
+    in = input_of("A");
+    in.font_len = 33;
+    refuses(&in, TEXTS & ~REDRAW_OLD, PAPAYAHELM_FONT_ENDS, 'A');
+    in.skip = 1;
+    refuses(&in, MEASURE | ALIGNED | DRAW, PAPAYAHELM_FONT_ENDS, 'A');
+    in = input_of("-4");
+    in.font_len = 32;
+    CHECK(call(MEASURE, &in) == PAPAYAHELM_OK);
+    refuses(&in, DRAW, PAPAYAHELM_FONT_ENDS, '4');
+    CHECK(buffer[2 * WIDTH + 2] == 1); /* the character before is drawn */
+    refuses(&in, REDRAW_NEW, PAPAYAHELM_FONT_ENDS, '4');
+    CHECK(buffer[2 * WIDTH + 2] == 3); /* the old text is cleared */
+    buffer[2 * WIDTH + 2] = buffer[2 * WIDTH + 3] = 9;
+    CHECK(buffer_is(9)); /* and nothing else has changed */
+}
+
+static void screens(void) {
+    uint8_t panel[CELLS], alone[CELLS];
+    int64_t answer[PAPAYAHELM_OUT_LEN];
+    struct papayahelm_screen screen;
+    memset(&screen, 0, sizeof screen);
+    screen.font = T;
+    screen.font_len = sizeof T;
+    screen.x = 2;
+    screen.y = 5;
+    screen.anchor = PAPAYAHELM_ANCHOR_BASELINE;
+    screen.line_height = 4;
+    screen.fg = 1;
+    screen.clear_color = 9;
+    screen.width = WIDTH;
+    screen.height = HEIGHT;
+    screen.buffer = panel;
+    screen.buffer_len = sizeof panel;
+    memset(panel, 9, sizeof panel);
+    memset(alone, 9, sizeof alone);
+    CHECK(papayahelm_draw(T, sizeof T, (const uint8_t *)"4", 1, 2, 5, 0, 4, 0, 0, 1, 0, WIDTH, HEIGHT, alone, CELLS, out, 8) == 0);
+    CHECK(papayahelm_show(&screen, "", "-4-", answer) == PAPAYAHELM_OK && answer[PAPAYAHELM_ADVANCE_X] == 9);
+    CHECK(memcmp(panel, alone, CELLS) != 0);
+    CHECK(papayahelm_show(&screen, "-4-", "4", answer) == PAPAYAHELM_OK && answer[PAPAYAHELM_HAS_BOX] == 1);
+    CHECK(memcmp(panel, alone, CELLS) == 0);
+    CHECK(answer[PAPAYAHELM_BOX_LEFT] == 2 && answer[PAPAYAHELM_BOX_TOP] == 3);
+    CHECK(answer[PAPAYAHELM_BOX_WIDTH] == 2 && answer[PAPAYAHELM_BOX_HEIGHT] == 2 && answer[PAPAYAHELM_ADVANCE_Y] == 0);
+    /* 6: the old text stands, and is the next step's old text again */
+    screen.background = 1;
+    CHECK(papayahelm_show(&screen, "4", "-", answer) == PAPAYAHELM_BACKGROUND_COLOR_NOT_SUPPORTED);
+    CHECK(memcmp(panel, alone, CELLS) == 0);
+    /* 7: the old text is cleared */
+    screen.background = 0;
+    CHECK(papayahelm_show(&screen, "4", "45", answer) == PAPAYAHELM_GLYPH_NOT_FOUND && answer[PAPAYAHELM_CODE_POINT] == '5');
+    memset(alone, 9, sizeof alone);
+    CHECK(memcmp(panel, alone, CELLS) == 0);
+    CHECK(papayahelm_show(&screen, "45", "4", answer) == PAPAYAHELM_OK);
+}
+
+static void words(void) {
+    for (uint32_t a = 0; a < 10; a++)
+        for (uint32_t b = 0; b < a; b++) CHECK(strcmp(papayahelm_words(a), papayahelm_words(b)) != 0);
+    CHECK(strcmp(papayahelm_words(PAPAYAHELM_BAD_ARGUMENT), papayahelm_words(254)) != 0);
+    CHECK(papayahelm_is_taken(0) && !papayahelm_is_taken(255) && !papayahelm_is_taken(9));
+}
+
+int main(void) {
+    headers();
+    boxes();
+    texts();
+    drawings();
+    refusals();
+    screens();
+    words();
+    printf("%d checks, %d failed\n", checks, failures);
+    return failures != 0;
+}

@@ -1,0 +1,74 @@
+//! Reads fonts in the [U8g2 format](https://github.com/olikraus/u8g2/wiki/u8g2fontformat), measures
+//! texts in them and draws them into a framebuffer: safe calls of the static library `libc_api.a`,
+//! which is written in Rattle and proved.
+//!
+//! Two things hold whichever bytes come in. What is measured is what is drawn. And no font stops
+//! the program: one that cannot be read is refused with an [`Error`] that says why; every call ends
+//! and answers.
+//!
+//! # The redraw step
+//!
+//! [`FontRenderer::redraw`] shows the next reading in place of the one that stands, whole or not at
+//! all:
+//!
+//! ```
+//! use papayahelm::{standing, FontColor, FontRenderer, Framebuffer, Place, Point};
+//!
+//! # // Font T of the tests: "-" and "4".
+//! # const BYTES: [u8; 35] = [
+//! #     2, 0, 2, 2, 3, 3, 2, 3, 3, 2, 3, 0, 0, 3, 0, 3, 0, 0, 10, 0, 10, 0, 12,
+//! #     45, 5, 138, 62, 2, 52, 5, 146, 60, 73, 0, 0,
+//! # ];
+//! # fn main() -> Result<(), papayahelm::Error> {
+//! # let bytes = &BYTES;
+//! let font = FontRenderer::new_from_raw_data(bytes)?;
+//! let mut panel = Framebuffer { width: 32, height: 16, pixels: &mut [0; 32 * 16] };
+//! let place = Place::new(Point::new(2, 12), FontColor::Transparent(1));
+//!
+//! let mut shown = ""; // the text that stands: at first none
+//! for text in ["-4", "4-4", "45"] {
+//!     let answer = font.redraw(shown, text, place, &mut panel);
+//!     match &answer {
+//!         Ok(drawn) => println!("{text}: drawn, advance {}", drawn.advance.x),
+//!         // the old text is cleared, and nothing of the new one is drawn
+//!         Err(refusal) => println!("{text}: {refusal}"),
+//!     }
+//!     shown = standing(&answer, shown, text);
+//! }
+//! # let refusal = font.redraw(shown, "45", place, &mut panel).unwrap_err();
+//! # assert_eq!(refusal.to_string(), "the font has no glyph for '5' (U+0035)");
+//! # assert_eq!(shown, "45");
+//! # assert!(panel.pixels.iter().all(|pixel| *pixel == 0));
+//! # Ok(())
+//! # }
+//! ```
+//!
+//! # Limits
+//!
+//! The static library is for x86-64. A font has 23 to 1,048,576 bytes, a text up to 4,096 bytes of
+//! UTF-8. A framebuffer has one byte a pixel and is 1 to 256 pixels wide and high. What is beyond
+//! is refused, with nothing changed.
+//!
+//! # Linking
+//!
+//! `rt staticlib c_api` in the repository writes target/staticlib/libc_api.a, where the build
+//! script looks for it. The variable `PAPAYAHELM_LIB_DIR` names another folder.
+
+#![no_std]
+#![warn(missing_docs)]
+#![warn(clippy::undocumented_unsafe_blocks)]
+
+mod error;
+mod framebuffer;
+mod geometry;
+mod header;
+mod raw;
+mod renderer;
+mod style;
+
+pub use error::Error;
+pub use framebuffer::Framebuffer;
+pub use geometry::{Point, Rectangle, RenderedDimensions, Size};
+pub use header::FontHeader;
+pub use renderer::{is_taken, standing, FontRenderer};
+pub use style::{FontColor, HorizontalAlignment, Place, VerticalPosition};

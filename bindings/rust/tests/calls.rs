@@ -1,0 +1,532 @@
+//! Every call of the package: what it answers, and each refusal that it can meet.
+
+use papayahelm::{
+    is_taken, standing, Error, FontColor, FontHeader, FontRenderer, Framebuffer,
+    HorizontalAlignment, Place, Point, Rectangle, RenderedDimensions, Size, VerticalPosition,
+};
+
+/// "-" (2 × 1 pixels) and "4" (2 × 2), line height 4, no background colour.
+const T: &[u8; 35] = include_bytes!("../../../fonts/t.bin");
+
+/// Digits and signs, with a background colour.
+const GAUGE: &[u8] = include_bytes!("../../../fonts/gauge.bin");
+
+const ANCHORS: [VerticalPosition; 4] = [
+    VerticalPosition::Baseline,
+    VerticalPosition::Top,
+    VerticalPosition::Center,
+    VerticalPosition::Bottom,
+];
+
+const INK: FontColor = FontColor::Transparent(1);
+const INK_ON_PAPER: FontColor = FontColor::WithBackground { fg: 1, bg: 2 };
+const HERE: Point = Point::new(10, 20);
+
+fn font(bytes: &[u8]) -> FontRenderer<'_> {
+    FontRenderer::new_from_raw_data(bytes).expect("a font that opens")
+}
+
+/// T with one byte changed.
+fn changed(at: usize, value: u8) -> [u8; 35] {
+    let mut bytes = *T;
+    bytes[at] = value;
+    bytes
+}
+
+fn area(left: i32, top: i32, width: u32, height: u32) -> Rectangle {
+    Rectangle::new(Point::new(left, top), Size::new(width, height))
+}
+
+fn dimensions(advance: (i32, i32), bounding_box: Option<Rectangle>) -> RenderedDimensions {
+    RenderedDimensions { advance: Point::new(advance.0, advance.1), bounding_box }
+}
+
+fn picture(framebuffer: &Framebuffer) -> Vec<String> {
+    let letter = |pixel: &u8| char::from_digit(u32::from(*pixel), 10).expect("a digit");
+    framebuffer.rows().map(|row| row.iter().map(letter).collect()).collect()
+}
+
+#[test]
+fn header_by_name() {
+    let expected = FontHeader {
+        glyph_count: 2,
+        supports_background_color: false,
+        m0: 2,
+        m1: 2,
+        bitcnt_w: 3,
+        bitcnt_h: 3,
+        bitcnt_x: 2,
+        bitcnt_y: 3,
+        bitcnt_d: 3,
+        font_bounding_box_width: 2,
+        font_bounding_box_height: 3,
+        font_bounding_box_x_offset: 0,
+        font_bounding_box_y_offset: 0,
+        ascent: 3,
+        descent: 0,
+        ascent_of_parentheses: 3,
+        descent_of_parentheses: 0,
+        array_offset_upper_a: 10,
+        array_offset_lower_a: 10,
+        array_offset_0x0100: 12,
+        line_height: 4,
+    };
+    assert_eq!(font(T).header(), Ok(expected));
+}
+
+/// A header in which no two values are alike, negative ones among them.
+#[test]
+fn header_values_are_not_exchanged() {
+    let bytes = [
+        9,
+        1,
+        0,
+        1,
+        2,
+        3,
+        4,
+        5,
+        6,
+        100,
+        101,
+        256 - 102,
+        256 - 103,
+        104,
+        256 - 105,
+        106,
+        256 - 107,
+        1,
+        2,
+        3,
+        4,
+        5,
+        6,
+    ]
+    .map(|value: i32| value as u8);
+    let header = font(&bytes).header().unwrap();
+    assert!(header.supports_background_color);
+    let bits = [header.m0, header.m1, header.bitcnt_w, header.bitcnt_h];
+    assert_eq!((header.glyph_count, bits), (9, [0, 1, 2, 3]));
+    assert_eq!([header.bitcnt_x, header.bitcnt_y, header.bitcnt_d], [4, 5, 6]);
+    let side = (header.font_bounding_box_width, header.font_bounding_box_height);
+    let offset = (header.font_bounding_box_x_offset, header.font_bounding_box_y_offset);
+    assert_eq!((side, offset), ((100, 101), (-102, -103)));
+    assert_eq!((header.ascent, header.descent), (104, -105));
+    assert_eq!((header.ascent_of_parentheses, header.descent_of_parentheses), (106, -107));
+    assert_eq!(header.array_offset_upper_a, 0x0102);
+    assert_eq!(header.array_offset_lower_a, 0x0304);
+    assert_eq!(header.array_offset_0x0100, 0x0506);
+    assert_eq!(header.line_height, 102);
+    assert_eq!(font(&bytes).get_ascent(), Ok(104));
+    assert_eq!(font(&bytes).get_descent(), Ok(-105));
+    assert_eq!(font(&bytes).get_default_line_height(), Ok(102));
+    let whole = area(-102, -(101 - 103), 100, 101);
+    assert_eq!(font(&bytes).get_font_bounding_box(VerticalPosition::Baseline), Ok(whole));
+}
+
+#[test]
+fn font_box_from_each_anchor() {
+    let tops = ANCHORS.map(|anchor| font(T).get_font_bounding_box(anchor).unwrap());
+    assert_eq!(tops, [-3, 1, -1, -3].map(|top| area(0, top, 2, 3)));
+}
+
+#[test]
+fn measures() {
+    let measure =
+        |text: &str| font(T).get_rendered_dimensions(text, HERE, VerticalPosition::Baseline);
+    assert_eq!(measure("-"), Ok(dimensions((3, 0), Some(area(10, 17, 2, 1)))));
+    assert_eq!(measure("4"), Ok(dimensions((3, 0), Some(area(10, 18, 2, 2)))));
+    assert_eq!(measure("-4"), Ok(dimensions((6, 0), Some(area(10, 17, 5, 3)))));
+    assert_eq!(measure("-\n4"), Ok(dimensions((3, 4), Some(area(10, 17, 2, 7)))));
+    assert_eq!(measure(""), Ok(RenderedDimensions::default()));
+    let anchored = |anchor| font(T).get_rendered_dimensions("-", HERE, anchor).unwrap();
+    let tops = ANCHORS.map(|anchor| anchored(anchor).bounding_box.unwrap().top_left.y);
+    assert_eq!(tops, [17, 21, 19, 17]);
+}
+
+#[test]
+fn measures_aligned() {
+    let aligned = |text: &str, align| {
+        font(T).get_rendered_dimensions_aligned(text, HERE, VerticalPosition::Baseline, align)
+    };
+    assert_eq!(aligned("-4", HorizontalAlignment::Left), Ok(Some(area(10, 17, 5, 3))));
+    assert_eq!(aligned("-4", HorizontalAlignment::Center), Ok(Some(area(8, 17, 5, 3))));
+    assert_eq!(aligned("-4", HorizontalAlignment::Right), Ok(Some(area(5, 17, 5, 3))));
+    assert_eq!(aligned("", HorizontalAlignment::Right), Ok(None));
+    let anchored = |anchor| {
+        font(T).get_rendered_dimensions_aligned("-", HERE, anchor, HorizontalAlignment::Left)
+    };
+    assert_eq!(ANCHORS.map(anchored), [17, 21, 19, 17].map(|top| Ok(Some(area(10, top, 2, 1)))));
+}
+
+#[test]
+fn line_height_and_skipping_are_settings() {
+    let measure = |font: FontRenderer, text: &str| {
+        font.get_rendered_dimensions(text, HERE, VerticalPosition::Baseline)
+    };
+    let tall = font(T).with_line_height(9);
+    assert_eq!(measure(tall, "-\n4"), Ok(dimensions((3, 9), Some(area(10, 17, 2, 12)))));
+    let skipping = font(T).with_ignore_unknown_chars(true);
+    assert_eq!(measure(skipping, "-A4"), measure(font(T), "-4"));
+    let left = HorizontalAlignment::Left;
+    let aligned =
+        skipping.get_rendered_dimensions_aligned("-A4", HERE, VerticalPosition::Baseline, left);
+    assert_eq!(aligned, Ok(Some(area(10, 17, 5, 3))));
+    let mut panel = Framebuffer { width: 8, height: 8, pixels: &mut [0; 64] };
+    let drawn =
+        skipping.render("-A4", Point::new(0, 7), VerticalPosition::Baseline, INK, &mut panel);
+    assert_eq!(drawn, Ok(dimensions((6, 0), Some(area(0, 4, 5, 3)))));
+    // the redraw step skips nothing
+    let place = Place::new(Point::new(0, 7), INK);
+    assert_eq!(skipping.redraw("", "-A4", place, &mut panel), Err(Error::GlyphNotFound('A')));
+    assert_eq!(skipping.with_ignore_unknown_chars(false), font(T));
+}
+
+#[test]
+fn a_constant_font_is_not_looked_at() {
+    const FONT: FontRenderer = FontRenderer::new_unread(T, 4);
+    assert_eq!(FONT, font(T));
+    assert_eq!(
+        format!("{FONT:?}"),
+        "FontRenderer { bytes: 35, line_height: 4, ignore_unknown_chars: false }"
+    );
+}
+
+#[test]
+fn renders() {
+    let mut panel = Framebuffer { width: 6, height: 5, pixels: &mut [0; 30] };
+    let answer =
+        font(T).render("-4", Point::new(0, 4), VerticalPosition::Baseline, INK, &mut panel);
+    assert_eq!(answer, Ok(dimensions((6, 0), Some(area(0, 1, 5, 3)))));
+    assert_eq!(picture(&panel), ["000000", "110000", "000100", "000110", "000000"]);
+
+    let background = changed(1, 1);
+    let answer = font(&background).render(
+        "4",
+        Point::new(1, 0),
+        VerticalPosition::Top,
+        INK_ON_PAPER,
+        &mut panel,
+    );
+    assert_eq!(answer, Ok(dimensions((3, 0), Some(area(1, 2, 2, 2)))));
+    assert_eq!(picture(&panel), ["000000", "110000", "012100", "011110", "000000"]);
+
+    // a part that is seen, and none
+    let mut panel = Framebuffer { width: 3, height: 2, pixels: &mut [0; 6] };
+    let answer =
+        font(T).render("4", Point::new(-1, 1), VerticalPosition::Baseline, INK, &mut panel);
+    assert_eq!(
+        (answer.unwrap().bounding_box, picture(&panel)),
+        (Some(area(-1, -1, 2, 2)), vec!["100".into(), "000".into()])
+    );
+    let answer = font(T).render("4", Point::new(0, 9), VerticalPosition::Baseline, INK, &mut panel);
+    assert!(answer.is_ok() && picture(&panel) == ["100", "000"]);
+}
+
+#[test]
+fn text_is_a_string_or_bytes() {
+    let measure = |text: &dyn AsRef<[u8]>| {
+        font(GAUGE).get_rendered_dimensions(text.as_ref(), HERE, VerticalPosition::Baseline)
+    };
+    let string = String::from("-12.5°");
+    assert_eq!(measure(&string), measure(&"-12.5°"));
+    assert_eq!(measure(&string.as_bytes()), measure(&b"-12.5\xC2\xB0"));
+    assert_eq!(measure(&b"-12.5\xC2"), Err(Error::TextEncoding));
+    let place = Place::new(HERE, INK);
+    let mut panel = Framebuffer { width: 64, height: 32, pixels: &mut [0; 64 * 32] };
+    assert!(font(GAUGE).redraw(b"", &string, place, &mut panel).is_ok());
+    assert!(font(GAUGE).redraw(string, vec![b'7'], place, &mut panel).is_ok());
+}
+
+/// Each reading over the one before shows what it shows alone, or nothing.
+#[test]
+fn redraws() {
+    let place = Place {
+        vertical_pos: VerticalPosition::Top,
+        background: 3,
+        ..Place::new(Point::new(1, 1), INK)
+    };
+    let alone = |text: &str| {
+        let mut pixels = [3; 12 * 8];
+        let mut panel = Framebuffer { width: 12, height: 8, pixels: &mut pixels };
+        let answer =
+            font(T).render(text, place.position, place.vertical_pos, place.color, &mut panel);
+        (answer, pixels)
+    };
+    let mut panel = Framebuffer { width: 12, height: 8, pixels: &mut [3; 12 * 8] };
+    let mut shown = "";
+    for text in ["-4-", "4", "", "4-", "-5", "-", "45-", "44"] {
+        let answer = font(T).redraw(shown, text, place, &mut panel);
+        let (expected, mut pixels) = alone(text);
+        assert_eq!(answer, expected);
+        if answer.is_err() {
+            assert_eq!(answer, Err(Error::GlyphNotFound('5')));
+            pixels = [3; 12 * 8];
+        }
+        assert_eq!(panel.pixels, pixels, "{text}");
+        assert!(is_taken(&answer));
+        shown = standing(&answer, shown, text);
+        assert_eq!(shown, text);
+    }
+    // refused before a pixel changes: "44" still stands
+    for wrong in [&b"\xFF"[..], &[b'-'; 4097]] {
+        let before = panel.pixels.to_vec();
+        let answer = font(T).redraw(shown, wrong, place, &mut panel);
+        assert_eq!((answer, is_taken(&answer)), (Err(Error::TextEncoding), false));
+        assert_eq!(panel.pixels, before);
+        assert_eq!(standing(&answer, shown.as_bytes(), wrong), b"44");
+    }
+}
+
+#[test]
+fn redraws_with_a_background_colour() {
+    let mut panel = Framebuffer { width: 4, height: 4, pixels: &mut [0; 16] };
+    let bytes = changed(1, 1);
+    let place = Place::new(Point::new(0, 3), INK_ON_PAPER);
+    assert!(font(&bytes).redraw("", "4", place, &mut panel).is_ok());
+    assert_eq!(picture(&panel), ["0000", "1200", "1100", "0000"]);
+    assert!(font(&bytes).redraw("4", "-", place, &mut panel).is_ok());
+    assert_eq!(picture(&panel), ["1100", "0000", "0000", "0000"]);
+}
+
+#[test]
+fn framebuffers_by_their_pixels() {
+    let mut pixels = [0, 1, 2, 3, 4, 5];
+    let panel = Framebuffer { width: 3, height: 2, pixels: &mut pixels };
+    assert!(panel.rows().eq([&[0, 1, 2], &[3, 4, 5]]));
+    assert_eq!(panel.bounding_box(), area(0, 0, 3, 2));
+    assert_eq!(panel.pixel(Point::new(2, 1)), Some(5));
+    for (x, y) in [(3, 0), (0, 2), (-1, 0), (0, -1), (i32::MIN, i32::MAX)] {
+        assert_eq!(panel.pixel(Point::new(x, y)), None);
+    }
+    // sizes that no call takes
+    for (width, height) in [(0, 2), (3, 0), (usize::MAX, usize::MAX), (7, 1)] {
+        let panel = Framebuffer { width, height, pixels: &mut pixels };
+        assert_eq!((panel.rows().count(), panel.pixel(Point::new(0, 0))), (0, None));
+        assert_eq!(panel.bounding_box().size.width, u32::try_from(width).unwrap_or(u32::MAX));
+    }
+}
+
+/// What a call on a text is handed. A test changes what it is about.
+#[derive(Clone)]
+struct Input<'a> {
+    font: &'a [u8],
+    line_height: u32,
+    skip: bool,
+    text: &'a [u8],
+    at: Point,
+    color: FontColor,
+    size: (usize, usize),
+    bytes: usize,
+}
+
+const PLAIN: Input = Input {
+    font: T,
+    line_height: 4,
+    skip: false,
+    text: b"-",
+    at: Point::new(1, 5),
+    color: INK,
+    size: (8, 8),
+    bytes: 64,
+};
+
+#[derive(Clone, Copy, PartialEq, Debug)]
+enum Call {
+    Measure,
+    Aligned,
+    Render,
+    RedrawOld,
+    RedrawNew,
+}
+
+const ON_TEXTS: &[Call] =
+    &[Call::Measure, Call::Aligned, Call::Render, Call::RedrawOld, Call::RedrawNew];
+const DRAWING: &[Call] = &[Call::Render, Call::RedrawOld, Call::RedrawNew];
+const LETTERS: &[Call] = &[Call::Measure, Call::Aligned, Call::Render, Call::RedrawNew];
+
+/// The refusal, and what the framebuffer holds afterwards; it was filled with 9.
+fn refusal(call: Call, input: &Input) -> (Option<Error>, Vec<u8>) {
+    let font = FontRenderer::new_unread(input.font, input.line_height)
+        .with_ignore_unknown_chars(input.skip);
+    let anchor = VerticalPosition::Baseline;
+    let place = Place { background: 3, ..Place::new(input.at, input.color) };
+    let mut pixels = vec![9; input.bytes];
+    let mut panel = Framebuffer { width: input.size.0, height: input.size.1, pixels: &mut pixels };
+    let error = match call {
+        Call::Measure => font.get_rendered_dimensions(input.text, input.at, anchor).err(),
+        Call::Aligned => font
+            .get_rendered_dimensions_aligned(
+                input.text,
+                input.at,
+                anchor,
+                HorizontalAlignment::Right,
+            )
+            .err(),
+        Call::Render => font.render(input.text, input.at, anchor, input.color, &mut panel).err(),
+        Call::RedrawOld => font.redraw(input.text, "-", place, &mut panel).err(),
+        Call::RedrawNew => font.redraw("-", input.text, place, &mut panel).err(),
+    };
+    (error, pixels)
+}
+
+/// Each of the calls is refused so, and after the first six numbers no pixel has changed.
+fn refused(calls: &[Call], input: &Input, error: Error) {
+    for call in calls {
+        let (found, pixels) = refusal(*call, input);
+        assert_eq!(found, Some(error), "{call:?}");
+        assert!(error.number() > 6 || pixels.iter().all(|pixel| *pixel == 9), "{call:?}");
+    }
+}
+
+#[test]
+fn nothing_is_refused_without_a_cause() {
+    for call in ON_TEXTS {
+        assert_eq!(refusal(*call, &PLAIN).0, None, "{call:?}");
+    }
+}
+
+#[test]
+fn refuses_1_font_length() {
+    let long = vec![0; 1_048_577];
+    for bytes in [&[][..], &T[..22], &long] {
+        assert_eq!(FontRenderer::new_from_raw_data(bytes), Err(Error::FontLength));
+        let unread = FontRenderer::new_unread(bytes, 4);
+        assert_eq!(unread.header(), Err(Error::FontLength));
+        assert_eq!(unread.get_ascent(), Err(Error::FontLength));
+        assert_eq!(unread.get_descent(), Err(Error::FontLength));
+        assert_eq!(unread.get_default_line_height(), Err(Error::FontLength));
+        assert_eq!(unread.get_font_bounding_box(VerticalPosition::Top), Err(Error::FontLength));
+        refused(ON_TEXTS, &Input { font: bytes, ..PLAIN }, Error::FontLength);
+    }
+    assert!(FontRenderer::new_from_raw_data(&T[..23]).is_ok());
+}
+
+#[test]
+fn refuses_2_font_header() {
+    let wrong = (2..6).map(|at| changed(at, 9)).chain((6..9).map(|at| changed(at, 0)));
+    for bytes in wrong.chain((9..11).map(|at| changed(at, 128))) {
+        assert_eq!(FontRenderer::new_from_raw_data(&bytes), Err(Error::FontHeader));
+        let unread = FontRenderer::new_unread(&bytes, 4);
+        assert_eq!(unread.get_font_bounding_box(VerticalPosition::Top), Err(Error::FontHeader));
+        refused(ON_TEXTS, &Input { font: &bytes, ..PLAIN }, Error::FontHeader);
+    }
+}
+
+#[test]
+fn refuses_3_framebuffer_size() {
+    for size in [(0, 8), (8, 0), (257, 8), (8, 257), (8, 9), (usize::MAX, usize::MAX)] {
+        refused(DRAWING, &Input { size, ..PLAIN }, Error::FramebufferSize);
+    }
+    for bytes in [0, 63, 65] {
+        refused(DRAWING, &Input { bytes, ..PLAIN }, Error::FramebufferSize);
+    }
+}
+
+#[test]
+fn refuses_4_text_encoding() {
+    for text in [&b"\xFF"[..], b"-\xC2", b"\xED\xA0\x80", &[b'-'; 4097]] {
+        refused(ON_TEXTS, &Input { text, ..PLAIN }, Error::TextEncoding);
+    }
+}
+
+#[test]
+fn refuses_5_position_or_line_height() {
+    for (x, y) in [(1_048_577, 0), (-1_048_577, 0), (0, 1_048_577), (0, i32::MIN)] {
+        refused(ON_TEXTS, &Input { at: Point::new(x, y), ..PLAIN }, Error::PositionOrLineHeight);
+    }
+    refused(ON_TEXTS, &Input { line_height: 65_536, ..PLAIN }, Error::PositionOrLineHeight);
+}
+
+#[test]
+fn refuses_6_background_color_not_supported() {
+    refused(DRAWING, &Input { color: INK_ON_PAPER, ..PLAIN }, Error::BackgroundColorNotSupported);
+}
+
+#[test]
+fn refuses_7_glyph_not_found() {
+    for ch in ['A', '5', '\u{100}', '\u{10FFFF}'] {
+        let text = format!("-{ch}");
+        refused(LETTERS, &Input { text: text.as_bytes(), ..PLAIN }, Error::GlyphNotFound(ch));
+        assert_eq!(refusal(Call::RedrawOld, &Input { text: text.as_bytes(), ..PLAIN }).0, None);
+    }
+    // "-" is drawn before "A" is refused, but by a step that shows all or nothing
+    let input = Input { text: b"-A", ..PLAIN };
+    assert!(refusal(Call::Render, &input).1.contains(&1));
+    let cleared = refusal(Call::RedrawNew, &input).1;
+    assert!(cleared.contains(&3) && !cleared.contains(&1));
+}
+
+#[test]
+fn refuses_8_font_ends() {
+    let cut = Input { font: &T[..33], text: b"A", ..PLAIN };
+    refused(LETTERS, &cut, Error::FontEnds('A'));
+    refused(&LETTERS[..3], &Input { skip: true, ..cut }, Error::FontEnds('A'));
+    refused(LETTERS, &Input { text: b"\0", ..PLAIN }, Error::FontEnds('\0'));
+    // "4" can be measured, but not drawn
+    let runs = Input { font: &T[..32], text: b"-4", ..PLAIN };
+    assert_eq!(refusal(Call::Measure, &runs).0, None);
+    refused(&[Call::Render, Call::RedrawNew], &runs, Error::FontEnds('4'));
+    assert!(!refusal(Call::RedrawNew, &runs).1.contains(&1));
+    assert_eq!(refusal(Call::RedrawOld, &runs).0, None);
+}
+
+/// The causes are tested in the order of their numbers.
+#[test]
+fn the_first_cause_is_the_answer() {
+    let header = changed(4, 9);
+    let all = Input {
+        font: &T[..22],
+        line_height: 65_536,
+        skip: false,
+        text: b"A\xFF",
+        at: HERE,
+        color: INK_ON_PAPER,
+        size: (0, 0),
+        bytes: 1,
+    };
+    refused(DRAWING, &all, Error::FontLength);
+    let all = Input { font: &header, ..all };
+    refused(DRAWING, &all, Error::FontHeader);
+    let all = Input { font: T, ..all };
+    refused(DRAWING, &all, Error::FramebufferSize);
+    let all = Input { size: (1, 1), ..all };
+    refused(DRAWING, &all, Error::TextEncoding);
+    let all = Input { text: b"A", ..all };
+    refused(DRAWING, &all, Error::PositionOrLineHeight);
+    let all = Input { line_height: 4, ..all };
+    refused(DRAWING, &all, Error::BackgroundColorNotSupported);
+    refused(
+        &[Call::Render, Call::RedrawNew],
+        &Input { color: INK, ..all },
+        Error::GlyphNotFound('A'),
+    );
+}
+
+#[test]
+fn refusals_are_errors_in_words() {
+    fn words(error: impl core::error::Error) -> String {
+        error.to_string()
+    }
+    let header = "the font's header has a bit width off limits or a negative bounding box";
+    let framebuffer = "the framebuffer is not 1 to 256 pixels wide and high, \
+                       or its buffer has another length";
+    let position = "x or y is beyond ±1,048,576, or the line height above 65,535";
+    let ends = "the font ends before the glyph for '\\u{10ffff}' (U+10FFFF) does";
+    let all = [
+        (Error::FontLength, "the font has fewer than 23 or more than 1,048,576 bytes"),
+        (Error::FontHeader, header),
+        (Error::FramebufferSize, framebuffer),
+        (Error::TextEncoding, "the text has more than 4,096 bytes or is not UTF-8"),
+        (Error::PositionOrLineHeight, position),
+        (Error::BackgroundColorNotSupported, "the font allows no background colour"),
+        (Error::GlyphNotFound('5'), "the font has no glyph for '5' (U+0035)"),
+        (Error::FontEnds('\u{10FFFF}'), ends),
+    ];
+    for (i, (error, expected)) in all.into_iter().enumerate() {
+        assert_eq!(words(error), expected);
+        assert_eq!(error.number() as usize, i + 1);
+        assert_eq!(error.character().is_some(), i > 5);
+    }
+    assert_eq!(Error::GlyphNotFound('5').character(), Some('5'));
+}
