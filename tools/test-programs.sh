@@ -258,21 +258,24 @@ for script in "$measure" "$draw" "$sheet"; do
 done
 # shellcheck disable=SC2016
 check 2 "cannot be written to standard output" sh -c '"$@" > /dev/full' sh "$draw" 5
-# runs a command in a folder on a full disk, and lists what is there then
+# runs a command in a folder on a disk with so much room left, and lists what is there then
 # shellcheck disable=SC2016
 full=(unshare -rm sh -c 'mount -t tmpfs -o size=64k none "$0" && cd "$0" || exit 9
-  head -c 70000 /dev/zero > fill 2> /dev/null
+  head -c $((65536 - $1)) /dev/zero > fill
+  shift
   "$@"
   status=$?
   ls -A
   exit $status' "$work/full")
-if "${full[@]}" true > /dev/null 2>&1; then
-  check 2 "draw.png cannot be written" "${full[@]}" "$draw" 5 png
+if "${full[@]}" 0 true > /dev/null 2>&1; then
+  check 2 "draw.png cannot be written" "${full[@]}" 0 "$draw" 5 png
   right=no
   if grep -qx fill "$work/out" && ! grep -q draw.png "$work/out"; then right=yes; fi
   report "$right" "nothing is left on the full disk"
-  check 2 "sheet.png cannot be written" "${full[@]}" "$sheet"
-  check 2 "has no room for it" "${full[@]}" env TMPDIR="$work/full" "$measure" 4
+  check 2 "sheet.png cannot be written" "${full[@]}" 0 "$sheet"
+  check 2 "has no room for it" "${full[@]}" 0 env TMPDIR="$work/full" "$measure" 4
+  check 2 "the picture cannot be written" "${full[@]}" 4096 env TMPDIR="$work/full" "$draw" 5 png
+  check 2 "the pictures cannot be written" "${full[@]}" 8192 env TMPDIR="$work/full" "$sheet"
 else
   echo "skipped: a full disk (no small disk can be mounted here)"
 fi
