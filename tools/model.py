@@ -263,9 +263,10 @@ def draw(f, text, x, y, anchor, ink, line, skip, width, height, panel):
     return ('ok', (ax, ay), box)
 
 
-def redraw(f, old, new, x, y, anchor, ink, line, clear, width, height, panel):
+def redraw(f, old, new, x, y, anchor, ink, line, clear, width, height, panel, missing=0):
     """The step from one reading to the next, made of drawings. The causes 1 to 6 of both texts come first. Then the old text's
-    box is filled if that text draws, and the new text is drawn if all of it does. The panel is changed in place."""
+    box is filled, but for the `missing` last columns, if that text draws, and the new text is drawn if all of it does. The panel is
+    changed in place."""
     def drawn(text, on):
         return draw(f, text, x, y, anchor, ink, line, False, width, height, on)
 
@@ -275,9 +276,9 @@ def redraw(f, old, new, x, y, anchor, ink, line, clear, width, height, panel):
         return min(causes)
     if first[0] == 'ok' and first[2]:
         left, top, w, h = first[2]
-        for i in range(len(panel)):
-            if left <= i % width < left + w and top <= i // width < top + h:
-                panel[i] = clear
+        for row in range(max(0, top), min(height, top + h)):
+            for column in range(max(0, left), min(width, left + w - missing)):
+                panel[row * width + column] = clear
     after = bytearray(panel)
     answer = drawn(new, after)
     if answer[0] == 'ok':
