@@ -16,7 +16,7 @@ CAUSES = {
     1: "the font has fewer than 23 or more than 1,048,576 bytes",
     2: "the font's header is damaged",
     7: "the font has no glyph for ",
-    8: "the font ends before the glyph does for ",
+    8: "the font ends before the glyph for ",
 }
 
 
@@ -30,7 +30,10 @@ READINGS = [text_of(k) for k in range(901)]
 
 def cause(answer):
     number, c = answer[1:]
-    return CAUSES[number] + (f"'{chr(c)}' (U+{c:04X})" if number >= 7 else '')
+    words = CAUSES[number]
+    if number >= 7:
+        words += f"'{chr(c)}' (U+{c:04X})"
+    return words + (' does' if number == 8 else '')
 
 
 def arguments(words):
@@ -62,9 +65,9 @@ def place_for(font, anchor, at):
 
 
 def seen(box, width, height):
-    """How a drawn reading is seen: whole, in part, or not at all."""
+    """How a drawn reading is seen: whole, in part, or not at all. One without a pixel is not seen."""
     if not box:
-        return 'w'
+        return 'n'
     left, top, w, h = box
     if 0 <= left and 0 <= top and left + w <= width and top + h <= height:
         return 'w'

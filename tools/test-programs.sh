@@ -97,6 +97,12 @@ head -c 60 "$gauge" > ends.bin
 { head -c 1 "$gauge" && printf '\000' && tail -c +3 "$gauge"; } > no-background.bin
 { cat "$gauge" && head -c 65536 /dev/zero; } > long.bin
 { cat "$gauge" && head -c 1048576 /dev/zero; } > too-long.bin
+# glyphs without a pixel
+{
+  printf '\001\000\000\001\001\001\001\001\001' && head -c 14 /dev/zero
+  for character in + - . 0 1 2 3 4 5 6 7 8 9; do printf '%s\003\000' "$character"; done
+  printf '\000\000'
+} > blank.bin
 
 echo "--- arguments and fonts"
 for script in "$measure" "$draw" "$sheet"; do
@@ -180,6 +186,7 @@ check 1 "119 framed ones between them; 691 framed ones are left out" "$sheet" at
 check 1 "737 seen whole, 0 in part, 0 not at all, 164 refused" "$sheet" "$cut"
 check 1 "737 in part" "$sheet" "$cut" top at -9 -4
 check 1 "901 not at all" "$sheet" at -100 -100
+check 1 "901 not at all" "$sheet" blank.bin
 check 1 "not all is well" "$sheet" at 250 0 bottom
 for arguments in "at 5" "at 5 x" "at 1048577 0" "at at at" "one.bin two.bin"; do
   touch sheet.png
@@ -193,7 +200,7 @@ gone sheet.png
 
 if [ "${1-}" != model ]; then
   echo "--- the sheet of the program and that of the model"
-  for arguments in gauge "gauge narrow" "gauge center at 2 3" "gauge at 500 500" "cut top at -9 -4" t "symbols bottom" header; do
+  for arguments in gauge "gauge narrow" "gauge center at 2 3" "gauge at 500 500" "cut top at -9 -4" t "symbols bottom" header blank; do
     read -r font words <<< "$arguments"
     for file in "$root/fonts/$font.bin" "$root/crates/sheet_runs/data/$font.bin" "$font.bin"; do
       [ ! -e "$file" ] || cp "$file" font.bin

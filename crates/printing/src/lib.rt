@@ -101,8 +101,9 @@ pub fn cause(e: Error) {
             character(c);
         }
         Error::FontEnds(c) => {
-            text(b"the font ends before the glyph does for ");
+            text(b"the font ends before the glyph for ");
             character(c);
+            text(b" does");
         }
     }
 }
