@@ -3,7 +3,7 @@
 -- Assumes nothing.
 use Rattle.integers.proofs.Prelude.{_≡_, refl, sym, ap, subst, _∙_, Bool, false, _||_, not, List, [], _∷_, _++_, ℕ, suc, _+_, _*_, _≤_, _<_}
 use Rattle.integers.proofs.Prelude.{mul-le-mul-right, mul-comm, arith, eqb, ℤ, pos, length, eqb-true, not-false}
-use Rattle.integers.proofs.Choices.{impossible}
+use Rattle.integers.proofs.Choices.{LedOn, impossible}
 use Rattle.definitions.specs.Vocabulary.{FontReader, BoundingBox, Point, RenderedDimensions, GlyphReader, FontColor}
 use Rattle.definitions.specs.Refusals.{Outcome, success, refused, Cause, anyApplies}
 use Rattle.definitions.specs.Header.{header}
@@ -37,22 +37,23 @@ no-nothing : (o : Outcome GlyphReader) → answer false o ≡ nothing → ⊥
 no-nothing (success h) e = impossible cc
 no-nothing (refused n c) e = impossible cc
 
--- all runs were there
-with-runs : (c : ℕ) (h g : GlyphReader) (p : Pixels) → withRuns c h p ≡ success g → (h ≡ g) × ((ps : List ℕ) × (p ≡ pixels ps))
-with-runs c h g (pixels ps) e = (cc, (ps, refl))
-with-runs c h g cut e = impossible cc
-
 -- a glyph that can be drawn, with its pixels
 pub record Drawable (font : Font) (c : ℕ) (g : GlyphReader) : Type 0 where
   pub answer : font .glyph c ≡ success g
   pub bits : List ℕ
   pub runs : font .pixels g ≡ pixels bits
 
+-- all runs were there
+with-runs : (font : Font) (c : ℕ) (h g : GlyphReader) (p : Pixels) → font .glyph c ≡ success h → font .pixels h ≡ p → withRuns c h p ≡ success g → Drawable font c g
+with-runs font c h g (pixels ps) a k e =
+    let same : h ≡ g = cc in
+    record { answer = a ∙ ap success same; bits = ps; runs = ap (font .pixels) (sym same) ∙ k }
+with-runs font c h g cut a k e = impossible cc
+
 drawable-glyph : (font : Font) (c : ℕ) (g : GlyphReader) → drawnAnswer font false c ≡ shows g → Drawable font c g
 drawable-glyph font c g e =
     let s = went-on (font .glyph c) (λ h. withRuns c h (font .pixels h)) g (shown-answer (drawable font c (font .glyph c)) g e) in
-    let t = with-runs c (s .0) g (font .pixels (s .0)) (s .1 .1) in
-    record { answer = s .1 .0 ∙ ap success (t .0); bits = t .1 .0; runs = ap (font .pixels) (sym (t .0)) ∙ t .1 .1 }
+    with-runs font c (s .value) g (font .pixels (s .value)) (s .was) refl (s .gives)
 
 -- ---- a font that follows another
 
@@ -70,8 +71,8 @@ pub follows-itself : (f : Font) → f ⊑ f
 follows-itself f = record { ascent = refl; descent = refl; background = refl; letter = λ c h ps e k. (e, k) }
 
 from-search : (font : List ℕ) (c : ℕ) (g : GlyphReader) (s : Search) → fromSearch font c s ≡ success g
-    → (start : ℕ) × ((s ≡ found start) × (fields font (header font) c (start * 8) ≡ success g))
-from-search font c g (found start) e = (start, (refl, e))
+    → LedOn found s (λ start. fields font (header font) c (start * 8)) (success g)
+from-search font c g (found start) e = record { value = start; was = refl; gives = e }
 from-search font c g missing e = impossible cc
 from-search font c g short e = impossible cc
 
@@ -80,8 +81,8 @@ module _ (font more : List ℕ) (least : 23 ≤ length font) where
   unfolding glyph
   glyph-longer c g e =
       let t = from-search font c g (search font c) e in
-      rw (search-longer font more least c (t .0) (t .1 .0), header-longer font more least)
-      (fields-longer font (header font) c (t .0 * 8) g more (t .1 .1))
+      rw (search-longer font more least c (t .value) (t .was), header-longer font more least)
+      (fields-longer font (header font) c (t .value * 8) g more (t .gives))
 
   -- A longer font follows the font.
   pub longer-follows : u8g2 font ⊑ u8g2 (font ++ more)
@@ -99,8 +100,8 @@ pub dimensions-success : (b : BoundingBox) (o : Outcome Point) (d : RenderedDime
     → (o ≡ success (d .advance)) × (b ≡ d .«bounding_box»)
 dimensions-success b o d e =
     let t = went-on o (λ a. success record { advance = a; «bounding_box» = b }) d e in
-    let same : record { advance = t .0; «bounding_box» = b } ≡ d = cc (t .1 .1) in
-    (t .1 .0 ∙ ap (λ (x : RenderedDimensions). success (x .advance)) same, ap (λ (x : RenderedDimensions). x .«bounding_box») same)
+    let same : record { advance = t .value; «bounding_box» = b } ≡ d = cc (t .gives) in
+    (t .was ∙ ap (λ (x : RenderedDimensions). success (x .advance)) same, ap (λ (x : RenderedDimensions). x .«bounding_box») same)
 
 abbrev causes : Font → Request → FontColor → Ground → List Cause
 causes font r color p = drawCauses font r color (p .framebuffer) (p .before)
@@ -112,8 +113,11 @@ module _ (font : Font) (r : Request) (p : Ground) (within : WithinLimits font r 
   pub font-off : anyApplies (font .causes) ≡ false
   font-off = any-parts (font .causes) later within .0
 
+  later-off : anyApplies later ≡ false
+  later-off = any-parts (font .causes) later within .1
+
   off : NoneApplies later
-  off = each-off later (any-parts (font .causes) later within .1)
+  off = each-off later later-off
 
   -- measuring has no cause of its own
   measuring : anyApplies (measureCauses font r) ≡ false
@@ -123,8 +127,8 @@ module _ (font : Font) (r : Request) (p : Ground) (within : WithinLimits font r 
   -- drawing has one more
   drawing : (color : FontColor) → backgroundOff color (font .background) ≡ false → anyApplies (causes font r color p) ≡ false
   drawing color e =
-      let all : NoneApplies (later ++ backgroundCause color (font .background) ∷ []) = (off .0, (off .1 .0, (off .1 .1 .0, (e, tt)))) in
-      parts-any (font .causes) _ font-off (all-off (later ++ backgroundCause color (font .background) ∷ []) all)
+      let last = backgroundCause color (font .background) ∷ [] in
+      parts-any (font .causes) _ font-off (parts-any later last later-off (all-off last (e, tt)))
 
   pub size : length (p .before) ≡ width p * height p
   size =
@@ -191,9 +195,10 @@ module _ (f g : Font) (h : f ⊑ g) (r : Request) (no-skips : r .skip ≡ false)
 
   second-unrefused : anyApplies (causes g r color q) ≡ false
   second-unrefused =
+      let last = backgroundCause color (f .background) ∷ [] in
       let allowed = any-parts (f .causes) _ (first .0) .1 in
       drawing g r q second-within color
-      (ap (backgroundOff color) (h .background) ∙ each-off (later f r p first-within ++ backgroundCause color (f .background) ∷ []) allowed .1 .1 .1 .0)
+      (ap (backgroundOff color) (h .background) ∙ each-off last (any-parts (later f r p first-within) last allowed .1) .0)
 
   -- letters that follow the first drawing's are laid out alike
   follows-laid : (k : Font) → origin k r ≡ origin f r → (answers : ℕ → Answer) → Follows (drawnAnswer f false) answers → laid k r answers ≡ drawnText f r

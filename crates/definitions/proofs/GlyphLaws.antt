@@ -1,9 +1,9 @@
 -- The fields of a glyph: a longer font gives the same, and the range of each. Assumes nothing.
-use Rattle.integers.proofs.Prelude.{_≡_, refl, subst, List, _++_, ℕ, _+_, _*_, _≤_, _<_, length, set}
+use Rattle.integers.proofs.Prelude.{_≡_, refl, subst, List, _++_, ℕ, _*_, _≤_, _<_, length, set}
 use Rattle.definitions.specs.Vocabulary.{FontReader, GlyphReader}
 use Rattle.definitions.specs.Refusals.{Outcome, success}
 use Rattle.integers.specs.Integers.{signed8}
-use Rattle.integers.proofs.Choices.{impossible}
+use Rattle.integers.proofs.Choices.{impossible, LedOn}
 use Rattle.definitions.specs.Header.{header, Opened}
 use Rattle.definitions.specs.Bits.{Read, got, ends, lowBits, bits, number, readAt}
 use Rattle.definitions.specs.Lookup.{Search, found, missing, short, record8, chain, search}
@@ -17,9 +17,8 @@ unfolding T header signed8 glyph fields search record8 chain readAt bits lowBits
 past-the-jump = refl
 
 -- a field that was read: its number, and what came of that
-taken : (c : ℕ) (r : Read) (rest : ℕ → Outcome GlyphReader) (g : GlyphReader) → unlessEnds c r rest ≡ success g
-    → (n : ℕ) × ((r ≡ got n) × (rest n ≡ success g))
-taken c (got n) rest g e = (n, (refl, e))
+taken : (c : ℕ) (r : Read) (rest : ℕ → Outcome GlyphReader) (g : GlyphReader) → unlessEnds c r rest ≡ success g → LedOn got r rest (success g)
+taken c (got n) rest g e = record { value = n; was = refl; gives = e }
 taken c ends rest g e = impossible cc
 
 -- Where one font's field leads to a glyph, a longer font's does.
@@ -29,7 +28,7 @@ field-longer : (font more : List ℕ) (c b at : ℕ) (rest rest′ : ℕ → Out
     → unlessEnds c (readAt (font ++ more) at b) rest′ ≡ success g
 field-longer font more c b at rest rest′ g next e =
     let t = taken c (readAt font at b) rest g e in
-    rw (read-longer font more at b (t .0) (t .1 .0)) (next (t .0) (t .1 .1))
+    rw (read-longer font more at b (t .value) (t .was)) (next (t .value) (t .gives))
 
 -- What callers may count on in sums.
 pub record InRange (font : List ℕ) (g : GlyphReader) : Type 0 where
@@ -58,18 +57,18 @@ module _ (font : List ℕ) (head : FontReader) (c at : ℕ) (g : GlyphReader) wh
   unfolding fields
   fields-range o e =
       let w = taken c _ _ g e in
-      let h = taken c _ _ g (w .1 .1) in
-      let x = taken c _ _ g (h .1 .1) in
-      let y = taken c _ _ g (x .1 .1) in
-      let d = taken c _ _ g (y .1 .1) in
-      same-range (d .1 .1)
+      let h = taken c _ _ g (w .gives) in
+      let x = taken c _ _ g (h .gives) in
+      let y = taken c _ _ g (x .gives) in
+      let d = taken c _ _ g (y .gives) in
+      same-range (d .gives)
       record {
-        width = unsigned-range font _ _ (w .0) (o .w) (w .1 .0);
-        height = unsigned-range font _ _ (h .0) (o .h) (h .1 .0);
-        x = signed-range font _ _ (x .0) (o .x) (x .1 .0);
-        y = signed-range font _ _ (y .0) (o .y) (y .1 .0);
-        advance = signed-range font _ _ (d .0) (o .d) (d .1 .0);
-        runs = read-inside font _ _ (d .0) (d .1 .0) .0;
+        width = unsigned-range font _ _ (w .value) (o .w) (w .was);
+        height = unsigned-range font _ _ (h .value) (o .h) (h .was);
+        x = signed-range font _ _ (x .value) (o .x) (x .was);
+        y = signed-range font _ _ (y .value) (o .y) (y .was);
+        advance = signed-range font _ _ (d .value) (o .d) (d .was);
+        runs = read-inside font _ _ (d .value) (d .was) .0;
       }
 
 -- .. and so of each glyph of an opened font.

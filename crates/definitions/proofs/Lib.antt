@@ -13,6 +13,7 @@ pub mod FramebufferLaws
 pub mod TextLaws
 pub mod PictureLaws
 pub mod RefusalLaws
+pub mod CausesLaws
 pub mod ComesLaws
 pub mod LetterRefusals
 pub mod Agreement

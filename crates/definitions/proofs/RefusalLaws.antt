@@ -2,7 +2,7 @@
 -- where one does the framebuffer is left as it was. Assumes nothing.
 use Rattle.integers.proofs.Prelude.{_≡_, refl, Bool, true, false, _||_, List, [], _∷_, _++_, ℕ, ℤ, pos, take, set}
 use Rattle.integers.specs.Integers.{signed8}
-use Rattle.integers.proofs.Choices.{impossible}
+use Rattle.integers.proofs.Choices.{LedOn, impossible}
 use Rattle.definitions.specs.Vocabulary.{Framebuffer, RenderedDimensions, FontColor, Transparent, WithBackground}
 use Rattle.types.specs.declared.style.VerticalPosition.the-variants.{Baseline}
 use Rattle.definitions.specs.Refusals.{Outcome, success, refused, andThen, Cause, unlessRefused, anyApplies}
@@ -22,9 +22,8 @@ or-false true t e = impossible cc
 or-false false t e = (refl, e)
 
 -- what went before a success
-pub went-on : {A B : Type 0} (o : Outcome A) (rest : A → Outcome B) (b : B) → andThen o rest ≡ success b
-    → (a : A) × ((o ≡ success a) × (rest a ≡ success b))
-went-on (success a) rest b e = (a, (refl, e))
+pub went-on : {A B : Type 0} (o : Outcome A) (rest : A → Outcome B) (b : B) → andThen o rest ≡ success b → LedOn success o rest (success b)
+went-on (success a) rest b e = record { value = a; was = refl; gives = e }
 went-on (refused n c) rest b e = impossible cc
 
 module _ {A : Type 0} (rest : Outcome A) where

@@ -5,7 +5,7 @@ use Rattle.integers.proofs.Prelude.{decLt, arith, ltb, leb, eqb, length, take, 
 use Rattle.integers.proofs.Prelude.{getD-replicate, List·getD-append, take-append-le, drop-append-le, length-take-le, drop-drop, drop-at}
 use Rattle.integers.proofs.Prelude.{getD-append-add, getD-take, ltb-true, leb-true, leb-false, eqb-true, lt-ltb, le-ltb, lt-leb}
 use Rattle.integers.specs.Integers.{pick}
-use Rattle.integers.proofs.Choices.{impossible}
+use Rattle.integers.proofs.Choices.{impossible, LedOn}
 use Rattle.definitions.specs.Vocabulary.{FontReader, GlyphReader}
 use Rattle.definitions.specs.Bits.{Read, got, ends, bits, number, read, readAt}
 use Rattle.definitions.specs.Runs.{Pixels, pixels, cut, prepend, unlessCut, readPair, pair, afterPair, runs, glyphPixels, pixelsAfter, pixelsFrom}
@@ -22,13 +22,13 @@ abbrev pub pairPixels : ℕ → ℕ → List ℕ
 pairPixels zeros ones = replicate zeros 0 ++ replicate ones 1
 
 -- a number that was read, and what came of it
-taken : (r : Read) (rest : ℕ → Pixels) (ps : List ℕ) → unlessCut r rest ≡ pixels ps → (n : ℕ) × ((r ≡ got n) × (rest n ≡ pixels ps))
-taken (got n) rest ps e = (n, (refl, e))
+taken : (r : Read) (rest : ℕ → Pixels) (ps : List ℕ) → unlessCut r rest ≡ pixels ps → LedOn got r rest (pixels ps)
+taken (got n) rest ps e = record { value = n; was = refl; gives = e }
 taken ends rest ps e = impossible cc
 
 -- what stands after a pair's pixels
-prepended : (xs : List ℕ) (r : Pixels) (ps : List ℕ) → prepend xs r ≡ pixels ps → (qs : List ℕ) × ((r ≡ pixels qs) × (ps ≡ xs ++ qs))
-prepended xs (pixels qs) ps e = (qs, (refl, cc))
+prepended : (xs : List ℕ) (r : Pixels) (ps : List ℕ) → prepend xs r ≡ pixels ps → LedOn pixels r (λ qs. xs ++ qs) ps
+prepended xs (pixels qs) ps e = record { value = qs; was = refl; gives = cc }
 prepended xs cut ps e = impossible cc
 
 -- ---- a longer font
@@ -47,7 +47,7 @@ pair-same n zeros ones r r′ same ps = split (leb n (zeros + ones))
     split true e = e
     split false e =
         let q = prepended (pairPixels zeros ones) (r (n - (zeros + ones))) ps e in
-        rw (same (n - (zeros + ones)) (q .0) (q .1 .0)) (ap pixels (sym (q .1 .1)))
+        rw (same (n - (zeros + ones)) (q .value) (q .was)) (ap pixels (q .gives))
 
 picked : (t : Bool) (m n : ℕ) → pick t (got m) ends ≡ got n → (t ≡ true) × (m ≡ n)
 picked true m n e = (refl, cc)
@@ -69,8 +69,8 @@ unless-longer : (b : ℕ) (s t : List ℕ) (r r′ : ℕ → Pixels) (ps : List 
     → unlessCut (read b (s ++ t)) r′ ≡ pixels ps
 unless-longer b s t r r′ ps next e =
     let q = taken (read b s) r ps e in
-    let l = read-longer b s t (q .0) (q .1 .0) in
-    rw (l .1) (next (q .0) (l .0) (q .1 .1))
+    let l = read-longer b s t (q .value) (q .was) in
+    rw (l .1) (next (q .value) (l .0) (q .gives))
 
 pair-longer : (m0 m1 : ℕ) (s t : List ℕ) (r r′ : ℕ → ℕ → Pixels) (ps : List ℕ)
     → ((zeros ones : ℕ) → r zeros ones ≡ pixels ps → r′ zeros ones ≡ pixels ps)
@@ -113,7 +113,7 @@ runs-some : (m0 m1 n : ℕ) (s ps : List ℕ) → runs m0 m1 n s ≡ pixels ps �
 unfolding runs
 runs-some m0 m1 n s ps e =
     let q = taken (read m0 s) _ ps e in
-    omega (arith, read-longer m0 s [] (q .0) (q .1 .0) .0)
+    omega (arith, read-longer m0 s [] (q .value) (q .was) .0)
 
 abbrev count : GlyphReader → ℕ
 count g = g .«glyph_width» * g .«glyph_height»
@@ -168,14 +168,14 @@ module _
       split true h e = let q : take n (pairPixels zeros ones) ≡ ps = cc in subst (P n) q (last n zeros ones (leb-true n (zeros + ones) h))
       split false h e =
           let q = prepended (pairPixels zeros ones) (r (n - (zeros + ones))) ps e in
-          rw (q .1 .1) (more n zeros ones (q .0) (leb-false n (zeros + ones) h) (all (n - (zeros + ones)) (q .0) (q .1 .0)))
+          subst (P n) (q .gives) (more n zeros ones (q .value) (leb-false n (zeros + ones) h) (all (n - (zeros + ones)) (q .value) (q .was)))
 
   read-all : (m0 m1 : ℕ) (s : List ℕ) (n : ℕ) (r : ℕ → ℕ → ℕ → Pixels) → ((zeros ones n : ℕ) (ps : List ℕ) → r zeros ones n ≡ pixels ps → P n ps)
       → (ps : List ℕ) → readPair m0 m1 s (λ zeros ones. pair n zeros ones (r zeros ones)) ≡ pixels ps → P n ps
   read-all m0 m1 s n r all ps e =
       let z = taken (read m0 s) _ ps e in
-      let o = taken (read m1 (drop m0 s)) _ ps (z .1 .1) in
-      pair-all n (z .0) (o .0) (r (z .0) (o .0)) (all (z .0) (o .0)) ps (o .1 .1)
+      let o = taken (read m1 (drop m0 s)) _ ps (z .gives) in
+      pair-all n (z .value) (o .value) (r (z .value) (o .value)) (all (z .value) (o .value)) ps (o .gives)
 
   repeat-all : (m0 m1 n zeros ones : ℕ) (s : List ℕ)
       → ((zeros ones skip n : ℕ) (ps : List ℕ) → afterPair m0 m1 n zeros ones skip s ≡ pixels ps → P n ps)
@@ -191,7 +191,7 @@ module _
   after-all m0 m1 (b ∷ s) zeros ones (suc skip) n ps e = after-all m0 m1 s zeros ones skip n ps e
   after-all m0 m1 (b ∷ s) zeros ones zero n ps e =
       let q = taken (read 1 (b ∷ s)) _ ps e in
-      repeat-all m0 m1 n zeros ones s (λ zeros ones skip. after-all m0 m1 s zeros ones skip) ps (eqb (q .0) 1) (q .1 .1)
+      repeat-all m0 m1 n zeros ones s (λ zeros ones skip. after-all m0 m1 s zeros ones skip) ps (eqb (q .value) 1) (q .gives)
 
   glyph-all : (font : List ℕ) (head : FontReader) (g : GlyphReader) (ps : List ℕ) → glyphPixels font head g ≡ pixels ps → P (count g) ps
   unfolding glyphPixels runs
@@ -308,11 +308,11 @@ module _ (font : List ℕ) (m0 m1 n zeros ones at : ℕ) (ps : List ℕ) where
       split false e =
           let q = prepended (pairPixels zeros ones) (pixelsAfter font m0 m1 (n - (zeros + ones)) zeros ones at) ps e in
           let l : j < length (pairPixels zeros ones) = omega (arith, length-pair zeros ones) in
-          rw (q .1 .1, List·getD-append (pairPixels zeros ones) (q .0) 0 j l) (pair-at zeros ones j h)
+          rw (← q .gives, List·getD-append (pairPixels zeros ones) (q .value) 0 j l) (pair-at zeros ones j h)
 
   -- Those after the pair.
   pub pixels-after-pair : zeros + ones < n → pixelsFrom font m0 m1 n zeros ones at ≡ pixels ps
       → pixelsAfter font m0 m1 (n - (zeros + ones)) zeros ones at ≡ pixels (drop (zeros + ones) ps)
   pixels-after-pair h e =
       let q = prepended (pairPixels zeros ones) (pixelsAfter font m0 m1 (n - (zeros + ones)) zeros ones at) ps (simp (lt-leb n (zeros + ones) h) at e) in
-      q .1 .0 ∙ ap pixels (sym (ap (drop (zeros + ones)) (q .1 .1) ∙ drop-at (pairPixels zeros ones) (q .0) (zeros + ones) (length-pair zeros ones)))
+      q .was ∙ ap pixels (sym (drop-at (pairPixels zeros ones) (q .value) (zeros + ones) (length-pair zeros ones)) ∙ ap (drop (zeros + ones)) (q .gives))

@@ -49,8 +49,14 @@ decode-first (b ∷ s) {c} {k} e = rw e (ap (prepend c) (skipped (k - 1) s ∙ a
     after-first zero h = absurd (omega arith)
     after-first (suc k) h = let e : suc k - 1 ≡ k = omega arith in rw e
 
-prepended : (c : ℕ) (d : Decoded) (cs : List ℕ) → prepend c d ≡ characters cs → (rest : List ℕ) × ((cs ≡ c ∷ rest) × (d ≡ characters rest))
-prepended c (characters rest) cs e = (rest, (cc, refl))
+-- the code points after the first
+pub record After (c : ℕ) (d : Decoded) (cs : List ℕ) : Type 0 where
+  pub rest : List ℕ
+  pub is : cs ≡ c ∷ rest
+  pub decoded : d ≡ characters rest
+
+prepended : (c : ℕ) (d : Decoded) (cs : List ℕ) → prepend c d ≡ characters cs → After c d cs
+prepended c (characters rest) cs e = record { rest = rest; is = cc; decoded = refl }
 prepended c notUtf8 cs e = impossible cc
 
 pub utf8-characters : (d : Decoded) → isUtf8 d ≡ true → d ≡ characters (codePoints d)
@@ -105,7 +111,7 @@ module _ (text : List ℕ) (at : ℕ) where
 
   -- Of a text that decodes, the code points from here on are this one and those from the next position on.
   pub next : {c k : ℕ} {cs : List ℕ} → firstCharacter (drop at text) ≡ character c k → decode (drop at text) ≡ characters cs
-      → (rest : List ℕ) × ((cs ≡ c ∷ rest) × (decode (drop (at + k) text) ≡ characters rest))
+      → After c (decode (drop (at + k) text)) cs
   next {c} {k} {cs} e d = prepended c (decode (drop (at + k) text)) cs (sym (position e .decoded) ∙ d)
 
   pub none-malformed : {cs : List ℕ} → at < length text → decode (drop at text) ≡ characters cs → firstCharacter (drop at text) ≡ malformed → ⊥
@@ -137,8 +143,8 @@ encoded-next n again (b ∷ s) cs h e = by (firstCharacter (b ∷ s)) refl
     by (character c k) f =
         let p = head (b ∷ s) f in
         let r = prepended c (decode (drop k (b ∷ s))) cs (sym (decode-first (b ∷ s) f) ∙ e) in
-        let rest = again (drop k (b ∷ s)) (r .0) (omega (arith, length-drop k (b ∷ s), p .some)) (r .1 .1) in
-        subst (λ (l : List ℕ). (b ∷ s ≡ encodeAll l) × Scalars l) (sym (r .1 .0))
+        let rest = again (drop k (b ∷ s)) (r .rest) (omega (arith, length-drop k (b ∷ s), p .some)) (r .decoded) in
+        subst (λ (l : List ℕ). (b ∷ s ≡ encodeAll l) × Scalars l) (sym (r .is))
         (sym (take-append-drop k (b ∷ s)) ∙ joined (p .bytes) (rest .0), cons (p .scalar) (rest .1))
     by malformed f = absurd (none-malformed (b ∷ s) 0 (omega arith) e f)
 

@@ -9,6 +9,12 @@ use Rattle.integers.specs.Integers.{pick}
 pub impossible : {A : Type 0} → _≡_ {A = ℕ} 0 1 → A
 impossible e = absurd (omega arith)
 
+-- A value that was there, and what came of it.
+pub record LedOn {A B C : Type 0} (there : A → B) (b : B) (on : A → C) (c : C) : Type 0 where
+  pub value : A
+  pub was : b ≡ there value
+  pub gives : on value ≡ c
+
 -- What the answer of a choice shows of its test.
 pub of-pick : {A Q : Type 0} (t : Bool) {a b o : A} → (t ≡ true → a ≡ o → Q) → (t ≡ false → b ≡ o → Q) → pick t a b ≡ o → Q
 of-pick true f g e = f refl e

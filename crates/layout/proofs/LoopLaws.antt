@@ -35,12 +35,12 @@ module _ {S R : Type 0} {from : S → List ℕ → R} {fits : ℕ → List ℕ �
       reached-next {s′} turn keeps =
           let q = next text at first (r .decoded) in
           record {
-            rest = q .0;
+            rest = q .rest;
             inside = position text at first .within;
-            decoded = q .1 .1;
-            within = keeps (q .0) (subst (λ (cs : List ℕ). fits at cs s) (q .1 .0) (r .within));
-            same = r .same ∙ ap (from s) (q .1 .0) ∙ turn (q .0);
+            decoded = q .decoded;
+            within = keeps (q .rest) (subst (λ (cs : List ℕ). fits at cs s) (q .is) (r .within));
+            same = r .same ∙ ap (from s) (q .is) ∙ turn (q .rest);
           }
 
       pub reached-stops : {o : R} → ((cs : List ℕ) → from s (c ∷ cs) ≡ o) → from start (codePoints (decode text)) ≡ o
-      reached-stops turn = let q = next text at first (r .decoded) in r .same ∙ ap (from s) (q .1 .0) ∙ turn (q .0)
+      reached-stops turn = let q = next text at first (r .decoded) in r .same ∙ ap (from s) (q .is) ∙ turn (q .rest)

@@ -21,7 +21,8 @@ use Rattle.definitions.specs.Calls.{Request, codePointsOf, origin, laid, measur
 use Rattle.definitions.specs.Agreement.{limits, on}
 use Rattle.pictures.specs.Whole.{atZero, whole, measuredAtZero, opposite, roomFor, drawnWhole, inCorner, boxed, SeenWhole}
 use Rattle.definitions.proofs.OpenedLaws.{opened-limits}
-use Rattle.definitions.proofs.RefusalLaws.{or-false, succeeded, passed, NoneApplies, each-off, all-off}
+use Rattle.definitions.proofs.RefusalLaws.{or-false, succeeded, passed}
+use Rattle.definitions.proofs.CausesLaws.{MeasurePasses, measure-passes, LimitsPass, limits-off}
 use Rattle.definitions.proofs.JoinLaws.{HasCell, end, join-end}
 use Rattle.definitions.proofs.GlyphLaws.{InRange, glyph-range}
 use Rattle.definitions.proofs.BitsLaws.{SignedByte}
@@ -271,8 +272,8 @@ module _ (font text : List ℕ) (lineHeight : ℕ) (advance : Point) (r : Rectan
   unfolding measure
   at-zero = succeeded (dimensions (measuredText (u8g2 font) asked)) (boxed advance r) (measureCauses (u8g2 font) asked) measured
 
-  off : NoneApplies (measureCauses (u8g2 font) asked)
-  off = each-off (measureCauses (u8g2 font) asked) (at-zero .0)
+  passes : MeasurePasses font asked
+  passes = measure-passes font asked (at-zero .0)
 
   -- so its opposite is within the limits for places
   pub near : NearPlace r
@@ -281,7 +282,7 @@ module _ (font text : List ℕ) (lineHeight : ℕ) (advance : Point) (r : Rectan
       let l = measuredText (u8g2 font) asked in
       let box = dimensions-success (joinAll (l .glyphs)) (l .advance) (boxed advance r) (at-zero .1) .1 in
       subst NearBox box
-      (near-text font (opened-limits font (off .0) (off .1 .0)) lineHeight low (codePointsOf text) 0 atZero (omega (arith, few-characters text (off .1 .1 .0))) start)
+      (near-text font (opened-limits font (passes .length-in) (passes .header-in)) lineHeight low (codePointsOf text) 0 atZero (omega (arith, few-characters text (passes .text-in))) start)
 
   stands : positionCause (opposite r) lineHeight .applies ≡ false
   stands =
@@ -334,5 +335,6 @@ module _ (font text : List ℕ) (lineHeight : ℕ) (advance : Point) (r : Rectan
     seen-whole =
         let asked-there = limits (u8g2 font) (whole text lineHeight (opposite r)) (on (roomFor r) pixels) in
         let background = backgroundCause color (header font .«supports_background_color») in
-        let limited : NoneApplies asked-there = (off .0, (off .1 .0, (fits, (off .1 .1 .0, (stands, tt))))) in
-        subst (SeenWhole advance r) (sym (passed answers asked-there (background ∷ []) (all-off asked-there limited))) (by-background (background .applies))
+        let there : LimitsPass font (whole text lineHeight (opposite r)) (on (roomFor r) pixels) =
+        record { length-in = passes .length-in; header-in = passes .header-in; size-in = fits; text-in = passes .text-in; place-in = stands } in
+        subst (SeenWhole advance r) (sym (passed answers asked-there (background ∷ []) (limits-off font _ _ there))) (by-background (background .applies))

@@ -11,7 +11,7 @@ use Rattle.definitions.specs.Calls.{openFont}
 use Rattle.definitions.specs.Agreement.{Ground, width, height}
 use Rattle.redraw.specs.Drawing.{Drawing, asks, withText}
 use Rattle.definitions.proofs.OpenedLaws.{passes-font, opened, opened-limits}
-use Rattle.definitions.proofs.RefusalLaws.{succeeded, each-off}
+use Rattle.definitions.proofs.RefusalLaws.{succeeded}
 use Rattle.definitions.proofs.ComesLaws.{Comes, comes-none, comes-off, comes-on, comes-passed, comes-stopped}
 use Rattle.framebuffer.specs.Areas.{BufferFits}
 use Rattle.checks.specs.declared.origin.Pen.{Pen}
@@ -21,6 +21,7 @@ use Rattle.renderer.proofs.SizeLaws.{size-fits}
 use Rattle.redraw.specs.declared.step.Step.{Step}
 use Rattle.redraw.specs.Redraw.{redrawCauses}
 use Rattle.redraw.specs.Checks.{originOf, penOf, stepOf, checkedStep}
+use Rattle.redraw.proofs.RedrawLaws.{step-passes}
 
 -- ---- test by test
 
@@ -116,20 +117,21 @@ unfolding header
 ready font old new p s e small =
     let h = succeeded (success (stepOf font old new)) s (redrawCauses font old new p) e in
     let same : stepOf font old new ≡ s = cc in
-    let o = each-off (redrawCauses font old new p) (h .0) in
+    let o = step-passes font old new p (h .0) in
+    let l = o .passes .limited in
     let read : s .head ≡ header font = sym (ap (λ (s : Step). s .head) same) in
     let up = signed8-fits (getD font 13 0) (small 13) in
     let down = signed8-fits (getD font 14 0) (small 14) in
-    let place = position-limits (new .position) (new .lineHeight) (o .1 .1 .1 .1 .1 .0) in
+    let place = position-limits (new .position) (new .lineHeight) (l .place-in) in
     record {
       unrefused = h .0;
-      opens = subst (λ (h : FontReader). Opened font h) (sym read) (opened-limits font (o .0) (o .1 .0));
+      opens = subst (λ (h : FontReader). Opened font h) (sym read) (opened-limits font (l .length-in) (l .header-in));
       read = read;
       old-at = sym (ap (λ (s : Step). s .«old_pen») same);
       new-at = sym (ap (λ (s : Step). s .«new_pen») same);
       old-checked = subst (λ (s : Step). Checked old (s .«old_pen» .origin) (s .«old_pen» .«line_height»)) same
-          (origin-checked _ _ (asks (withText old new)) up down (text-limits old (o .1 .1 .1 .0)) place);
+          (origin-checked _ _ (asks (withText old new)) up down (text-limits old (o .old-in)) place);
       new-checked = subst (λ (s : Step). Checked (new .text) (s .«new_pen» .origin) (s .«new_pen» .«line_height»)) same
-          (origin-checked _ _ (asks new) up down (text-limits (new .text) (o .1 .1 .1 .1 .0)) place);
-      fits = size-fits (p .framebuffer) (p .before) (o .1 .1 .0);
+          (origin-checked _ _ (asks new) up down (text-limits (new .text) (l .text-in)) place);
+      fits = size-fits (p .framebuffer) (p .before) (l .size-in);
     }

@@ -10,16 +10,17 @@ use Rattle.definitions.specs.Header.{fontCauses}
 use Rattle.definitions.specs.Geometry.{InsideBox}
 use Rattle.definitions.specs.Font.{u8g2, drawnAnswer, pixelsOf}
 use Rattle.definitions.specs.Picture.{keep, put, Picture, covers, textPicture}
-use Rattle.definitions.specs.Framebuffer.{over, shown, sideOff}
+use Rattle.definitions.specs.Framebuffer.{over, shown, sideOff, framebufferCause}
 use Rattle.definitions.specs.Text.{joinAll, point, dimensions}
 use Rattle.definitions.specs.TextSteps.{measureFrom, drawFrom, start}
 use Rattle.definitions.specs.Limits.{textCause, positionCause, backgroundCause}
 use Rattle.definitions.specs.Calls.{codePointsOf, origin, drawCauses, drawnText, draw, drawBuffer}
-use Rattle.definitions.specs.Agreement.{Ground, on, limits, WithinLimits, pixel, KeptOutside, width, height}
+use Rattle.definitions.specs.Agreement.{Ground, on, WithinLimits, pixel, KeptOutside, width, height}
 use Rattle.redraw.specs.Drawing.{Drawing, asks, withText, drawn, after, measured}
 use Rattle.definitions.proofs.FramebufferLaws.{length-shown, shown-at, same-pixels}
 use Rattle.definitions.proofs.PictureLaws.{covers-inside, inside-covers}
-use Rattle.definitions.proofs.RefusalLaws.{or-false, none-applies, succeeded, NoneApplies, each-off, all-off}
+use Rattle.definitions.proofs.RefusalLaws.{or-false, none-applies, succeeded, NoneApplies, each-off}
+use Rattle.definitions.proofs.CausesLaws.{LimitsPass, DrawPasses, limits-pass, limits-off, draw-passes, draw-off}
 use Rattle.definitions.proofs.ComesLaws.{comes-stopped}
 use Rattle.definitions.proofs.TextLaws.{measure-from, draw-from}
 use Rattle.definitions.proofs.LetterRefusals.{Late, late, late-drawn}
@@ -28,6 +29,10 @@ use Rattle.framebuffer.specs.Areas.{fillPicture}
 use Rattle.framebuffer.proofs.RowLaws.{row-of-pixel}
 use Rattle.redraw.specs.Redraw.{wholeOr, readingOn, AllOf, clearedBy, redrawCauses, cleared, redrawn, redrawnBuffer, taken}
 use Rattle.redraw.specs.Checks.{originOf, stepOf, checkedStep}
+
+-- Of what `redraw` ensures: the answer, what is shown, and what that leaves of a reading.
+abbrev pub shown-by : {A B C : Type 0} → A × (B × C) → B
+shown-by ensured = ensured .1 .0
 
 -- the framebuffer keeps its length
 length-by : (t : Bool) (width : ℕ) (picture : Picture) (before : List ℕ) → length (pick t before (shown width picture before)) ≡ length before
@@ -85,8 +90,7 @@ within-limits font r p d e =
     succeeded (dimensions (drawnText (u8g2 font) (asks r))) d
     (drawCauses (u8g2 font) (asks r) (r .color) (p .framebuffer) (p .before)) e
     in
-    let o = each-off (drawCauses (u8g2 font) (asks r) (r .color) (p .framebuffer) (p .before)) (h .0) in
-    all-off (limits (u8g2 font) (asks r) p) (o .0, (o .1 .0, (o .1 .1 .0, (o .1 .1 .1 .0, (o .1 .1 .1 .1 .0, tt)))))
+    limits-off font (asks r) p (draw-passes font (asks r) (r .color) p (h .0) .limited)
 
 -- A drawing that succeeds is measured alike.
 pub drawn-measured : (font : List ℕ) (r : Drawing) (p : Ground) (d : RenderedDimensions) → drawn font r p ≡ success d → measured font r ≡ success d
@@ -110,8 +114,8 @@ same-answer font r p a b l =
 
 pub some-width : (font : List ℕ) (r : Drawing) (p : Ground) → WithinLimits (u8g2 font) (asks r) p → 0 < width p
 some-width font r p within =
-    let o = each-off (limits (u8g2 font) (asks r) p) within in
-    let a = or-false (sideOff (width p) || sideOff (height p)) (not (eqb (length (p .before)) (width p * height p))) (o .1 .1 .0) .0 in
+    let s = limits-pass font (asks r) p within .size-in in
+    let a = or-false (sideOff (width p) || sideOff (height p)) (not (eqb (length (p .before)) (width p * height p))) s .0 in
     let b = or-false (sideOff (width p)) (sideOff (height p)) a .0 in
     let none = eqb-false (width p) 0 (or-false (eqb (width p) 0) (ltb 256 (width p)) b .0) in
     omega arith
@@ -208,6 +212,18 @@ module _ (font : List ℕ) (r : Drawing) (p : Ground) where
 
 -- ---- the step, as the code goes
 
+-- None of its causes applies: the old text is one that can be drawn, and the new text passes as a drawing does.
+pub record StepPasses (font old : List ℕ) (new : Drawing) (p : Ground) : Type 0 where
+  pub old-in : textCause old .applies ≡ false
+  pub passes : DrawPasses font (asks new) (new .color) p
+
+pub step-passes : (font old : List ℕ) (new : Drawing) (p : Ground) → anyApplies (redrawCauses font old new p) ≡ false → StepPasses font old new p
+step-passes font old new p e = by (each-off (redrawCauses font old new p) e)
+  where
+    by : NoneApplies (redrawCauses font old new p) → StepPasses font old new p
+    by (l, (h, (s, (o, (t, (q, (c, none))))))) =
+        record { old-in = o; passes = record { limited = record { length-in = l; header-in = h; size-in = s; text-in = t; place-in = q }; color-in = c } }
+
 module _ (font old : List ℕ) (new : Drawing) (background : ℕ) (p : Ground) where
   -- refused by one of its causes
   module _ {n c : ℕ} (e : checkedStep font old new p ≡ refused n c) where
@@ -225,14 +241,26 @@ module _ (font old : List ℕ) (new : Drawing) (background : ℕ) (p : Ground) w
 
   -- .. or by none of them. What is filled is what `toFill` makes of the old reading: the reading itself, unless a fault is put in.
   module _ (toFill : Outcome RenderedDimensions → Outcome RenderedDimensions) (unrefused : anyApplies (redrawCauses font old new p) ≡ false) where
-    off : NoneApplies (redrawCauses font old new p)
-    off = each-off (redrawCauses font old new p) unrefused
+    off : StepPasses font old new p
+    off = step-passes font old new p unrefused
+
+    abbrev limited : LimitsPass font (asks new) p
+    limited = off .passes .limited
+
+    -- another text in its place, or another framebuffer of its size
+    with-part : (text : List ℕ) (q : Ground) → textCause text .applies ≡ false → framebufferCause (q .framebuffer) (q .before) .applies ≡ false
+        → anyApplies (causesOf font (withText text new) q) ≡ false
+    with-part text q t s =
+        draw-off font (asks (withText text new)) (new .color) q record {
+          limited = record { length-in = limited .length-in; header-in = limited .header-in; size-in = s; text-in = t; place-in = limited .place-in };
+          color-in = off .passes .color-in;
+        }
 
     old-off : anyApplies (causesOf font (withText old new) p) ≡ false
-    old-off = all-off (causesOf font (withText old new) p) (off .0, (off .1 .0, (off .1 .1 .0, (off .1 .1 .1 .0, off .1 .1 .1 .1 .1))))
+    old-off = with-part old p (off .old-in) (limited .size-in)
 
     new-off : anyApplies (causesOf font new p) ≡ false
-    new-off = all-off (causesOf font new p) (off .0, (off .1 .0, (off .1 .1 .0, off .1 .1 .1 .1)))
+    new-off = with-part (new .text) p (limited .text-in) (limited .size-in)
 
     abbrev bare : Ground
     bare = on (p .framebuffer) (clearedBy (width p) background (toFill (drawn font (withText old new) p)) (p .before))
@@ -240,8 +268,8 @@ module _ (font old : List ℕ) (new : Drawing) (background : ℕ) (p : Ground) w
     bare-off : anyApplies (causesOf font new bare) ≡ false
     bare-off =
         let size = ap (λ (n : ℕ). sideOff (width p) || sideOff (height p) || not (eqb n (width p * height p)))
-        (length-cleared (width p) background (toFill (drawn font (withText old new) p)) (p .before)) ∙ off .1 .1 .0 in
-        all-off (causesOf font new bare) (off .0, (off .1 .0, (size, off .1 .1 .1 .1)))
+        (length-cleared (width p) background (toFill (drawn font (withText old new) p)) (p .before)) ∙ limited .size-in in
+        with-part (new .text) bare (limited .text-in) size
 
     abbrev letters : List ℕ → Outcome RenderedDimensions
     letters text = measureFrom (drawnAnswer (u8g2 font) false) (new .lineHeight) (originOf font text new) start (codePointsOf text)

@@ -12,14 +12,15 @@ use Rattle.definitions.specs.Text.{joinAll, point, letters, lines, lineByLine, 
 use Rattle.definitions.specs.Limits.{textCause, positionCause, backgroundOff, backgroundCause}
 use Rattle.definitions.specs.Font.{u8g2}
 use Rattle.definitions.specs.Calls.{placed, plain, drawnText, draw, drawBuffer}
-use Rattle.redraw.specs.Drawing.{Drawing, drawn, after}
+use Rattle.redraw.specs.Drawing.{Drawing, asks, after}
 use Rattle.definitions.proofs.FramebufferLaws.{shown-blank}
-use Rattle.definitions.proofs.RefusalLaws.{succeeded, each-off}
+use Rattle.definitions.proofs.RefusalLaws.{succeeded}
+use Rattle.definitions.proofs.CausesLaws.{draw-passes}
 use Rattle.redraw.specs.Redraw.{wholeOr, readingOn, AllOf, clearedBy, redrawCauses, redrawn, redrawnBuffer, taken}
 use Rattle.redraw.specs.Steps.{Setting, Reading, inSetting, groundIn, Screen, readingOf, bare, stepAnswer, stepOn, stepsOn, answers}
 use Rattle.redraw.specs.Steps.{alone, lastTaken, showing, ClearFor, ClearForAll, LeavesReading}
 use Rattle.redraw.proofs.RedrawLaws.{length-after, within-limits, same-answer, some-width, fill-restores, length-cleared}
-use Rattle.redraw.proofs.RedrawLaws.{refused-early, causesOf, drawn-early, drawn-late, same-causes, redrawn-is}
+use Rattle.redraw.proofs.RedrawLaws.{refused-early, causesOf, drawn-early, drawn-late, same-causes, redrawn-is, step-passes}
 
 -- What drawing answers does not depend on the colours, if the font allows them.
 same-color : (f : Setting) (bytes text : List ℕ) (c d : FontColor) → backgroundOff c (u8g2 (f .font) .background) ≡ false → backgroundOff d (u8g2 (f .font) .background) ≡ false
@@ -89,11 +90,11 @@ module _ (f : Setting) (ground : List ℕ) where
         by false k =
             let late = drawn-late (f .font) (inSetting f r) (groundIn f ground) k in
             let same : r ≡ t .old = sym (e ∙ rw late) in
-            let o = each-off (causesOf (f .font) (inSetting f r) (groundIn f ground)) k in
+            let o = draw-passes (f .font) (asks (inSetting f r)) (r .color) (groundIn f ground) k in
             record {
               as-long = l ∙ z .as-long;
-              fine = subst (λ (o : Reading). textCause (o .text) .applies ≡ false) same (o .1 .1 .1 .0);
-              allowed = subst (λ (o : Reading). backgroundOff (o .color) (u8g2 (f .font) .background) ≡ false) same (o .1 .1 .1 .1 .1 .0);
+              fine = subst (λ (o : Reading). textCause (o .text) .applies ≡ false) same (o .limited .text-in);
+              allowed = subst (λ (o : Reading). backgroundOff (o .color) (u8g2 (f .font) .background) ≡ false) same (o .color-in);
             }
 
     -- ---- by whether a cause applies
@@ -109,7 +110,7 @@ module _ (f : Setting) (ground : List ℕ) where
       -- the old reading, as the step finds it
       old-alone : alone f (s .bytes) record { text = s .old .text; color = r .color } ≡ alone f ground (s .old)
       old-alone =
-          let allows = each-off (causesOf (f .font) (inSetting f r) (groundIn f ground)) k .1 .1 .1 .1 .1 .0 in
+          let allows = draw-passes (f .font) (asks (inSetting f r)) (r .color) (groundIn f ground) k .color-in in
           same-answer (f .font) (inSetting f record { text = s .old .text; color = r .color }) (f .framebuffer) (s .bytes) ground (z .as-long)
           ∙ same-color f ground (s .old .text) (r .color) (s .old .color) allows (z .allowed)
 
@@ -262,6 +263,5 @@ module _ (f : Setting) (old : List ℕ) (r : Reading) {entry exit : List ℕ} {a
           (omega arith, (omega arith, (omega arith, (omega arith, (omega arith, (omega arith, (omega arith, tt))))))) k in
           shown ∙ rw (k, early)
       by false k =
-          let o = each-off (redrawCauses (f .font) old (inSetting f r) (groundIn f entry)) k in
           let as-long = ap length was ∙ length-reading f ground (readingOf old color) ground in
-          late record { as-long = as-long; fine = o .1 .1 .1 .0; allowed = allowed } (taken (alone f ground r)) refl
+          late record { as-long = as-long; fine = step-passes (f .font) old (inSetting f r) (groundIn f entry) k .old-in; allowed = allowed } (taken (alone f ground r)) refl

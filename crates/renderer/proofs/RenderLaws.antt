@@ -58,15 +58,15 @@ module _ (width : ℕ) (color : FontColor) (pixelsOf : GlyphReader → List ℕ)
 
       -- at a character of n bytes
       module _ {c n : ℕ} (first : firstCharacter (drop at text) ≡ character c n) where
-        here : whole ≡ drawFrom width color pixelsOf answers lineHeight origin d buffer (c ∷ next text at first (t .reached .reached .decoded) .0)
-        here = t .drawn ∙ ap (drawFrom width color pixelsOf answers lineHeight origin d buffer) (next text at first (t .reached .reached .decoded) .1 .0)
+        here : whole ≡ drawFrom width color pixelsOf answers lineHeight origin d buffer (c ∷ next text at first (t .reached .reached .decoded) .rest)
+        here = t .drawn ∙ ap (drawFrom width color pixelsOf answers lineHeight origin d buffer) (next text at first (t .reached .reached .decoded) .is)
 
         pub drawn-next : (small : (c : ℕ) (g : GlyphReader) → answers c ≡ shows g → Small g) {d′ : RenderedDimensions} {buffer′ : List ℕ}
             → step answers lineHeight origin d c ≡ success d′ → buffer′ ≡ stepShown width color pixelsOf answers origin d c buffer → length buffer′ ≡ length buffer
             → DrawnTo buffer′ d′ (at + n)
         unfolding measured-next reached-next
         drawn-next small {d′} {buffer′} e s l =
-            let cs = next text at first (t .reached .reached .decoded) .0 in
+            let cs = next text at first (t .reached .reached .decoded) .rest in
             record {
               reached = measured-next k (t .reached) first small e;
               kept = l ∙ t .kept;

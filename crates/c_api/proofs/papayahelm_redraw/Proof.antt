@@ -3,6 +3,7 @@ use Rattle.integers.proofs.Prelude.{ap, _∙_, toZ-ofZ, needs}
 use Rattle.c_values.specs.Replies.{textReply}
 use Rattle.c_codes.proofs.CodesLaws.{has-room}
 use Rattle.c_values.proofs.RepliesLaws.{not-drawn, drawn}
+use Rattle.redraw.proofs.RedrawLaws.{shown-by}
 use Rattle.c_api.proofs.papayahelm_redraw.Statement.{statement}
 use Rattle.c_api.proofs.papayahelm_redraw.Tie as tie
 
@@ -25,7 +26,7 @@ returns-2 c =
     drawn (read .known-codes .ensures) _ _ _ _ (known .m .given .1)
     (c .before .before .of-dimensions .ensures ∙ ap textReply (simp (toZ-ofZ, start .fits .x, start .fits .y, style) at (called .redraw .ensures .0)))
     (c .before .store .ensures)
-    (simp (toZ-ofZ, start .fits .x, start .fits .y, style) at (called .redraw .ensures .1 .0))
+    (simp (toZ-ofZ, start .fits .x, start .fits .y, style) at (shown-by (called .redraw .ensures)))
 
 pub papayahelm-redraw-spec : {M : Type 1} → statement M
 papayahelm-redraw-spec =

@@ -2,6 +2,7 @@
 use Rattle.integers.proofs.Prelude.{sym, ap, _∙_, Bool, List, ℕ, needs}
 use Rattle.redraw.specs.Drawing.{asked, groundOf}
 use Rattle.readings.specs.Sheet.{stepBuffer}
+use Rattle.redraw.proofs.RedrawLaws.{shown-by}
 use Rattle.readings.proofs.NarrowLaws.{faultless}
 use Rattle.readings.proofs.check.redraw_on.Statement.{statement}
 use Rattle.readings.proofs.check.redraw_on.Tie as tie
@@ -19,7 +20,7 @@ returns-2 : tie.Need-returns-2
 returns-2 c =
     let r = c .before .before .redraw .ensures in
     let e = c .before .before .before .before .if1 .left in
-    (r .0, rw e (r .1 .0 ∙ sym (faultless _ _ _ _ _)))
+    (r .0, rw e (shown-by r ∙ sym (faultless _ _ _ _ _)))
 
 pub redraw-on-spec : {M : Type 1} → statement M
 redraw-on-spec =
