@@ -1,6 +1,6 @@
 //! A stand-in for the crate `embedded_graphics_core`, which does not lie beside the Rust files. It has only the names that
-//! they use, and is written from document 01's words: points and sizes are added and compared coordinate by coordinate,
-//! and a rectangle is its top left point and its size. `OriginDimensions` and `BinaryColor` are for bindings/rust's example
+//! they use. Sums, least and greatest of points are taken for x and for y by themselves, and a rectangle consists of its top
+//! left corner and its size. `OriginDimensions` and `BinaryColor` are for bindings/rust's example
 //! alone: a display of the real crate has to say its size.
 
 pub mod geometry {

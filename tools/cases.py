@@ -1,7 +1,7 @@
 """The cases of the program crates/replay: writes its data/cases.bin and its stdout, the latter worked out by model.py.
 
-Run it in the repository: python3 tools/cases.py. A case that document 01 or a decision answers in words has that answer
-beside it, and the script stops where model.py says otherwise.
+Run it in the repository: python3 tools/cases.py. Where the rules or a decision give a case's answer in words, that answer
+stands beside it, and the script stops where model.py says otherwise.
 """
 import struct
 import sys

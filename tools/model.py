@@ -1,7 +1,7 @@
-"""Document 01's rules, written a second time in Python, to work out what the program replay must print.
+"""The rules of docs/SPECIFICATION.md, written a second time in Python, to work out what the program replay must print.
 
-It is written from 01 alone, but for `redraw`, our own step made of 01's drawings, and shares nothing with the crates. cases.py
-beside it writes the stored outputs. A refusal is ('no', number, code point).
+It is written from the rules alone, but for `redraw`, our own step made of drawings, and shares nothing with the crates.
+cases.py beside it writes the stored outputs. A refusal is ('no', number, code point).
 """
 
 BASELINE, TOP, CENTER, BOTTOM = range(4)
@@ -37,7 +37,7 @@ def offset(anchor, t, f):
 
 
 def header(f):
-    """The header's twenty values in 01's order, and the default line height."""
+    """The header's twenty values in their order, and the default line height."""
     ground = int(f[1] != 0)
     widths = tuple(f[2:9])
     box_and_heights = tuple(signed(b) for b in f[9:17])

@@ -16,7 +16,7 @@ static int checks, failures;
         }                                                    \
     } while (0)
 
-/* Font T of document 01: "-" and "4", no background colour. */
+/* Font T (docs/SPECIFICATION.md): "-" and "4", no background colour. */
 static const uint8_t T[35] = {2,  0, 2,  2,  3,  3, 2, 3,   3,  2, 3,  0, 0,   3,  0,  3, 0, 0,
                               10, 0, 10, 0, 12, 45, 5, 138, 62, 2, 52, 5, 146, 60, 73, 0, 0};
 

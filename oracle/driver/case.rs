@@ -124,8 +124,8 @@ pub struct Outcome {
 }
 
 impl Case {
-    /// The number among 1 to 5 with which document 01 refuses the call, if any: worked out here a second time, with
-    /// Rust's own check of UTF-8.
+    /// The number among 1 to 5 with which the call is refused (SPECIFICATION, Refusals), if any: worked out here a second
+    /// time, with Rust's own check of UTF-8.
     pub fn off_limits(&self, call: Call) -> Option<u32> {
         if self.font.len() < 23 || self.font.len() > 1_048_576 {
             return Some(1);

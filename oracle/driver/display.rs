@@ -1,4 +1,4 @@
-//! The test display of document 01: colours to fill with are used up cell by cell and row by row, pixels that are offered are all
+//! The test display: colours to fill with are used up cell by cell and row by row, pixels that are offered are all
 //! taken, and what lies off the panel is dropped.
 
 use embedded_graphics_core::{

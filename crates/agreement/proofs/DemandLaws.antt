@@ -1,4 +1,5 @@
--- Four answers and two framebuffers that are those of the definitions, one by one, and the third demand of them. Assumes nothing.
+-- Four answers and two framebuffers that are those of the definitions, one by one, agree (SPECIFICATION, Agreement).
+-- Assumes nothing.
 use Rattle.integers.proofs.Prelude.{_≡_, sym, subst, List, ℕ}
 use Rattle.definitions.specs.Vocabulary.{RenderedDimensions, FontColor}
 use Rattle.definitions.specs.Refusals.{Outcome}

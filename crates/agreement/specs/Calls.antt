@@ -1,4 +1,4 @@
--- What the four calls answered and left, as the demand speaks of it.
+-- What the four calls answered and left, as Agreement.antt speaks of it.
 use mathlib.Core.List.{List}
 use Prim.Native.Nat.{ℕ}
 use Rattle.definitions.specs.Calls.{dimensionsOutcome}

@@ -1,4 +1,4 @@
-// Document 01's third demand, over the public calls themselves: two drawings of one text, and its measuring, agree.
+// SPECIFICATION, Agreement, of the public calls themselves: two drawings of one text, and its measuring, agree.
 ghost use mathlib.Core.Path.{_≡_};
 ghost use Rattle.definitions.specs.Font.{u8g2};
 ghost use Rattle.definitions.specs.Calls.{plain};
@@ -20,7 +20,7 @@ pub struct Answers {
 }
 
 // Draws one text on two framebuffers, on each with a font of its own, and measures it with both fonts. Whatever the input, the four
-// answers and the two framebuffers are those of the calls, and so the demand is about the calls.
+// answers and the two framebuffers are those of the calls, and so the claim is about the calls.
 pub fn draw_twice_and_measure(
     first_font: &[u8],
     second_font: &[u8],

@@ -1,4 +1,4 @@
--- Document 01, the measuring program: the line of an outcome. Characters are ASCII codes.
+-- SPECIFICATION, Measuring program: the line of an outcome. Characters are ASCII codes.
 use mathlib.Core.List.{List, [], _∷_, _++_}
 use Prim.Native.Nat.{ℕ}
 use Rattle.definitions.specs.Vocabulary.{BoundingBox, None, Some, RenderedDimensions}
@@ -11,7 +11,7 @@ abbrev pub boxWords : BoundingBox → List (List ℕ)
 boxWords None = (110 ∷ 111 ∷ 110 ∷ 101 ∷ []) ∷ []
 boxWords (Some r) = signedDecimal (left r) ∷ signedDecimal (top r) ∷ decimal (r .size .width) ∷ decimal (r .size .height) ∷ []
 
--- `ok`, advance x, y, then the box; or `no`, number, code point
+-- `ok`, the advance and the box; or `no`, the number and the code point
 abbrev pub firstWord : Outcome RenderedDimensions → List ℕ
 firstWord (success d) = 111 ∷ 107 ∷ []
 firstWord (refused n c) = 110 ∷ 111 ∷ []

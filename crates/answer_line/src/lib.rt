@@ -1,4 +1,4 @@
-// The line that a measuring call's outcome is printed as (01, the end of "Font T and its readings").
+// The line that a measuring call's outcome is printed as (SPECIFICATION, Measuring program).
 ghost use mathlib.Core.Path.{_≡_};
 ghost use Prim.Native.Nat.{_+_, _≤_};
 ghost use lib.ListN.{length};

@@ -13,7 +13,7 @@ use types::font_reader::FontReader;
 use types::glyph_reader::GlyphReader;
 use types::results::GlyphResult;
 
-// A character (01's letter) shows a glyph, or nothing where it is unknown and skipped, or stops the text.
+// A character shows a glyph, or nothing where it is unknown and skipped, or stops the text.
 pub enum Answer {
     Shows(GlyphReader),
     Nothing,

@@ -12,7 +12,7 @@ use Rattle.c_codes.specs.declared.Codes.{Codes}
 use Rattle.c_codes.specs.declared.Codes.the-variants.{Known, Unknown}
 use Rattle.c_codes.specs.declared.Meaning.{Meaning}
 
--- A refusal: 01's number as the status, the code point, and zeros.
+-- A refusal: its number (SPECIFICATION, Refusals) as the status, the code point, and zeros.
 abbrev pub refusedReply : ℕ → ℕ → Reply
 refusedReply n c = record {
   status = n;

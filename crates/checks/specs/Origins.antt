@@ -25,7 +25,7 @@ originBy ascent descent r =
     (r .position .x)
     (r .position .y +ℤ verticalOffset (r .anchor) (pos (newlines (codePointsOf (r .text)) * r .lineHeight)) ascent descent)
 
--- .. unless 01's cause 4 or 5 applies
+-- .. unless cause 4 or 5 applies (SPECIFICATION, Refusals)
 abbrev pub checkedOrigin : ℤ → ℤ → Request → Outcome Point
 checkedOrigin ascent descent r =
     unlessRefused (textCause (r .text) ∷ positionCause (r .position) (r .lineHeight) ∷ []) (success (originBy ascent descent r))
@@ -35,7 +35,7 @@ originOutcome (Ok p) = success p
 originOutcome (Err e) = refusal e
 
 -- What the checks of a call leave of a text and its place: the text is UTF-8 of at most 4,096 bytes, the line height at most
--- 65,535, and the place within 01's limits, moved by the anchor.
+-- 65,535, and the place within its limits, moved by the anchor.
 pub record Checked (text : List ℕ) (origin : Point) (lineHeight : ℕ) : Type 0 where
   pub short : length text ≤ 4096
   pub utf8 : isUtf8 (decode text) ≡ true

@@ -1,4 +1,4 @@
-// The limits of framebuffers, texts, places, line heights and colours: 01's causes 3 to 6.
+// The limits of framebuffers, texts, places, line heights and colours: causes 3 to 6 (SPECIFICATION, Refusals).
 ghost use mathlib.Core.Path.{_≡_};
 ghost use Rattle.definitions.specs.Framebuffer.{sideOff, framebufferCause};
 ghost use Rattle.definitions.specs.Limits.{textCause, coordinateOff, positionCause, backgroundOff};

@@ -52,7 +52,7 @@ pub fn text_origin(
     }
 }
 
-// The origin, or 01's cause 4 or 5, in this order.
+// The origin, or cause 4 or 5, in this order (SPECIFICATION, Refusals).
 pub fn checked_origin(
     ascent: i8,
     descent: i8,

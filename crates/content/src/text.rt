@@ -116,7 +116,7 @@ pub fn next_char(text: &[u8], at: usize) -> NextChar
     }
 }
 
-// Whether the whole text is UTF-8: 01 refuses any other before its first letter.
+// Whether the whole text is UTF-8: any other is refused before its first letter (SPECIFICATION, Refusals).
 pub fn is_utf8(text: &[u8]) -> bool
     requires { ⌜ length (now text) ≤ 4096 ⌝ }
     ensures { λ r. ⌜ r ≡ isUtf8 (decode (now (text .entry))) ⌝ }

@@ -1,5 +1,6 @@
--- Demand 3: two plain drawings of one text agree. A longer font answers each letter that the first drew with the same glyph and
--- the same pixels; so both texts are laid out alike and make one picture, and the framebuffer's law does the rest.
+-- SPECIFICATION, Agreement: two plain drawings of one text agree. A longer font answers each letter that the first drew with
+-- the same glyph and the same pixels; so both texts are laid out alike and make one picture, and the framebuffer's law does
+-- the rest.
 -- Assumes nothing.
 use Rattle.integers.proofs.Prelude.{_≡_, refl, sym, ap, subst, _∙_, Bool, false, _||_, not, List, [], _∷_, _++_, ℕ, suc, _+_, _*_, _≤_, _<_}
 use Rattle.integers.proofs.Prelude.{mul-le-mul-right, mul-comm, arith, eqb, ℤ, pos, length, eqb-true, not-false}
@@ -244,7 +245,7 @@ module _ (f g : Font) (h : f ⊑ g) (r : Request) (no-skips : r .skip ≡ false)
     second-kept = kept g r q second-within color second-unrefused d (ap (λ (l : Layout). joinAll (l .glyphs)) same-text ∙ advance-and-box .1);
   }
 
--- The third demand.
+-- SPECIFICATION, Agreement, of the definitions.
 pub agreement : (firstFont secondFont : List ℕ) (r : Request) (color : FontColor) (p q : Ground)
     → ThirdDemand firstFont secondFont r p q (results (u8g2 firstFont) (u8g2 secondFont) r color p q)
 agreement firstFont secondFont r color p q h d e =

@@ -1,4 +1,4 @@
--- The third demand is not empty: its hypotheses hold for "-4" drawn with font T on 8 × 8 pixels and with five bytes added to T
+-- Agreement is not empty: its hypotheses hold for "-4" drawn with font T on 8 × 8 pixels and with five bytes added to T
 -- on 9 × 12, the contents differing from the seventh row on. The 4 lies off the first framebuffer and half off the second.
 use Rattle.integers.proofs.Prelude.{_≡_, refl, false, List, [], _∷_, _++_, ℕ, arith, pos, replicate}
 use Rattle.definitions.specs.Vocabulary.{Some, RenderedDimensions, Transparent}

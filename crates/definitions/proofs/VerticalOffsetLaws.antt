@@ -36,7 +36,7 @@ module _ (t : ℕ) {a d : ℤ} (f : SFits w8 a) (g : SFits w8 d) where
         let o = verticalOffset v (pos t) a d in
         omega (zarith, plus o (pos t), plus o y, plus (o +ℤ y) (pos t))
 
-    -- the same within 01's limits: 4,096 bytes of text and lines 65,535 high
+    -- the same within the calls' limits: 4,096 bytes of text and lines 65,535 high
     pub offset-limits : t ≤ 268431360 → (negsuc 268431487 ≤ℤ verticalOffset v (pos t) a d) × (verticalOffset v (pos t) a d ≤ℤ pos 128)
     offset-limits h = let b = offset-bounds v in omega (zarith, plus (verticalOffset v (pos t) a d) (pos t))
 

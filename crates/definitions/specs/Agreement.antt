@@ -1,6 +1,6 @@
--- Document 01's third demand, clause by clause: two plain drawings of one text, and the measuring of that text with both fonts,
--- agree. `TwoDrawings` is what the demand supposes, `Agree` what it claims. It speaks of what four calls come to: proofs/Agreement.antt
--- proves it of the definitions, and crate agreement of the calls themselves.
+-- SPECIFICATION, Agreement, clause by clause: two plain drawings of one text, and the measuring of that text with both fonts,
+-- agree. `TwoDrawings` is what is supposed, `Agree` what is claimed. It speaks of what four calls come to:
+-- proofs/Agreement.antt proves it of the definitions, and crate agreement of the calls themselves.
 use mathlib.Core.Path.{_≡_}
 use mathlib.Core.Bool.{false}
 use mathlib.Core.List.{List, [], _∷_, _++_}
@@ -41,7 +41,7 @@ drawn font r color p = draw font r color (p .framebuffer) (p .before)
 abbrev pub after : Font → Request → FontColor → Ground → List ℕ
 after font r color p = drawBuffer font r color (p .framebuffer) (p .before)
 
--- the pixel (01's cell) of a framebuffer's bytes, and how many columns and rows there are
+-- the pixel of a framebuffer's bytes, and how many columns and rows there are
 abbrev pub pixel : Ground → List ℕ → ℕ → ℕ → ℕ
 pixel p bytes column row = getD bytes (row * p .framebuffer .width + column) 0
 
@@ -71,7 +71,7 @@ results f g r color p q = record {
   second-after = after g r color q;
 }
 
--- Both drawings are within 01's limits, and no letter is skipped; the second font is the first with any bytes, or none, added at its
+-- Both drawings are within limits, and no letter is skipped; the second font is the first with any bytes, or none, added at its
 -- end; the second framebuffer is at least as wide and high. What the framebuffers held before is not restricted.
 pub record TwoDrawings (firstFont secondFont : List ℕ) (r : Request) (p q : Ground) : Type 0 where
   pub first-within : WithinLimits (u8g2 firstFont) r p

@@ -1,4 +1,4 @@
--- Document 01, "Bits, fields, cells": the bits of bytes and the reading of numbers from them.
+-- SPECIFICATION, Bits and fields: the bits of bytes and the reading of numbers from them.
 use mathlib.Core.List.{List, [], _∷_, _++_}
 use Prim.Native.Nat.{ℕ, zero, suc, _+_, _-_, _*_, _/_, _%_, _^_}
 use lib.Dec.{ltb}
@@ -30,7 +30,7 @@ pub data Read : Type 0 where
 abbrev pub read : ℕ → List ℕ → Read
 read b s = pick (ltb b (length s)) (got (number (take b s))) ends
 
--- A read of b bits of a font, from the bit `at` on. Glyph data reaches to the font's end.
+-- A read of b bits of a font, from the bit `at` on. A glyph's data ends with the font.
 unfoldable pub readAt : List ℕ → ℕ → ℕ → Read
 readAt font at b = read b (drop at (bits font))
 

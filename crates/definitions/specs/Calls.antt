@@ -1,4 +1,4 @@
--- For each of 01's calls what it answers, as a function of its inputs; and how the enum that the code answers with is read.
+-- SPECIFICATION, Calls: what each call answers, as a function of its inputs; and how the code's answer, an enum, is read.
 -- (The redraw step is made of these: crates/redraw/specs/Redraw.antt.)
 use mathlib.Core.Bool.{Bool}
 use mathlib.Core.List.{List, [], _∷_, _++_}

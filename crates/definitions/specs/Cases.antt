@@ -1,5 +1,5 @@
--- The starred cases of document 01, and cases of what no law speaks of: the header's bytes, both inks, skipping. One table of
--- what the definitions give and what follows from 01, and one theorem, which computes them all.
+-- The worked cases of SPECIFICATION, Font T (marked *), and cases of what no law speaks of: the header's bytes, both inks,
+-- skipping. One table of what the definitions give and what follows from the rules, and one theorem, which computes them all.
 use mathlib.Core.Path.{_≡_, refl}
 use mathlib.Core.Bool.{Bool, true, false}
 use mathlib.Core.List.{List, [], _∷_, map}
@@ -177,7 +177,7 @@ F =
 
 unfoldable pub cases : List Case
 cases =
-    -- * Center, ascent −4, descent 0, no newline
+    -- * Center with ascent −4 and descent 0, a text of one line
     record { given = offset (verticalOffset Center (pos 0) (neg 4) (pos 0)); expected = offset (neg 1) }
     -- T opens, with line height 4; T's font box from each anchor
     ∷ record { given = opened (openFont T); expected = opened (success headerOfT) }
@@ -195,12 +195,12 @@ cases =
     -- the glyphs of "-" and "4"
     ∷ record { given = answered (glyph T 45); expected = answered (success (metrics 2 1 (pos 0) (pos 2) (pos 3) 214)) }
     ∷ record { given = answered (glyph T 52); expected = answered (success (metrics 2 2 (pos 0) (pos 0) (pos 3) 254)) }
-    -- * "A", U+0100 and U+10000: 7; U+0000: 8, the end record being taken as its glyph
+    -- * "A", U+0100 and U+10000: 7; U+0000: 8, as the record 0 0 is found
     ∷ record { given = answered (glyph T 65); expected = answered (refused 7 65) }
     ∷ record { given = answered (glyph T 256); expected = answered (refused 7 256) }
     ∷ record { given = answered (glyph T 65536); expected = answered (refused 7 65536) }
     ∷ record { given = answered (glyph T 0); expected = answered (refused 8 0) }
-    -- * T cut to 33 bytes: "4" is there, "A" gives 8
+    -- * the first 33 bytes of T: "4" is there, "A" is 8
     ∷ record { given = answered (glyph (take 33 T) 52); expected = answered (success (metrics 2 2 (pos 0) (pos 0) (pos 3) 254)) }
     ∷ record { given = answered (glyph (take 33 T) 65); expected = answered (refused 8 65) }
     -- glyph data reaches past its jump: T with the jump of "4" cut to 3
@@ -249,7 +249,7 @@ cases =
       given = drawnWith (Transparent 1) true T (45 ∷ 0 ∷ 52 ∷ []);
       expected = drawn (refused 8 0) (inked minusPixels);
     }
-    -- * T cut to 33 bytes: "4" draws, "A" gives 8
+    -- * the first 33 bytes of T: "4" is drawn, "A" is 8
     ∷ record { given = drawnAt (take 33 T) (52 ∷ []); expected = drawn four (inked fourPixels) }
     ∷ record { given = drawnAt (take 33 T) (65 ∷ []); expected = drawn (refused 8 65) (inked []) }
     -- * the empty text

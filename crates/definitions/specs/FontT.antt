@@ -1,4 +1,4 @@
--- Document 01, "Font T and its readings": the bytes of font T.
+-- SPECIFICATION, Font T: the bytes of font T.
 use mathlib.Core.List.{List, [], _∷_}
 use Prim.Native.Nat.{ℕ}
 

@@ -1,4 +1,5 @@
--- The framebuffer (01's panel): one byte a pixel, rows from the top. It is a window onto a picture; pixels off it are dropped.
+-- SPECIFICATION, Drawing and measuring: the framebuffer, one byte a pixel, rows from the top. It is a window onto a picture;
+-- pixels off it are dropped.
 use mathlib.Core.Bool.{Bool, _||_, not}
 use mathlib.Core.List.{List, [], _∷_}
 use Prim.Native.Nat.{ℕ, suc, _*_, _/_, _%_}
@@ -25,7 +26,7 @@ shown width picture buffer = mapAt (λ i old. over (picture (pos (i % width)) (p
 abbrev pub sized : ℕ → ℕ → Framebuffer
 sized width height = record { width = width; height = height }
 
--- Cause 3: it is 1 to 256 pixels wide and high, and its buffer has exactly width × height bytes.
+-- Cause 3: a side is not 1 to 256 pixels long, or the buffer's length is not the product of the sides.
 abbrev pub sideOff : ℕ → Bool
 sideOff n = eqb n 0 || ltb 256 n
 

@@ -1,4 +1,4 @@
--- Document 01, boxes: when a cell lies in one, and the join of two.
+-- SPECIFICATION, Texts: boxes, when a pixel lies in one, and the join of two.
 use Prim.Native.Nat.{ℕ}
 use lib.IntN.{ℤ, pos, negsuc, natAbs, _+ℤ_, _-ℤ_}
 use lib.Signed.{_≤ℤ_, _<ℤ_}
@@ -18,7 +18,7 @@ right r = left r +ℤ pos (r .size .width)
 abbrev pub bottom : Rectangle → ℤ
 bottom r = top r +ℤ pos (r .size .height)
 
--- The cell (column, row) lies in the rectangle.
+-- The pixel (column, row) lies in the rectangle.
 pub record Inside (column row : ℤ) (r : Rectangle) : Type 0 where
   pub from-left : left r ≤ℤ column
   pub to-right : column <ℤ right r
@@ -49,7 +49,7 @@ join (Some p) None = Some p
 join (Some p) (Some q) = Some (joinRectangles p q)
 
 -- The reach of the code that joins boxes: every edge lies between −1,073,741,823 and 1,073,741,823, so that the difference of
--- two edges fits an i32. Whatever a call within 01's limits draws or measures lies far inside.
+-- two edges fits an i32. Whatever a call within limits draws or measures lies far inside.
 pub record SpanInReach (start : ℤ) (len : ℕ) : Type 0 where
   pub low : negsuc 1073741822 ≤ℤ start
   pub high : (start +ℤ pos len) ≤ℤ pos 1073741823

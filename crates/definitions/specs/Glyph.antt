@@ -1,4 +1,4 @@
--- Document 01: a glyph's fields, in the order w, h, x, y, advance, and the answer to a code point.
+-- SPECIFICATION, Bits and fields: a glyph's fields, in the order w, h, x, y, advance, and the answer to a code point.
 use mathlib.Core.List.{List}
 use Prim.Native.Nat.{ℕ, _+_, _*_}
 use Rattle.definitions.specs.Vocabulary.{FontReader, GlyphReader}

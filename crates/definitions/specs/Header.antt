@@ -1,4 +1,4 @@
--- Document 01, "The header", and its limits: causes 1 and 2 of the table of refusals.
+-- SPECIFICATION, Header, and its limits: causes 1 and 2 of Refusals.
 use mathlib.Core.Bool.{Bool, _||_, not}
 use mathlib.Core.List.{List, [], _∷_}
 use mathlib.Core.Path.{_≡_}

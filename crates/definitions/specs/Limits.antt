@@ -1,4 +1,4 @@
--- Document 01, the limits of texts, places, line heights and colours: causes 4, 5 and 6 of the table of refusals.
+-- SPECIFICATION, Limits, of texts, places, line heights and colours: causes 4, 5 and 6 of Refusals.
 -- (Causes 1 and 2 stand in Header.antt, cause 3 in Framebuffer.antt.)
 use mathlib.Core.Bool.{Bool, false, _||_, not}
 use mathlib.Core.List.{List}

@@ -1,4 +1,4 @@
--- Document 01, "From code point to glyph": where a code point's glyph begins, or why there is none.
+-- SPECIFICATION, Lookup: where a code point's glyph begins, or why there is none.
 --
 -- The chain walks the font's bytes. `skip` bytes are still to be passed over before a record is looked at, and `at` is the
 -- index of the list's first byte. So the walk ends with the bytes, and no other bound decides an answer.
@@ -24,7 +24,7 @@ pub data Record : Type 0 where
   last : Record  -- the chain ends
   cut : Record  -- a byte is missing
 
--- Up to 255. Code equal: found. Else jump 0: the chain ends. Else move by the jump.
+-- Up to 255. The glyph is here if the code matches; if not, jump 0 ends the chain, and any other jump leads on.
 unfoldable pub record8 : ℕ → List ℕ → Record
 record8 c [] = cut
 record8 c (code ∷ []) = cut
@@ -57,8 +57,8 @@ chain look at zero (b ∷ s) = follow (look (b ∷ s)) at (λ jump. chain look (
 
 -- ---- the jump table
 
--- The jump table: the sum of the distances, up to the first entry whose upper limit is not below the code point; none if
--- no whole entry remains before that.
+-- The jump table: the sum of the distances, up to the first entry whose upper limit is the code point or above; none if
+-- the whole entries end before that.
 pub data Distance : Type 0 where
   sum : ℕ → Distance
   none : Distance
@@ -77,7 +77,7 @@ jumpTable c total (a ∷ b ∷ d ∷ e ∷ s) =
 abbrev pub records : ℕ
 records = 23
 
--- Code points up to 255 start there, moved by the offset of 'a' from 97 up and by that of 'A' from 65 to 96.
+-- The chain of a code point up to 255 begins there, moved by the offset of 'a' for 97 and above, by that of 'A' for 65 to 96.
 abbrev pub chainStart : FontReader → ℕ → ℕ
 chainStart head c =
     pick (leb 97 c) (records + head .«array_offset_lower_a»)

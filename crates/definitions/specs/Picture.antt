@@ -24,7 +24,7 @@ abbrev pub above : Paint → Paint → Paint
 above keep below = below
 above (put c) below = put c
 
--- The ground colour fills zero pixels; transparent ink skips them.
+-- Ones take the foreground; zeros take the background, or are kept where there is none.
 abbrev pub paintOf : FontColor → ℕ → Paint
 paintOf (Transparent c) bit = pick (eqb bit 1) (put c) keep
 paintOf (WithBackground fg bg) bit = pick (eqb bit 1) (put fg) (put bg)

@@ -1,4 +1,4 @@
--- Document 01, "Refused calls": what a call comes to, the number and the code point of each refusal, and the order in
+-- SPECIFICATION, Refusals: what a call comes to, the number and the code point of each refusal, and the order in
 -- which causes are tested.
 use mathlib.Core.Bool.{Bool, false, _||_}
 use mathlib.Core.List.{List, [], _∷_}
@@ -7,7 +7,7 @@ use Rattle.integers.specs.Integers.{pick}
 use Rattle.definitions.specs.Vocabulary.{Error}
 use Rattle.types.specs.declared.error.Error.the-variants.{FontLength, FontHeader, FramebufferSize, TextEncoding, PositionOrLineHeight, BackgroundColorNotSupported, GlyphNotFound, FontEnds}
 
--- A call succeeds with a value, or is refused with 01's number and a code point.
+-- A call succeeds with a value, or is refused with a number and a code point.
 pub data Outcome (A : Type 0) : Type 0 where
   success : A → Outcome A
   refused : ℕ → ℕ → Outcome A
@@ -17,7 +17,7 @@ abbrev pub andThen : {A B : Type 0} → Outcome A → (A → Outcome B) → Outc
 andThen (success a) rest = rest a
 andThen (refused n c) rest = refused n c
 
--- 01's number of each case of the error type
+-- the number of each case of the error type
 abbrev pub errorNumber : Error → ℕ
 errorNumber FontLength = 1
 errorNumber FontHeader = 2

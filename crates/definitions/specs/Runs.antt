@@ -1,4 +1,4 @@
--- Document 01, "Runs": a glyph's pixels (01's cells), row by row from the top left, from its runs.
+-- SPECIFICATION, Runs: a glyph's pixels, row by row from the top left, from its runs.
 --
 -- The walk goes over the bits after a pair, `skip` of which are passed over first. So it ends with the bits, and no other
 -- bound decides an answer.
@@ -48,7 +48,7 @@ afterPair m0 m1 n zeros ones zero (b ∷ s) =
 unfoldable pub runs : ℕ → ℕ → ℕ → List ℕ → Pixels
 runs m0 m1 n s = readPair m0 m1 s (λ zeros ones. pair n zeros ones (λ n. afterPair m0 m1 n zeros ones (m0 + m1) s))
 
--- A glyph's pixels. If w or h is 0, no runs are read.
+-- A glyph's pixels. Without width or height none of its runs is read.
 unfoldable pub glyphPixels : List ℕ → FontReader → GlyphReader → Pixels
 glyphPixels font head g =
     pick (eqb (g .«glyph_width» * g .«glyph_height») 0)

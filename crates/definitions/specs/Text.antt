@@ -1,4 +1,4 @@
--- Document 01, from "The box at (X, Y)" to the alignments: where each letter of a text stands, and what the text comes to.
+-- SPECIFICATION, Texts and Alignment: where each letter of a text stands, and what the text comes to.
 --
 -- Everything here is a function of what the font answers to each letter. No byte of a font is seen, so drawing, another
 -- kind of font and another alignment are new uses of these definitions and no new definitions of them.
@@ -13,7 +13,7 @@ use Rattle.types.specs.declared.style.HorizontalAlignment.the-variants.{Left, C
 use Rattle.definitions.specs.Refusals.{Outcome, success, refused, andThen}
 use Rattle.definitions.specs.Geometry.{left, join}
 
--- ---- a character (01's letter)
+-- ---- a character, or letter
 
 -- What the font answers to it: it shows a glyph, or nothing, or stops the text with a refusal.
 pub data Answer : Type 0 where
@@ -147,6 +147,6 @@ alignedLine Left answers origin advance l = letters answers origin advance l
 alignedLine Center answers origin advance l = movedLine Center answers origin advance l
 alignedLine Right answers origin advance l = movedLine Right answers origin advance l
 
--- An aligned text from the origin on. A text starts with advance (0, 0).
+-- An aligned text from the origin on, its advance being (0, 0) at first.
 abbrev pub aligned : (ℕ → Answer) → ℕ → HorizontalAlignment → Point → List ℕ → Layout
 aligned answers lineHeight a origin cs = lineByLine (alignedLine a answers origin) lineHeight (point (pos 0) (pos 0)) (lines cs)

@@ -1,4 +1,4 @@
--- Document 01: a text is UTF-8, Unicode's well-formed sequences. From the Unicode Standard, section 3.9: table 3-7, the
+-- SPECIFICATION, Limits: a text is well-formed UTF-8. From the Unicode Standard, section 3.9: table 3-7, the
 -- well-formed sequences of bytes, and table 3-6, how a sequence's bits make the code point.
 use mathlib.Core.Bool.{Bool, true, false, _&&_}
 use mathlib.Core.List.{List, [], _∷_, _++_}

@@ -1,4 +1,4 @@
--- Document 01, "Anchors add to y": by how much a text is moved down, with t the newlines times the line height, and a and d
+-- SPECIFICATION, Anchors: by how much a text is moved down, with t the newlines times the line height, and a and d
 -- the font's ascent and descent.
 use lib.IntN.{ℤ, pos, _+ℤ_, _-ℤ_}
 use Rattle.integers.specs.Integers.{half}

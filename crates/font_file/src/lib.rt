@@ -13,7 +13,7 @@ pub enum FontFile {
     TooLong,
 }
 
-// Room for the longest font of 01, 1,048,576 bytes, and one byte more, which only a longer file fills.
+// Room for the longest font that the calls take, 1,048,576 bytes, and one byte more, which only a longer file fills.
 pub fn buffer() -> [u8; 1_048_577]
     ensures { λ r. ⌜ 1048577 ≡ length r ⌝ }
 {

@@ -42,7 +42,7 @@ fn is_negative(b: u8) -> bool
     127 < b
 }
 
-// Whether a width is off its limits, or the font's bounding box negative (01's cause 2).
+// Whether a width is off its limits, or the font's bounding box negative (cause 2 of SPECIFICATION, Refusals).
 fn has_bad_header(font: &[u8]) -> bool
     requires { ⌜ 23 ≤ length (now font) ⌝ }
     ensures { λ r. ⌜ r ≡ headerOff (now (font .entry)) ⌝ }
@@ -95,7 +95,7 @@ fn read_header(font: &[u8]) -> FontReader
     }
 }
 
-// Opens a font: its header's values and the default line height, or 01's cause 1 or 2.
+// Opens a font: its header's values and the default line height, or cause 1 or 2.
 pub fn new_from_raw_data(font: &[u8]) -> FontReaderResult
     ensures { λ r. ⌜ fontReaderOutcome r ≡ openFont (now (font .entry)) ⌝ }
 {
@@ -108,7 +108,7 @@ pub fn new_from_raw_data(font: &[u8]) -> FontReaderResult
     FontReaderResult::Ok(read_header(font))
 }
 
-// What the font answers to a code point: its glyph, or 01's number 7 or 8. The header is read anew, as only a few of its numbers
+// What the font answers to a code point: its glyph, or number 7 or 8. The header is read anew, as only a few of its numbers
 // are needed: the compiler does not inline this function, and would copy all of `head` for each letter.
 pub fn retrieve_glyph_data(font: &[u8], head: FontReader, ch: u32) -> GlyphResult
     requires { ⌜ Opened (now font) head ⌝ }

@@ -8,7 +8,7 @@ use Rattle.integers.specs.Integers.{pick}
 use Rattle.definitions.specs.Vocabulary.{BoundingBox, None, Some, Rectangle}
 use Rattle.definitions.specs.Picture.{keep, put, Picture, covers}
 
--- A framebuffer of so many bytes within 01's limits.
+-- A framebuffer of so many bytes whose size is within limits, or which has no rows.
 pub record BufferFits (bytes width height : ℕ) : Type 0 where
   pub some : 1 ≤ width
   pub wide : width ≤ 256

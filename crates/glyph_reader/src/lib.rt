@@ -1,4 +1,4 @@
-// The fields of a glyph, read from the font's bits (01, "Bits, fields, cells").
+// The fields of a glyph, read from the font's bits (SPECIFICATION, Bits and fields).
 pub mod window;
 
 ghost use mathlib.Core.Path.{_≡_};
@@ -21,7 +21,7 @@ fn unsigned_field(bits: u64, width: u8) -> u8
     (bits % ((1u32 << width) as u64)) as u8
 }
 
-// The same of 1 to 8 bits, less half of their range (01's 2 to the power b − 1).
+// The same of 1 to 8 bits, less half of their range.
 fn signed_field(bits: u64, width: u8) -> i8
     requires { ⌜ (1 ≤ width) × (width ≤ 8) ⌝ }
     ensures { λ r. ⌜ r ≡ biased width (bits % 2 ^ width) ⌝ }

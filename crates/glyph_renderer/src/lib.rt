@@ -1,5 +1,5 @@
-// Drawing a glyph from its runs (01, "Runs"). A glyph is drawn only after its runs were read to the last pixel, so a font
-// that ends too early draws none of it.
+// Drawing a glyph from its runs (SPECIFICATION, Runs). A glyph is drawn only after its runs were read to the last pixel, so a
+// font that ends too early draws none of it.
 ghost use mathlib.Core.Path.{_≡_};
 ghost use lib.ListN.{length};
 ghost use Rattle.definitions.specs.Font.{u8g2, pixelsOf};

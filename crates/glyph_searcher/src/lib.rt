@@ -20,9 +20,9 @@ const U8G2_FONT_DATA_STRUCT_SIZE: usize = 23;
 pub enum SearchResult {
     // the glyph begins at this byte
     Found(usize),
-    // the font has no such glyph: 01's number 7
+    // the font has no such glyph: number 7
     GlyphNotFound,
-    // a byte is missing, or a move goes past the end: 01's number 8
+    // a byte is missing, or a move goes past the end: number 8
     FontEnds,
 }
 
@@ -55,8 +55,8 @@ fn chain_start(head: FontReader, ch: u32) -> usize
     U8G2_FONT_DATA_STRUCT_SIZE
 }
 
-// Code points from 256 to 65535: the jump table begins at `table`, and leads to the chain. Moving exactly
-// to the end is allowed, both to the table and from it.
+// Code points from 256 to 65535: the jump table begins at `table`, and leads to the chain. Each may
+// begin exactly at the font's end, but not past it.
 fn search_unicode(font: &[u8], table: usize, encoding: u16) -> SearchResult
     requires { ⌜ length (now font) ≤ 1048576 ⌝ }
     ensures { λ r. ⌜ searched r ≡ searchTable (now (font .entry)) table encoding ⌝ }

@@ -1,4 +1,4 @@
-// What a record says of a code point. A record is code, jump, glyph.
+// What a record says of a code point. A record has a code, a jump and a glyph's data.
 ghost use mathlib.Core.Path.{_≡_};
 ghost use Prim.Native.Nat.{_≤_};
 ghost use lib.Dec.{eqb};
@@ -29,8 +29,8 @@ fn jump_to_next(jump: u8) -> Record
     Record::Next(jump)
 }
 
-// A record with a code of one byte. The code is compared before the jump is looked at (01, "as
-// `retrieve_glyph_data` does").
+// A record with a code of one byte. Its code counts before its jump, as in the
+// Rust's `retrieve_glyph_data` (SPECIFICATION, Lookup).
 fn read_record8(font: &[u8], at: usize, ch: u16) -> Record
     requires { ⌜ at ≤ 1048831 ⌝ }
     ensures { λ r. ⌜ asRecord r ≡ record8 ch (drop at (now (font .entry))) ⌝ }

@@ -13,7 +13,7 @@ pub enum JumpOffset {
 }
 
 // An entry is a distance and an upper limit. The sum may pass the font's end, and 32 bits, long before
-// the table answers: the move happens afterwards (01, "If no whole entry remains: 7").
+// the table answers: the move happens afterwards (SPECIFICATION, Lookup).
 pub fn calculate_jump_offset(font: &[u8], start: usize, encoding: u16) -> JumpOffset
     requires { ⌜ (length (now font) ≤ 1048576) × (start ≤ length (now font)) ⌝ }
     ensures { λ r. ⌜ distance r ≡ jumpTable encoding 0 (drop start (now (font .entry))) ⌝ }

@@ -1,4 +1,4 @@
--- What document 01 does with signed numbers: a choice by a test, the lesser and the greater of two, a byte read as
+-- What the definitions do with signed numbers: a choice by a test, the lesser and the greater of two, a byte read as
 -- signed, and half of a number, rounded towards zero. Orders, sums and differences are the library's.
 use mathlib.Core.Bool.{Bool, true, false}
 use Prim.Native.Nat.{ℕ}

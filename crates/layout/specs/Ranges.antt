@@ -1,4 +1,4 @@
--- How far from 0 the numbers lie that the functions inside are handed. Calls within 01's limits stay far inside.
+-- How far from 0 the numbers lie that the functions inside are handed. Calls within limits stay far inside.
 use mathlib.Core.Path.{_≡_}
 use Prim.Native.Nat.{ℕ}
 use lib.IntN.{ℤ, pos, negsuc, _+ℤ_}

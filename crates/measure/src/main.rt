@@ -1,4 +1,4 @@
-// The measuring program (01, the end of "Font T and its readings"): the font is the file `font.bin` of
+// The measuring program (SPECIFICATION, Measuring program): the font is the file `font.bin` of
 // the working folder, the text is standard input as it stands, and one line tells what the text
 // measures. What the line says is proved in `measure_line`.
 use libc::STDIN_FILENO;

@@ -1,4 +1,4 @@
--- Document 01, the measuring program's examples: one table of what `measuringLine` gives and what 01 says, computed.
+-- The measuring program's examples (SPECIFICATION, Font T): one table of what `measuringLine` gives and is to give, computed.
 use Rattle.integers.proofs.Prelude.{_≡_, refl, List, [], _∷_, map, ℕ}
 use Rattle.integers.specs.Integers.{signed8}
 use Rattle.definitions.specs.Header.{header, headerOff}

@@ -1,5 +1,5 @@
--- Document 01, the measuring program: what it measures and the line that it prints, as functions of the font's bytes and the text's
--- bytes.
+-- SPECIFICATION, Measuring program: what it measures and the line that it prints, as functions of the font's bytes and the
+-- text's bytes.
 use mathlib.Core.Bool.{false}
 use mathlib.Core.List.{List}
 use Prim.Native.Nat.{ℕ}

@@ -1,4 +1,4 @@
-// The line that the measuring program prints (01, the end of "Font T and its readings").
+// The line that the measuring program prints (SPECIFICATION, Measuring program).
 pub mod program;
 
 ghost use mathlib.Core.Path.{_≡_};

@@ -1,4 +1,4 @@
-// The measuring program (01, the end of "Font T and its readings"): it reads a font and a text and prints
+// The measuring program (SPECIFICATION, Measuring program): it reads a font and a text and prints
 // the line.
 ghost use mathlib.Core.List.{List};
 ghost use Prim.Native.Nat.{ℕ};

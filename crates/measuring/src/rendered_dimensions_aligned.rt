@@ -9,8 +9,8 @@ use types::style::HorizontalAlignment;
 use types::style::Placement;
 use types::style::VerticalPosition;
 
-// The bounding box of the aligned text at the position, or the refusal. It has no advance: 01 returns
-// none for aligned lines.
+// The bounding box of the aligned text at the position, or the refusal. It has no advance
+// (SPECIFICATION, Alignment).
 pub fn get_rendered_dimensions_aligned(
     font: &[u8],
     text: &[u8],

@@ -1,5 +1,5 @@
 -- A text that is measured at (0, 0) and drawn at the opposite of its box's corner is seen whole (Whole.antt): the box's corner is
--- within 01's limits for places, the box has a pixel, and drawing comes to what measuring does, moved. Assumes nothing.
+-- within the limits for places, the box has a pixel, and drawing comes to what measuring does, moved. Assumes nothing.
 use Rattle.integers.proofs.Prelude.{_≡_, refl, sym, ap, subst, _∙_, Bool, true, false, _||_, not, _⊎_, inl, inr, List, [], _∷_, ℕ, _+_, _*_, _≤_}
 use Rattle.integers.proofs.Prelude.{arith, ltb, eqb, ℤ, pos, negsuc, _+ℤ_, _-ℤ_, ltZ, _≤ℤ_, length, ltb-false, eqb-false, le-ltb, ne-eqb, eq-eqb}
 use Rattle.integers.proofs.Prelude.{not-false}

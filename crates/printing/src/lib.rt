@@ -1,4 +1,4 @@
-// What the programs print: numbers, and answers in 01's words (`ok` or `no`, then numbers).
+// What the programs print: numbers, and answers in the measuring program's words (`ok` or `no`, then numbers).
 pub mod digits;
 
 use libc::STDOUT_FILENO;

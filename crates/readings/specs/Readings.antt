@@ -23,7 +23,7 @@ pub record ReadingPut (k r : ℕ) (after : List ℕ) : Type 0 where
 abbrev pub reading : Place → ℕ → Drawing
 reading place k = asked place (readingText k)
 
--- a framebuffer within 01's limits
+-- a framebuffer of a size within limits
 pub record PlaceFits (width height : ℕ) : Type 0 where
   pub some-wide : 1 ≤ width
   pub wide : width ≤ 256

@@ -1,5 +1,6 @@
 -- Filling the box of a reading that was drawn on the background colour brings back what the framebuffer held before: inside the
--- box it was that colour, and outside nothing had changed, by demand 3. And what the step answers, by its causes. Assumes nothing.
+-- box it was that colour, and outside nothing had changed (SPECIFICATION, Agreement). And what the step answers, by its
+-- causes. Assumes nothing.
 use Rattle.integers.proofs.Prelude.{_≡_, refl, sym, ap, subst, _∙_, Bool, true, false, _||_, not, _⊎_, inl, inr, List, [], _∷_, _++_, ℕ, _+_, _*_}
 use Rattle.integers.proofs.Prelude.{_≤_, _<_, arith, eqb, ltb, pos, length, eqb-false, ne-eqb}
 use Rattle.integers.proofs.Choices.{impossible}

@@ -52,7 +52,7 @@ clearedBy width color (refused n c) bytes = bytes
 
 -- ---- the step
 
--- The causes of the step, in 01's order, for both texts.
+-- The causes of the step, in the order of SPECIFICATION, Refusals, for both texts.
 abbrev pub redrawCauses : List ℕ → List ℕ → Drawing → Ground → List Cause
 redrawCauses font old new p =
     fontCauses font

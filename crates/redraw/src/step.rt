@@ -28,7 +28,7 @@ pub enum StepResult {
     Err(Error),
 }
 
-// 01's causes 1 to 6, in this order, for both texts. Nothing is skipped.
+// Causes 1 to 6 (SPECIFICATION, Refusals), in this order, for both texts. Nothing is skipped.
 pub fn check_step(
     font: &[u8],
     old_text: &[u8],

@@ -1,5 +1,5 @@
 // Replays the cases of data/cases.bin through the public calls and prints what each answers. The file
-// stdout holds what tools/model.py, written from 01 and apart from the crates, says of them (tools/cases.py writes both).
+// stdout holds what tools/model.py, the rules written apart from the crates, says of them (tools/cases.py writes both).
 use case_calls::request;
 use cases::case_file::number;
 use cases::case_file::unpack;

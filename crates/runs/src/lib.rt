@@ -1,4 +1,4 @@
-// A glyph's runs (01, "Runs"), pair by pair.
+// A glyph's runs (SPECIFICATION, Runs), pair by pair.
 ghost use mathlib.Core.Path.{_≡_};
 ghost use Prim.Native.Nat.{_+_, _*_, _≤_, _<_};
 ghost use lib.ListN.{length, drop};

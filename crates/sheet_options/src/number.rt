@@ -52,7 +52,7 @@ fn read_natural(text: &[u8], start: usize, minus: bool) -> Number {
     Number::Of(n as i32)
 }
 
-// A coordinate within 01's limits: digits, or a minus sign and digits.
+// A coordinate within the calls' limits: digits, or a minus sign and digits.
 pub fn read_coordinate(text: &[u8]) -> Number {
     if text.len() == 0 {
         return Number::NotOne;

@@ -1,4 +1,4 @@
-// Why a call is refused. 01 numbers the causes: specs/Refusals.antt of the crate definitions gives
+// Why a call is refused (SPECIFICATION, Refusals): specs/Refusals.antt of the crate definitions gives
 // each case its number and code point.
 pub enum Error {
     // the font has fewer than 23 or more than 1,048,576 bytes

@@ -15,7 +15,7 @@ pub struct Rectangle {
     pub size: Size,
 }
 
-// The bounding box of what is drawn: none where nothing is (01's "box or none").
+// The bounding box of what is drawn: none where nothing is.
 pub enum BoundingBox {
     None,
     Some(Rectangle),

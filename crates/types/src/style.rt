@@ -1,7 +1,7 @@
 // How a text is placed and coloured.
 use crate::geometry::Point;
 
-// Which height of the font stands at the given y (01's anchor).
+// Which height of the font stands at the given y (SPECIFICATION, Anchors).
 pub enum VerticalPosition {
     Baseline,
     Top,
@@ -16,7 +16,7 @@ pub enum HorizontalAlignment {
     Right,
 }
 
-// The colour of the pixels (01's ink). Transparent leaves the background pixels of a glyph as they
+// The colour of the pixels. Transparent leaves the background pixels of a glyph as they
 // were; WithBackground fills them, which not every font allows.
 pub enum FontColor {
     Transparent(u8),

@@ -1,9 +1,9 @@
-// What 01 returns with a refusal: a number and a code point.
+// What is answered with a refusal: a number and a code point (SPECIFICATION, Refusals).
 ghost use mathlib.Core.Path.{_≡_};
 ghost use Rattle.definitions.specs.Refusals.{errorNumber, codePoint};
 use types::error::Error;
 
-// 01's number of a refusal.
+// The number of a refusal.
 pub fn error_number(e: Error) -> u32
     ensures { λ r. ⌜ r ≡ errorNumber e ⌝ }
 {

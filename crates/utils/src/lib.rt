@@ -1,4 +1,4 @@
-// Joining bounding boxes, as 01 has it for the boxes of a text's glyphs; and, in modules of their own,
+// Joining the bounding boxes of a text's glyphs (SPECIFICATION, Texts); and, in modules of their own,
 // what is printed of refusals and of numbers, and the 16-bit numbers of a font.
 pub mod big_endian;
 pub mod error;

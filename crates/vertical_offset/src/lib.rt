@@ -1,11 +1,11 @@
-// How far the anchor moves a text down (01, "Anchors add to y").
+// How far the anchor moves a text down (SPECIFICATION, Anchors).
 use types::style::VerticalPosition;
 ghost use mathlib.Core.Path.{_≡_};
 ghost use Prim.Native.Nat.{_*_, _≤_};
 ghost use lib.IntN.{pos};
 ghost use Rattle.definitions.specs.VerticalOffset.{verticalOffset};
 
-// The division rounds towards zero, as 01 asks.
+// The division rounds towards zero.
 pub fn compute_vertical_offset(
     vertical_pos: VerticalPosition,
     ascent: i8,
