@@ -19,7 +19,8 @@ use Rattle.definitions.specs.Calls.{placed, plain}
 use Rattle.definitions.proofs.MovedLaws.{measured-at-zero}
 use Rattle.readings.specs.Readings.{readingText, PlaceFits}
 use Rattle.sheet_extent.specs.Extent.{atOrigin, widened, withBox, withReading, extentOf, Within, HoldsReadings, NearEdge, NearExtent, AllMeasured}
-use Rattle.sheet_extent.specs.Extent.{beforeZero, inside, positionFor, sideOf, side, placeAt, placeFor, Uncut, OnFramebuffer, AllSeen}
+use Rattle.sight.specs.Sights.{OnFramebuffer}
+use Rattle.sheet_extent.specs.Extent.{beforeZero, inside, positionFor, sideOf, side, placeAt, placeFor, Uncut, AllSeen}
 
 -- ---- between the edges
 
@@ -231,7 +232,7 @@ module _ (font : List ℕ) (o : Options) (wanted : o .wanted ≡ Seen) where
   there = placeAt (o .«vertical_pos») (positionFor Seen edges) edges
 
   on-framebuffer : Uncut there edges → (b : BoundingBox) → ((r : Rectangle) → b ≡ Some r → Within r edges) → (column row : ℤ)
-      → InsideBox column row (movedBox (there .position .x) (there .position .y) b) → OnFramebuffer column row there
+      → InsideBox column row (movedBox (there .position .x) (there .position .y) b) → OnFramebuffer (there .framebuffer) column row
   on-framebuffer uncut None between column row i = absurd i
   on-framebuffer uncut (Some r) between column row i =
       let w = between r refl in

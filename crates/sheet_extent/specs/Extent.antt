@@ -20,6 +20,7 @@ use Rattle.redraw.specs.declared.place.Place.{Place}
 use Rattle.sheet_extent.specs.declared.values.Wanted.{Wanted}
 use Rattle.sheet_extent.specs.declared.values.Wanted.the-variants.{Seen, At}
 use Rattle.readings.specs.Readings.{readingText, reading}
+use Rattle.sight.specs.Sights.{OnFramebuffer}
 
 -- ---- the edges
 
@@ -124,14 +125,8 @@ abbrev pub Uncut : Place → Extent → Type 0
 Uncut place e =
     ((place .position .x +ℤ e .right +ℤ pos 3) ≤ℤ pos 256) × ((place .position .y +ℤ e .bottom +ℤ pos 3) ≤ℤ pos 256)
 
-pub record OnFramebuffer (column row : ℤ) (place : Place) : Type 0 where
-  pub from-left : pos 0 ≤ℤ column
-  pub to-right : column <ℤ pos (place .framebuffer .width)
-  pub from-top : pos 0 ≤ℤ row
-  pub to-bottom : row <ℤ pos (place .framebuffer .height)
-
 -- Every pixel of every reading's box lies on the framebuffer.
 abbrev pub AllSeen : List ℕ → Place → Type 0
 AllSeen font place =
     (k : ℕ) → k < 901 → (d : RenderedDimensions) → measured font (reading place k) ≡ success d
-    → (column row : ℤ) → InsideBox column row (d .«bounding_box») → OnFramebuffer column row place
+    → (column row : ℤ) → InsideBox column row (d .«bounding_box») → OnFramebuffer (place .framebuffer) column row
