@@ -2,7 +2,7 @@
 ghost use mathlib.Core.Path.{_≡_};
 ghost use Rattle.definitions.specs.Font.{u8g2};
 ghost use Rattle.definitions.specs.Calls.{plain};
-ghost use Rattle.definitions.specs.Agreement.{on, results, ThirdDemand};
+ghost use Rattle.definitions.specs.Agreement.{on, results, MeasuredAsDrawn};
 ghost use Rattle.agreement.specs.Calls.{asResults};
 use measuring::rendered_dimensions::get_rendered_dimensions;
 use renderer::render::render;
@@ -36,7 +36,7 @@ pub fn draw_twice_and_measure(
         (u8g2 (now («first_font» .entry))) (u8g2 (now («second_font» .entry)))
         (plain (now (text .entry)) placement (style .«vertical_pos»)) (style .color)
         (on «first_framebuffer» (now («first_buffer» .entry))) (on «second_framebuffer» (now («second_buffer» .entry))) ⌝ }
-    ensures agree { λ r. ⌜ ThirdDemand (now («first_font» .entry)) (now («second_font» .entry))
+    ensures agree { λ r. ⌜ MeasuredAsDrawn (now («first_font» .entry)) (now («second_font» .entry))
         (plain (now (text .entry)) placement (style .«vertical_pos»)) (on «first_framebuffer» (now («first_buffer» .entry)))
         (on «second_framebuffer» (now («second_buffer» .entry))) (asResults r (now («first_buffer» .exit))
         (now («second_buffer» .exit))) ⌝ }

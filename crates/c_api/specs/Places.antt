@@ -1,9 +1,8 @@
 -- Where and how a reading is drawn, by the numbers and codes of a call.
 use Prim.Native.Nat.{ℕ}
 use lib.IntN.{ℤ}
-use Rattle.definitions.specs.Vocabulary.{Framebuffer}
+use Rattle.definitions.specs.Vocabulary.{Framebuffer, Place}
 use Rattle.definitions.specs.Text.{point}
-use Rattle.redraw.specs.declared.place.Place.{Place}
 use Rattle.c_codes.specs.declared.Meaning.{Meaning}
 use Rattle.c_codes.specs.Codes.{styleOf}
 

@@ -1,2 +1,3 @@
 pub mod OriginLaws
 pub mod LimitLaws
+pub mod SizeLaws

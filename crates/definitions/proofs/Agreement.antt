@@ -18,7 +18,7 @@ use Rattle.definitions.specs.Picture.{Paint, textPicture}
 use Rattle.definitions.specs.Framebuffer.{over, sideOff, framebufferCause}
 use Rattle.definitions.specs.Limits.{textCause, positionCause, backgroundOff, backgroundCause}
 use Rattle.definitions.specs.Calls.{Request, codePointsOf, origin, laid, measureCauses, measuredText, measure, drawCauses, drawnText, draw, drawBuffer}
-use Rattle.definitions.specs.Agreement.{Ground, WithinLimits, drawn, after, pixel, width, height, results, KeptOutside, Agree, ThirdDemand}
+use Rattle.definitions.specs.Agreement.{Ground, WithinLimits, drawn, after, pixel, width, height, results, KeptOutside, Agree, MeasuredAsDrawn}
 use Rattle.definitions.proofs.RefusalLaws.{went-on, none-applies, succeeded, NoneApplies, each-off, all-off, any-parts, parts-any, or-false}
 use Rattle.definitions.proofs.OpenedLaws.{opened-by-causes}
 use Rattle.definitions.proofs.LookupLaws.{header-longer, search-longer}
@@ -247,7 +247,7 @@ module _ (f g : Font) (h : f ⊑ g) (r : Request) (no-skips : r .skip ≡ false)
 
 -- SPECIFICATION, Agreement, of the definitions.
 pub agreement : (firstFont secondFont : List ℕ) (r : Request) (color : FontColor) (p q : Ground)
-    → ThirdDemand firstFont secondFont r p q (results (u8g2 firstFont) (u8g2 secondFont) r color p q)
+    → MeasuredAsDrawn firstFont secondFont r p q (results (u8g2 firstFont) (u8g2 secondFont) r color p q)
 agreement firstFont secondFont r color p q h d e =
     let longer = h .longer in
     let least = opened-by-causes firstFont (font-off (u8g2 firstFont) r p (h .first-within)) .least in

@@ -104,6 +104,6 @@ pub record Agree (p q : Ground) (c : Results) (d : RenderedDimensions) : Type 0 
   pub second-kept : KeptOutside q (c .second-after) d
 
 -- If the first drawing succeeds, with an advance and a box or none, all of them agree on that.
-abbrev pub ThirdDemand : List ℕ → List ℕ → Request → Ground → Ground → Results → Type 0
-ThirdDemand firstFont secondFont r p q c =
+abbrev pub MeasuredAsDrawn : List ℕ → List ℕ → Request → Ground → Ground → Results → Type 0
+MeasuredAsDrawn firstFont secondFont r p q c =
     TwoDrawings firstFont secondFont r p q → (d : RenderedDimensions) → c .first ≡ success d → Agree p q c d

@@ -9,6 +9,7 @@ pub use Rattle.types.specs.declared.geometry.BoundingBox.{BoundingBox}
 pub use Rattle.types.specs.declared.geometry.BoundingBox.the-variants.{None, Some}
 pub use Rattle.types.specs.declared.geometry.RenderedDimensions.{RenderedDimensions}
 pub use Rattle.types.specs.declared.glyph_reader.GlyphReader.{GlyphReader}
+pub use Rattle.types.specs.declared.place.Place.{Place}
 pub use Rattle.types.specs.declared.style.FontColor.{FontColor}
 pub use Rattle.types.specs.declared.style.FontColor.the-variants.{Transparent, WithBackground}
 pub use Rattle.types.specs.declared.style.FontStyle.{FontStyle}

@@ -3,7 +3,7 @@ use Rattle.integers.proofs.Prelude.{_≡_, sym, ap, _∙_, List, ℕ}
 use Rattle.definitions.specs.Vocabulary.{RenderedDimensions}
 use Rattle.definitions.specs.Refusals.{Outcome, success, refused}
 use Rattle.definitions.specs.Agreement.{on, Ground, width, height}
-use Rattle.redraw.specs.Drawing.{Drawing, drawn, after}
+use Rattle.redraw_checks.specs.Drawing.{Drawing, drawn, after}
 use Rattle.redraw.specs.Redraw.{readingOn}
 
 module _ (font : List ℕ) (r : Drawing) (p : Ground) {copy : List ℕ} (copied : copy ≡ p .before) {answer : Outcome RenderedDimensions}

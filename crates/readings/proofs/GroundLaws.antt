@@ -2,20 +2,19 @@
 use Rattle.integers.proofs.Prelude.{_≡_, refl, sym, ap, subst, _∙_, Bool, true, false, List, ℕ, zero, suc, _+_, _*_, _≤_, _<_, mul-le-mul-right}
 use Rattle.integers.proofs.Prelude.{mul-comm, zero-add, decLt, arith, pos, length, getD, replicate, length-replicate, ext-getD}
 use Rattle.integers.proofs.Choices.{impossible}
-use Rattle.definitions.specs.Vocabulary.{BoundingBox, None, Some, RenderedDimensions}
+use Rattle.definitions.specs.Vocabulary.{BoundingBox, None, Some, RenderedDimensions, Place}
 use Rattle.definitions.specs.Refusals.{Outcome, success, refused}
 use Rattle.definitions.specs.Geometry.{InsideBox}
 use Rattle.definitions.specs.Picture.{Paint, covers}
 use Rattle.definitions.specs.Framebuffer.{over, shown}
 use Rattle.definitions.specs.Agreement.{pixel}
 use Rattle.framebuffer.specs.Areas.{fillPicture}
-use Rattle.redraw.specs.Drawing.{measured, groundOf}
+use Rattle.redraw_checks.specs.Drawing.{measured, groundOf}
 use Rattle.redraw.specs.Redraw.{clearedBy}
 use Rattle.definitions.proofs.PictureLaws.{covers-inside}
 use Rattle.definitions.proofs.FramebufferLaws.{length-mapAt, getD-mapAt, length-shown, shown-at}
 use Rattle.framebuffer.proofs.RowLaws.{outside}
 use Rattle.framebuffer.proofs.FillLaws.{fill-inside, fill-outside}
-use Rattle.redraw.specs.declared.place.Place.{Place}
 use Rattle.readings.specs.Readings.{reading, PlaceFits}
 use Rattle.readings.specs.Ground.{rubbishAt, rubbish, clearedTo, ground, ClearTo, RubbishBeside, GroundLaid}
 

@@ -2,7 +2,7 @@
 use Rattle.integers.proofs.Prelude.{_≡_, refl, ap, false, List, ℕ, _-_, arith}
 use Rattle.definitions.specs.Vocabulary.{BoundingBox, Some, Rectangle}
 use Rattle.definitions.specs.Agreement.{Ground}
-use Rattle.redraw.specs.Drawing.{Drawing}
+use Rattle.redraw_checks.specs.Drawing.{Drawing}
 use Rattle.redraw.specs.Redraw.{redrawnBuffer}
 use Rattle.readings.specs.Sheet.{narrowedBox, stepBuffer}
 

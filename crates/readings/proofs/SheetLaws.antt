@@ -4,7 +4,7 @@ use Rattle.integers.proofs.Prelude.{_≡_, refl, sym, ap, subst, _∙_, Bool, t
 use Rattle.integers.proofs.Prelude.{eqb, length}
 use Rattle.integers.proofs.Choices.{impossible}
 use Rattle.integers.specs.Integers.{pick}
-use Rattle.definitions.specs.Vocabulary.{RenderedDimensions, Transparent}
+use Rattle.definitions.specs.Vocabulary.{RenderedDimensions, Transparent, Place}
 use Rattle.definitions.specs.Refusals.{Outcome, success, refused, Cause, anyApplies}
 use Rattle.definitions.specs.Header.{fontCauses}
 use Rattle.definitions.specs.Utf8.{table, rowOf, firstCharacter, decodeFrom}
@@ -13,20 +13,20 @@ use Rattle.definitions.specs.Framebuffer.{framebufferCause}
 use Rattle.definitions.specs.Limits.{textCause, positionCause, backgroundCause}
 use Rattle.definitions.specs.Calls.{dimensionsOutcome}
 use Rattle.angles.specs.AngleText.{degreesThen, angleText}
-use Rattle.redraw.specs.Drawing.{drawn, after, groundOf}
+use Rattle.redraw_checks.specs.Drawing.{drawn, after, groundOf}
 use Rattle.buffers.specs.Differences.{differences}
 use Rattle.sight.specs.declared.Sight.{Sight}
 use Rattle.sight.specs.Sights.{sightOf}
 use Rattle.sheet_totals.specs.declared.Totals.{Totals}
 use Rattle.sheet_totals.specs.Totals.{noTotals, wholeOne, partOne, unseenOne, refusedOne, tallied, Few}
 use Rattle.sheet_totals.proofs.TotalsLaws.{at-most, one}
-use Rattle.redraw.specs.Redraw.{wholeOr, readingOn, redrawCauses, redrawn, redrawnBuffer, taken}
+use Rattle.redraw_checks.specs.Checks.{redrawCauses}
+use Rattle.redraw.specs.Redraw.{wholeOr, readingOn, redrawn, redrawnBuffer, taken}
 use Rattle.redraw.specs.Steps.{Setting, settingOf, Reading, readingOf, inSetting, groundIn, Screen, alone, showing, ClearFor}
 use Rattle.redraw.proofs.RedrawLaws.{drawn-measured, causesOf, drawn-early, drawn-late}
 use Rattle.buffers.proofs.DifferenceLaws.{none-if-same}
 use Rattle.redraw.proofs.StepsLaws.{Sized, bare-sized, answers-alone, sized-next, length-left, Shown, bare-shown, nothing-shown, step-shows}
 use Rattle.readings.specs.declared.values.Found.{Found}
-use Rattle.redraw.specs.declared.place.Place.{Place}
 use Rattle.readings.specs.Readings.{readingText, reading}
 use Rattle.readings.specs.Ground.{ClearTo}
 use Rattle.readings.proofs.NarrowLaws.{faultless}

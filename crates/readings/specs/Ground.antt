@@ -4,14 +4,13 @@ use mathlib.Core.List.{List}
 use Prim.Native.Nat.{ℕ, zero, suc, _+_, _*_, _%_, _<_}
 use lib.IntN.{pos}
 use lib.ListN.{replicate}
-use Rattle.definitions.specs.Vocabulary.{RenderedDimensions}
+use Rattle.definitions.specs.Vocabulary.{RenderedDimensions, Place}
 use Rattle.definitions.specs.Refusals.{success}
 use Rattle.definitions.specs.Geometry.{InsideBox}
 use Rattle.definitions.specs.Framebuffer.{mapAt}
 use Rattle.definitions.specs.Agreement.{pixel}
-use Rattle.redraw.specs.Drawing.{measured, groundOf}
+use Rattle.redraw_checks.specs.Drawing.{measured, groundOf}
 use Rattle.redraw.specs.Redraw.{AllOf, clearedBy}
-use Rattle.redraw.specs.declared.place.Place.{Place}
 use Rattle.readings.specs.Readings.{reading}
 
 abbrev pub rubbishAt : ℕ → ℕ

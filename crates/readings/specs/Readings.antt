@@ -6,9 +6,9 @@ use lib.Dec.{leb}
 use lib.IntN.{pos, _-ℤ_}
 use lib.ListN.{drop}
 use Rattle.integers.specs.Integers.{pick}
-use Rattle.redraw.specs.Drawing.{Drawing, asked}
+use Rattle.redraw_checks.specs.Drawing.{Drawing, asked}
 use Rattle.angles.specs.AngleText.{angleText}
-use Rattle.redraw.specs.declared.place.Place.{Place}
+use Rattle.definitions.specs.Vocabulary.{Place}
 
 -- The text of a reading, -45.0 to +45.0 in tenths, by its number from 0; no text past the last, which is 900.
 abbrev pub readingText : ℕ → List ℕ

@@ -4,19 +4,19 @@ use mathlib.Core.Bool.{Bool, true, false}
 use mathlib.Core.List.{List}
 use Prim.Native.Nat.{ℕ, zero, suc, _+_, _-_, _<_}
 use Rattle.integers.specs.Integers.{pick}
-use Rattle.definitions.specs.Vocabulary.{BoundingBox, None, Some, RenderedDimensions}
+use Rattle.definitions.specs.Vocabulary.{BoundingBox, None, Some, RenderedDimensions, Place}
 use Rattle.definitions.specs.Refusals.{Outcome, success, refused, anyApplies}
 use Rattle.definitions.specs.Calls.{dimensionsOutcome}
 use Rattle.definitions.specs.Agreement.{on, Ground, width}
-use Rattle.redraw.specs.Drawing.{Drawing, withText, drawn, groundOf}
+use Rattle.redraw_checks.specs.Drawing.{Drawing, withText, drawn, groundOf}
 use Rattle.buffers.specs.Differences.{differences}
 use Rattle.sight.specs.declared.Sight.{Sight}
 use Rattle.sight.specs.Sights.{sightOf}
 use Rattle.sheet_totals.specs.declared.Totals.{Totals}
 use Rattle.sheet_totals.specs.Totals.{noTotals, wholeOne, partOne, unseenOne, refusedOne, tallied}
-use Rattle.redraw.specs.Redraw.{readingOn, clearedBy, redrawCauses, redrawn, taken}
+use Rattle.redraw_checks.specs.Checks.{redrawCauses}
+use Rattle.redraw.specs.Redraw.{readingOn, clearedBy, redrawn, taken}
 use Rattle.readings.specs.declared.values.Found.{Found}
-use Rattle.redraw.specs.declared.place.Place.{Place}
 use Rattle.readings.specs.Readings.{readingText, reading}
 
 -- ---- one reading over another

@@ -2,14 +2,15 @@
 ghost use mathlib.Core.Path.{_≡_};
 ghost use Prim.Native.Nat.{_*_};
 ghost use lib.ListN.{length};
-ghost use Rattle.redraw.specs.Drawing.{FitsPlace, measured};
+ghost use Rattle.redraw_checks.specs.Drawing.{measured};
+ghost use Rattle.redraw.specs.Contexts.{FitsPlace};
 ghost use Rattle.redraw.specs.Redraw.{clearedBy};
 ghost use Rattle.readings.specs.Readings.{reading, PlaceFits};
 ghost use Rattle.readings.specs.Ground.{rubbish, GroundLaid};
 use crate::texts::COUNT;
 use crate::texts::measure_reading;
 use framebuffer::fill::fill_box;
-use redraw::place::Place;
+use types::place::Place;
 use types::results::DimensionsResult;
 use types::style::Placement;
 

@@ -5,7 +5,7 @@ ghost use Rattle.integers.specs.Integers.{pick};
 ghost use Rattle.definitions.specs.Calls.{dimensionsOutcome};
 ghost use Rattle.buffers.specs.Differences.{differences};
 ghost use Rattle.redraw.specs.Redraw.{redrawn, taken};
-ghost use Rattle.redraw.specs.Drawing.{groundOf};
+ghost use Rattle.redraw_checks.specs.Drawing.{groundOf};
 ghost use Rattle.readings.specs.Readings.{readingText, reading};
 ghost use Rattle.readings.specs.Sheet.{stepBuffer, screenOf, wanted, Finds};
 use crate::check::draw_alone;
@@ -14,8 +14,8 @@ use crate::texts::write_reading;
 use crate::values::Found;
 use crate::values::Trial;
 use buffers::count_differences;
-use redraw::place::Place;
 use redraw::reading::is_taken;
+use types::place::Place;
 use types::results::DimensionsResult;
 
 // Draws reading k over the reading `old`.

@@ -1,5 +1,5 @@
 // What is tried, and what is found of a step. There is no code here.
-use redraw::place::Place;
+use types::place::Place;
 use types::results::DimensionsResult;
 
 // What is tried: the place of the readings, and whether with a fault put in, one column too few being filled.

@@ -1,3 +1,2 @@
 pub mod RedrawLaws
-pub mod ChecksLaws
 pub mod StepsLaws

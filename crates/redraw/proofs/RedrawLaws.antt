@@ -17,7 +17,7 @@ use Rattle.definitions.specs.TextSteps.{measureFrom, drawFrom, start}
 use Rattle.definitions.specs.Limits.{textCause, positionCause, backgroundCause}
 use Rattle.definitions.specs.Calls.{codePointsOf, origin, drawCauses, drawnText, draw, drawBuffer}
 use Rattle.definitions.specs.Agreement.{Ground, on, WithinLimits, pixel, KeptOutside, width, height}
-use Rattle.redraw.specs.Drawing.{Drawing, asks, withText, drawn, after, measured}
+use Rattle.redraw_checks.specs.Drawing.{Drawing, asks, withText, drawn, after, measured}
 use Rattle.definitions.proofs.FramebufferLaws.{length-shown, shown-at, same-pixels}
 use Rattle.definitions.proofs.PictureLaws.{covers-inside, inside-covers}
 use Rattle.definitions.proofs.RefusalLaws.{or-false, none-applies, succeeded, NoneApplies, each-off}
@@ -28,8 +28,9 @@ use Rattle.definitions.proofs.LetterRefusals.{Late, late, late-drawn}
 use Rattle.definitions.proofs.Agreement.{alone, size}
 use Rattle.framebuffer.specs.Areas.{fillPicture}
 use Rattle.framebuffer.proofs.RowLaws.{row-of-pixel}
-use Rattle.redraw.specs.Redraw.{wholeOr, readingOn, AllOf, clearedBy, redrawCauses, cleared, redrawn, redrawnBuffer, taken}
-use Rattle.redraw.specs.Checks.{originOf, stepOf, checkedStep}
+use Rattle.redraw_checks.specs.Checks.{redrawCauses}
+use Rattle.redraw.specs.Redraw.{wholeOr, readingOn, AllOf, clearedBy, cleared, redrawn, redrawnBuffer, taken}
+use Rattle.redraw_checks.specs.Checks.{originOf, stepOf, checkedStep}
 
 -- Of what `redraw` ensures: the answer, what is shown, and what that leaves of a reading.
 abbrev pub shown-by : {A B C : Type 0} → A × (B × C) → B

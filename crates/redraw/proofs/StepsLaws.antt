@@ -12,11 +12,12 @@ use Rattle.definitions.specs.Text.{joinAll, point, letters, lines, lineByLine, 
 use Rattle.definitions.specs.Limits.{textCause, positionCause, backgroundOff, backgroundCause}
 use Rattle.definitions.specs.Font.{u8g2}
 use Rattle.definitions.specs.Calls.{placed, plain, drawnText, draw, drawBuffer}
-use Rattle.redraw.specs.Drawing.{Drawing, asks, after}
+use Rattle.redraw_checks.specs.Drawing.{Drawing, asks, after}
 use Rattle.definitions.proofs.FramebufferLaws.{shown-blank}
 use Rattle.definitions.proofs.RefusalLaws.{succeeded}
 use Rattle.definitions.proofs.CausesLaws.{draw-passes}
-use Rattle.redraw.specs.Redraw.{wholeOr, readingOn, AllOf, clearedBy, redrawCauses, redrawn, redrawnBuffer, taken}
+use Rattle.redraw_checks.specs.Checks.{redrawCauses}
+use Rattle.redraw.specs.Redraw.{wholeOr, readingOn, AllOf, clearedBy, redrawn, redrawnBuffer, taken}
 use Rattle.redraw.specs.Steps.{Setting, Reading, inSetting, groundIn, Screen, readingOf, bare, stepAnswer, stepOn, stepsOn, answers}
 use Rattle.redraw.specs.Steps.{alone, lastTaken, showing, ClearFor, ClearForAll, LeavesReading}
 use Rattle.redraw.proofs.RedrawLaws.{length-after, within-limits, same-answer, some-width, fill-restores, length-cleared}

@@ -1,4 +1,3 @@
-pub mod Drawing
+pub mod Contexts
 pub mod Redraw
-pub mod Checks
 pub mod Steps

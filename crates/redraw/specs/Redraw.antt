@@ -6,7 +6,7 @@ use Prim.Native.Nat.{ℕ, _<_}
 use lib.Dec.{eqb}
 use lib.IntN.{pos}
 use Rattle.integers.specs.Integers.{pick}
-use Rattle.definitions.specs.Vocabulary.{BoundingBox, RenderedDimensions}
+use Rattle.definitions.specs.Vocabulary.{BoundingBox, RenderedDimensions, Place}
 use Rattle.definitions.specs.Refusals.{Outcome, success, refused, Cause, unlessRefused, anyApplies}
 use Rattle.definitions.specs.Header.{fontCauses}
 use Rattle.definitions.specs.Geometry.{InsideBox}
@@ -17,8 +17,8 @@ use Rattle.definitions.specs.Agreement.{Ground, on, pixel, width, height}
 use Rattle.checks.specs.declared.origin.Pen.{Pen}
 use Rattle.framebuffer.specs.Areas.{fillPicture}
 use Rattle.renderer.specs.Texts.{countedWith, drawnWith}
-use Rattle.redraw.specs.declared.place.Place.{Place}
-use Rattle.redraw.specs.Drawing.{Drawing, withText, contextOf, drawn, after}
+use Rattle.redraw_checks.specs.Drawing.{Drawing, withText, drawn, after}
+use Rattle.redraw.specs.Contexts.{contextOf}
 
 -- ---- a reading on a ground
 
@@ -51,17 +51,6 @@ clearedBy width color (success d) bytes = shown width (fillPicture color (d .«b
 clearedBy width color (refused n c) bytes = bytes
 
 -- ---- the step
-
--- The causes of the step, in the order of SPECIFICATION, Refusals, for both texts.
-abbrev pub redrawCauses : List ℕ → List ℕ → Drawing → Ground → List Cause
-redrawCauses font old new p =
-    fontCauses font
-    ++ framebufferCause (p .framebuffer) (p .before)
-    ∷ textCause old
-    ∷ textCause (new .text)
-    ∷ positionCause (new .position) (new .lineHeight)
-    ∷ backgroundCause (new .color) (u8g2 font .background)
-    ∷ []
 
 -- the framebuffer with the old reading cleared
 abbrev pub cleared : List ℕ → Drawing → ℕ → Ground → Ground

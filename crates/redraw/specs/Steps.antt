@@ -4,13 +4,12 @@ use mathlib.Core.Bool.{false}
 use mathlib.Core.List.{List, [], _∷_}
 use Prim.Native.Nat.{ℕ}
 use Rattle.integers.specs.Integers.{pick}
-use Rattle.definitions.specs.Vocabulary.{Framebuffer, Point, RenderedDimensions, FontColor, Transparent, VerticalPosition}
+use Rattle.definitions.specs.Vocabulary.{Framebuffer, Point, RenderedDimensions, FontColor, Transparent, VerticalPosition, Place}
 use Rattle.definitions.specs.Refusals.{Outcome, success}
 use Rattle.definitions.specs.Font.{u8g2}
 use Rattle.definitions.specs.Limits.{backgroundOff}
 use Rattle.definitions.specs.Agreement.{Ground, on}
-use Rattle.redraw.specs.Drawing.{Drawing, drawn}
-use Rattle.redraw.specs.declared.place.Place.{Place}
+use Rattle.redraw_checks.specs.Drawing.{Drawing, drawn}
 use Rattle.redraw.specs.Redraw.{readingOn, AllOf, redrawn, redrawnBuffer, taken}
 
 -- What stays the same from step to step.

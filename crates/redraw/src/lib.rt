@@ -1,4 +1,2 @@
 // A reading drawn over the one before: what the gauge does.
-pub mod place;
 pub mod reading;
-pub mod step;

@@ -4,13 +4,12 @@ use Rattle.integers.proofs.Prelude.{ℤ, pos, negsuc, natAbs, _+ℤ_, _-ℤ_, m
 use Rattle.integers.proofs.Choices.{impossible}
 use Rattle.integers.specs.Integers.{minZ, maxZ}
 use Rattle.integers.proofs.Laws.{zarith, up, down, plus, minus, size, min-is, max-is, range, stored}
-use Rattle.definitions.specs.Vocabulary.{Framebuffer, BoundingBox, None, Some, Point, Rectangle, RenderedDimensions, Transparent, VerticalPosition}
+use Rattle.definitions.specs.Vocabulary.{Framebuffer, BoundingBox, None, Some, Point, Rectangle, RenderedDimensions, Transparent, VerticalPosition, Place}
 use Rattle.definitions.specs.Refusals.{Outcome, success, refused}
 use Rattle.definitions.specs.Geometry.{left, top, right, bottom, InsideBox}
 use Rattle.definitions.specs.TextSteps.{movedBox}
 use Rattle.sheet_extent.specs.declared.values.Extent.{Extent}
 use Rattle.sheet_extent.specs.declared.values.Options.{Options}
-use Rattle.redraw.specs.declared.place.Place.{Place}
 use Rattle.sheet_extent.specs.declared.values.Wanted.{Wanted}
 use Rattle.sheet_extent.specs.declared.values.Wanted.the-variants.{Seen}
 use Rattle.definitions.specs.Font.{u8g2}

@@ -6,17 +6,16 @@ use Prim.Native.Nat.{ℕ, zero, suc, _+_, _<_, min, max}
 use lib.IntN.{ℤ, pos, negsuc, _+ℤ_}
 use lib.Signed.{_≤ℤ_, _<ℤ_}
 use Rattle.integers.specs.Integers.{minZ, maxZ}
-use Rattle.definitions.specs.Vocabulary.{BoundingBox, None, Some, Point, Rectangle, RenderedDimensions, Transparent, VerticalPosition}
+use Rattle.definitions.specs.Vocabulary.{BoundingBox, None, Some, Point, Rectangle, RenderedDimensions, Transparent, VerticalPosition, Place}
 use Rattle.definitions.specs.Refusals.{Outcome, success, refused}
 use Rattle.definitions.specs.Geometry.{left, top, right, bottom, InsideBox}
 use Rattle.definitions.specs.Text.{point}
 use Rattle.definitions.specs.Font.{u8g2}
 use Rattle.definitions.specs.Framebuffer.{sized}
 use Rattle.definitions.specs.Calls.{placed, plain, measure}
-use Rattle.redraw.specs.Drawing.{measured}
+use Rattle.redraw_checks.specs.Drawing.{measured}
 use Rattle.sheet_extent.specs.declared.values.Extent.{Extent}
 use Rattle.sheet_extent.specs.declared.values.Options.{Options}
-use Rattle.redraw.specs.declared.place.Place.{Place}
 use Rattle.sheet_extent.specs.declared.values.Wanted.{Wanted}
 use Rattle.sheet_extent.specs.declared.values.Wanted.the-variants.{Seen, At}
 use Rattle.readings.specs.Readings.{readingText, reading}

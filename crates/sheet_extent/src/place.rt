@@ -8,9 +8,9 @@ use crate::extent::side;
 use crate::values::Extent;
 use crate::values::Options;
 use crate::values::Wanted;
-use redraw::place::Place;
 use types::framebuffer::Framebuffer;
 use types::geometry::Point;
+use types::place::Place;
 use types::style::FontColor;
 use types::style::FontStyle;
 

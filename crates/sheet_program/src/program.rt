@@ -9,12 +9,12 @@ use bytes::copy;
 use font_file::FontFile;
 use readings::ground::lay_ground;
 use readings::values::Trial;
-use redraw::place::Place;
 use sheet_extent::place::place_for;
 use sheet_extent::values::Options;
 use sheet_report::print_totals;
 use sheet_report::print_verdict;
 use types::error::Error;
+use types::place::Place;
 
 // Makes the sheet on framebuffers of the place's size. It is made whether or not its pictures can be written.
 fn fill_sheet(

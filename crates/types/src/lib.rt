@@ -5,5 +5,6 @@ pub mod font_reader;
 pub mod framebuffer;
 pub mod geometry;
 pub mod glyph_reader;
+pub mod place;
 pub mod results;
 pub mod style;

@@ -1,6 +1,6 @@
--- The contracts of the four calls, and `third-demand` of them.
+-- The contracts of the four calls, and `measured-as-drawn` of them.
 use borrow.Author.Needs.{needs}
-use Rattle.agreement.proofs.DemandLaws.{one-by-one, third-demand}
+use Rattle.agreement.proofs.CallsLaws.{one-by-one, measured-as-drawn}
 use Rattle.agreement.proofs.draw_twice_and_measure.Statement.{statement}
 use Rattle.agreement.proofs.draw_twice_and_measure.Tie as tie
 
@@ -12,7 +12,7 @@ returns c =
     one-by-one (drawn .0) (drawn-second .0) (c .before .get-rendered-dimensions .ensures) (c .get-rendered-dimensions2 .ensures)
     (drawn .1) (drawn-second .1)
     in
-    (calls, third-demand _ _ _ _ _ _ _ calls)
+    (calls, measured-as-drawn _ _ _ _ _ _ _ calls)
 
 pub draw-twice-and-measure-spec : {M : Type 1} → statement M
 draw-twice-and-measure-spec =

@@ -2,7 +2,7 @@
 use Rattle.integers.proofs.Prelude.{ap, _∙_, arith, needs}
 use Rattle.buffers.proofs.CopyLaws.{whole}
 use Rattle.definitions.specs.Calls.{dimensionsOutcome}
-use Rattle.redraw.specs.Drawing.{asked, groundOf}
+use Rattle.redraw_checks.specs.Drawing.{asked, groundOf}
 use Rattle.readings.proofs.AloneLaws.{drawn-alone, refused-alone}
 use Rattle.readings.proofs.check.draw_alone.Statement.{statement}
 use Rattle.readings.proofs.check.draw_alone.Tie as tie

@@ -3,10 +3,11 @@
 use Rattle.integers.proofs.Prelude.{_≡_, sym, ap, subst, _∙_, true, ℕ, arith, needs}
 use Rattle.definitions.specs.Refusals.{success}
 use Rattle.definitions.specs.Agreement.{Ground}
-use Rattle.redraw.specs.Drawing.{Drawing, asked, groundOf, FitsPlace}
-use Rattle.redraw.specs.declared.step.Step.{Step}
-use Rattle.redraw.specs.Checks.{checkedStep, stepOutcome}
-use Rattle.redraw.proofs.ChecksLaws.{Ready, ready}
+use Rattle.redraw_checks.specs.Drawing.{Drawing, asked, groundOf}
+use Rattle.redraw.specs.Contexts.{FitsPlace}
+use Rattle.redraw_checks.specs.declared.Step.{Step}
+use Rattle.redraw_checks.specs.Checks.{checkedStep, stepOutcome}
+use Rattle.redraw_checks.proofs.ChecksLaws.{Ready, ready}
 use Rattle.redraw.proofs.RedrawLaws.{stops, held, answers, leaves}
 use Rattle.readings.specs.Sheet.{toFill, stepBuffer}
 use Rattle.readings.proofs.check.redraw_narrow.Statement.{statement}

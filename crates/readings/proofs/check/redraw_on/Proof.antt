@@ -1,6 +1,6 @@
 -- Without the fault the step is the gauge's.
 use Rattle.integers.proofs.Prelude.{sym, ap, _∙_, Bool, List, ℕ, needs}
-use Rattle.redraw.specs.Drawing.{asked, groundOf}
+use Rattle.redraw_checks.specs.Drawing.{asked, groundOf}
 use Rattle.readings.specs.Sheet.{stepBuffer}
 use Rattle.redraw.proofs.RedrawLaws.{shown-by}
 use Rattle.readings.proofs.NarrowLaws.{faultless}

@@ -3,12 +3,13 @@
 use Rattle.integers.proofs.Prelude.{_≡_, sym, ap, subst, _∙_, ℕ, arith, needs}
 use Rattle.definitions.specs.Refusals.{success}
 use Rattle.definitions.specs.Agreement.{Ground}
-use Rattle.redraw.specs.Drawing.{Drawing, asked, groundOf, FitsPlace}
-use Rattle.redraw.specs.declared.step.Step.{Step}
-use Rattle.redraw.specs.Checks.{checkedStep, stepOutcome}
+use Rattle.redraw_checks.specs.Drawing.{Drawing, asked, groundOf}
+use Rattle.redraw.specs.Contexts.{FitsPlace}
+use Rattle.redraw_checks.specs.declared.Step.{Step}
+use Rattle.redraw_checks.specs.Checks.{checkedStep, stepOutcome}
 use Rattle.redraw.specs.Redraw.{redrawnBuffer}
 use Rattle.redraw.specs.Steps.{Setting, settingOf, Reading, readingOf}
-use Rattle.redraw.proofs.ChecksLaws.{Ready, ready}
+use Rattle.redraw_checks.proofs.ChecksLaws.{Ready, ready}
 use Rattle.redraw.proofs.RedrawLaws.{stops, stays, answers, leaves}
 use Rattle.redraw.proofs.StepsLaws.{leaves-reading}
 use Rattle.redraw.proofs.reading.redraw.Statement.{statement}

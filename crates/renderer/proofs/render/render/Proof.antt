@@ -11,7 +11,7 @@ use Rattle.definitions.proofs.OpenedLaws.{opened, heights-fit}
 use Rattle.checks.specs.Origins.{originOutcome}
 use Rattle.checks.proofs.OriginLaws.{tested, request-checked}
 use Rattle.checks.proofs.LimitLaws.{color-is}
-use Rattle.renderer.proofs.SizeLaws.{size-fits}
+use Rattle.checks.proofs.SizeLaws.{size-fits}
 use Rattle.renderer.proofs.RenderLaws.{font-refused, size-refused, position-refused, color-refused, drawn-whole}
 use Rattle.renderer.proofs.render.render.Statement.{statement}
 use Rattle.renderer.proofs.render.render.Tie as tie

@@ -1,6 +1,6 @@
 -- `place_for` meets its contract: ExtentLaws.antt has that all readings are seen. Assumes nothing.
 use Rattle.integers.proofs.Prelude.{sym, subst, _∙_, w32, w64, SFits, toZ-ofZ, needs}
-use Rattle.redraw.specs.declared.place.Place.{Place}
+use Rattle.definitions.specs.Vocabulary.{Place}
 use Rattle.sheet_extent.specs.Extent.{extentOf, side, Uncut, AllSeen}
 use Rattle.sheet_extent.proofs.ExtentLaws.{is-place, all-seen, both}
 use Rattle.sheet_extent.proofs.place.place_for.Statement.{statement}

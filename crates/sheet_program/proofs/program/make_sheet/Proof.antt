@@ -1,6 +1,6 @@
 -- `make_sheet` meets its contract: FitLaws.antt has that the framebuffers are large enough. Assumes nothing.
 use Rattle.integers.proofs.Prelude.{sym, subst, arith, needs}
-use Rattle.redraw.specs.declared.place.Place.{Place}
+use Rattle.definitions.specs.Vocabulary.{Place}
 use Rattle.readings.specs.Readings.{PlaceFits}
 use Rattle.sheet_program.specs.Sheets.{SheetOf}
 use Rattle.sheet_extent.proofs.ExtentLaws.{fits-for}

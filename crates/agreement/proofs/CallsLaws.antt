@@ -5,7 +5,7 @@ use Rattle.definitions.specs.Vocabulary.{RenderedDimensions, FontColor}
 use Rattle.definitions.specs.Refusals.{Outcome}
 use Rattle.definitions.specs.Font.{u8g2}
 use Rattle.definitions.specs.Calls.{Request}
-use Rattle.definitions.specs.Agreement.{Ground, Results, results, ThirdDemand}
+use Rattle.definitions.specs.Agreement.{Ground, Results, results, MeasuredAsDrawn}
 use Rattle.definitions.proofs.Agreement.{agreement}
 
 abbrev of : (a b c d : Outcome RenderedDimensions) (e f : List ℕ) → Results
@@ -15,7 +15,7 @@ pub one-by-one : {a a′ b b′ c c′ d d′ : Outcome RenderedDimensions} {e e
     → a ≡ a′ → b ≡ b′ → c ≡ c′ → d ≡ d′ → e ≡ e′ → f ≡ f′ → of a b c d e f ≡ of a′ b′ c′ d′ e′ f′
 one-by-one p q r s t u = rw (p, q, r, s, t, u)
 
-pub third-demand : (firstFont secondFont : List ℕ) (r : Request) (color : FontColor) (p q : Ground) (c : Results)
-    → c ≡ results (u8g2 firstFont) (u8g2 secondFont) r color p q → ThirdDemand firstFont secondFont r p q c
-third-demand firstFont secondFont r color p q c e =
-    subst (ThirdDemand firstFont secondFont r p q) (sym e) (agreement firstFont secondFont r color p q)
+pub measured-as-drawn : (firstFont secondFont : List ℕ) (r : Request) (color : FontColor) (p q : Ground) (c : Results)
+    → c ≡ results (u8g2 firstFont) (u8g2 secondFont) r color p q → MeasuredAsDrawn firstFont secondFont r p q c
+measured-as-drawn firstFont secondFont r color p q c e =
+    subst (MeasuredAsDrawn firstFont secondFont r p q) (sym e) (agreement firstFont secondFont r color p q)

@@ -1,7 +1,7 @@
 // Where and how readings are drawn, and on what. There is no code here.
-use types::framebuffer::Framebuffer;
-use types::geometry::Point;
-use types::style::FontStyle;
+use crate::framebuffer::Framebuffer;
+use crate::geometry::Point;
+use crate::style::FontStyle;
 
 pub struct Place {
     pub position: Point,

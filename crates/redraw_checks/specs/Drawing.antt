@@ -2,14 +2,11 @@
 use mathlib.Core.Bool.{false}
 use mathlib.Core.List.{List}
 use Prim.Native.Nat.{ℕ}
-use Rattle.definitions.specs.Vocabulary.{Point, RenderedDimensions, FontColor, VerticalPosition}
+use Rattle.definitions.specs.Vocabulary.{Point, RenderedDimensions, FontColor, VerticalPosition, Place}
 use Rattle.definitions.specs.Refusals.{Outcome}
 use Rattle.definitions.specs.Font.{u8g2}
 use Rattle.definitions.specs.Calls.{Request, placed, plain, measure, draw, drawBuffer}
 use Rattle.definitions.specs.Agreement.{Ground, on}
-use Rattle.renderer.specs.declared.render.Context.{Context}
-use Rattle.renderer.specs.CharAnswers.{Fits}
-use Rattle.redraw.specs.declared.place.Place.{Place}
 
 pub record Drawing : Type 0 where
   pub text : List ℕ
@@ -37,13 +34,6 @@ asked place text = record {
 
 abbrev pub groundOf : Place → List ℕ → Ground
 groundOf place bytes = on (place .framebuffer) bytes
-
-abbrev pub contextOf : Place → Context
-contextOf place = record { color = place .style .color; framebuffer = place .framebuffer }
-
--- A buffer of so many bytes is the place's framebuffer.
-abbrev pub FitsPlace : ℕ → Place → Type 0
-FitsPlace bytes place = Fits bytes (place .framebuffer)
 
 -- what drawing answers and leaves, and what measuring answers
 abbrev pub drawn : List ℕ → Drawing → Ground → Outcome RenderedDimensions

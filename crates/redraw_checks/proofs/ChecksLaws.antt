@@ -9,7 +9,7 @@ use Rattle.definitions.specs.Limits.{textCause, positionCause, backgroundCause}
 use Rattle.definitions.specs.Font.{u8g2}
 use Rattle.definitions.specs.Calls.{openFont}
 use Rattle.definitions.specs.Agreement.{Ground, width, height}
-use Rattle.redraw.specs.Drawing.{Drawing, asks, withText}
+use Rattle.redraw_checks.specs.Drawing.{Drawing, asks, withText}
 use Rattle.definitions.proofs.OpenedLaws.{passes-font, opened, opened-limits}
 use Rattle.definitions.proofs.RefusalLaws.{succeeded}
 use Rattle.definitions.proofs.ComesLaws.{Comes, comes-none, comes-off, comes-on, comes-passed, comes-stopped}
@@ -17,10 +17,10 @@ use Rattle.framebuffer.specs.Areas.{BufferFits}
 use Rattle.checks.specs.declared.origin.Pen.{Pen}
 use Rattle.checks.specs.Origins.{originBy, checkedOrigin, Checked}
 use Rattle.checks.proofs.OriginLaws.{text-limits, position-limits, origin-checked, origin-is}
-use Rattle.renderer.proofs.SizeLaws.{size-fits}
-use Rattle.redraw.specs.declared.step.Step.{Step}
-use Rattle.redraw.specs.Redraw.{redrawCauses}
-use Rattle.redraw.specs.Checks.{originOf, penOf, stepOf, checkedStep}
+use Rattle.checks.proofs.SizeLaws.{size-fits}
+use Rattle.redraw_checks.specs.declared.Step.{Step}
+use Rattle.redraw_checks.specs.Checks.{redrawCauses}
+use Rattle.redraw_checks.specs.Checks.{originOf, penOf, stepOf, checkedStep}
 use Rattle.redraw.proofs.RedrawLaws.{step-passes}
 
 -- ---- test by test

@@ -7,15 +7,15 @@ use Rattle.definitions.specs.Framebuffer.{framebufferCause}
 use Rattle.definitions.specs.Limits.{textCause, backgroundOff, backgroundCause}
 use Rattle.definitions.specs.Calls.{openFont, fontReaderOutcome}
 use Rattle.definitions.specs.Agreement.{Ground}
-use Rattle.redraw.specs.Drawing.{Drawing, asks, withText, asked, groundOf}
+use Rattle.redraw_checks.specs.Drawing.{Drawing, asks, withText, asked, groundOf}
 use Rattle.definitions.proofs.OpenedLaws.{opened}
 use Rattle.checks.specs.declared.origin.Pen.{Pen}
 use Rattle.checks.specs.Origins.{checkedOrigin, originOutcome}
 use Rattle.checks.proofs.OriginLaws.{passed}
 use Rattle.checks.proofs.LimitLaws.{color-is}
-use Rattle.redraw.proofs.ChecksLaws.{font-refused, size-refused, old-refused, new-refused, color-refused, all-passed}
-use Rattle.redraw.proofs.step.check_step.Statement.{statement}
-use Rattle.redraw.proofs.step.check_step.Tie as tie
+use Rattle.redraw_checks.proofs.ChecksLaws.{font-refused, size-refused, old-refused, new-refused, color-refused, all-passed}
+use Rattle.redraw_checks.proofs.check_step.Statement.{statement}
+use Rattle.redraw_checks.proofs.check_step.Tie as tie
 
 -- what the call was given
 module _ (s : tie.Start) where

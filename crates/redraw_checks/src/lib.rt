@@ -1,8 +1,7 @@
 // What the step from one reading to the next tests before it changes a pixel.
 ghost use mathlib.Core.Path.{_≡_};
-ghost use Rattle.redraw.specs.Drawing.{asked, groundOf};
-ghost use Rattle.redraw.specs.Checks.{stepOutcome, checkedStep};
-use crate::place::Place;
+ghost use Rattle.redraw_checks.specs.Drawing.{asked, groundOf};
+ghost use Rattle.redraw_checks.specs.Checks.{stepOutcome, checkedStep};
 use checks::limits::has_bad_color;
 use checks::limits::has_bad_size;
 use checks::limits::has_bad_text;
@@ -13,6 +12,7 @@ use checks::origin::text_origin;
 use font_reader::new_from_raw_data;
 use types::error::Error;
 use types::font_reader::FontReader;
+use types::place::Place;
 use types::results::FontReaderResult;
 use types::style::Placement;
 
