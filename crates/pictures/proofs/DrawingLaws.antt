@@ -12,7 +12,7 @@ use Rattle.definitions.specs.Font.{u8g2}
 use Rattle.definitions.specs.Calls.{openFont, measuredText, measure}
 use Rattle.pictures.specs.Whole.{roomFor, atZero, whole, measuredAtZero, SeenWhole}
 use Rattle.definitions.proofs.OpenedLaws.{opened, open-refused}
-use Rattle.pictures.specs.Drawings.{Measured, Framed, CornerDrawn, area, Called}
+use Rattle.pictures.specs.Drawings.{Measured, Framed, CornerDrawn, area, Called, IsDrawn}
 
 -- the largest framebuffer
 pub area-most : {width height : ℕ} → width ≤ 256 → height ≤ 256 → width * height ≤ 65536
@@ -39,6 +39,11 @@ module _ (r : Rectangle) (before : List ℕ) (wide : r .size .width ≤ 256) (hi
       shown = ap (λ (l : List ℕ). l ++ drop (area r) before) (c .shown);
       seen = subst (SeenWhole (m .advance) r) is (c .seen (m .advance) (m .box));
     }
+
+-- a drawing that succeeded
+pub is-drawn : {font text before after : List ℕ} {lineHeight : ℕ} {color : FontColor} {r : Rectangle} {d : RenderedDimensions}
+    → Called font text lineHeight color before after r (success d) → IsDrawn font text lineHeight color before after d (r .size)
+is-drawn {r = r} c = record { box = r; size-is = refl; called = c }
 
 -- a measuring that succeeded with a box
 pub measured-box : {font text : List ℕ} {lineHeight : ℕ} {answer : Outcome RenderedDimensions} {d : RenderedDimensions} {r : Rectangle}

@@ -1,7 +1,7 @@
 -- `draw_box` meets its contract: DrawingLaws.antt has what the call leaves. Assumes nothing.
 use Rattle.integers.proofs.Prelude.{refl, sym, ap, inl, inr, arith, needs}
 use Rattle.definitions.specs.Calls.{dimensionsOutcome}
-use Rattle.pictures.proofs.DrawingLaws.{area-most, part-length, framed, called}
+use Rattle.pictures.proofs.DrawingLaws.{area-most, part-length, framed, called, is-drawn}
 use Rattle.pictures.proofs.whole.draw_box.Statement.{statement}
 use Rattle.pictures.proofs.whole.draw_box.Tie as tie
 
@@ -49,7 +49,7 @@ returns-4 c =
     let high = c .before .before .before .before .before .before .before .if2 .left in
     let r = s .args .rectangle in
     let is = ap dimensionsOutcome (c .before .answer2 .given .1) in
-    record { box = r; size-is = refl; called = called r (s .args .buffer .now) wide high (s .pre .room) (s .args .color) (s .pre .measured) is call }
+    is-drawn (called r (s .args .buffer .now) wide high (s .pre .room) (s .args .color) (s .pre .measured) is call)
 
 pub draw-box-spec : {M : Type 1} → statement M
 draw-box-spec =
