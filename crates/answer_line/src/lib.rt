@@ -1,5 +1,4 @@
 // The line that a measuring call's outcome is printed as (SPECIFICATION, Measuring program).
-ghost use mathlib.Core.Path.{_≡_};
 ghost use Prim.Native.Nat.{_+_, _≤_};
 ghost use lib.ListN.{length};
 ghost use Rattle.definitions.specs.Refusals.{success, refusal};

@@ -1,5 +1,5 @@
 -- A letter refuses a text with 7 or 8, and never with the number of a cause that is tested before the letters. Assumes nothing.
-use Rattle.integers.proofs.Prelude.{_≡_, refl, Bool, true, false, _&&_, _⊎_, inl, inr, List, [], _∷_, map, ℕ, _+_, _*_, eqb}
+use Rattle.integers.proofs.Prelude.{_≡_, refl, Bool, true, false, _&&_, _⊎_, inl, inr, List, [], _∷_, map, ℕ, _*_, eqb}
 use Rattle.integers.specs.Integers.{pick}
 use Rattle.definitions.specs.Vocabulary.{FontReader, BoundingBox, Point, GlyphReader}
 use Rattle.definitions.specs.Refusals.{Outcome, success, refused, andThen}

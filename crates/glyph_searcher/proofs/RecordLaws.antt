@@ -1,5 +1,5 @@
 -- What a record comes to in the chain, whichever the width of its code. Assumes nothing.
-use Rattle.integers.proofs.Prelude.{_≡_, sym, ap, _∙_, Bool, true, false, List, [], ℕ, zero, suc, _+_, _≤_, _<_, decLt, arith, eqb, length, drop}
+use Rattle.integers.proofs.Prelude.{_≡_, ap, _∙_, Bool, true, false, List, [], ℕ, zero, suc, _+_, _<_, decLt, arith, eqb, length, drop}
 use Rattle.integers.proofs.Prelude.{drop-of-length-le}
 use Rattle.integers.specs.Integers.{pick}
 use Rattle.integers.proofs.Choices.{impossible}

@@ -1,14 +1,12 @@
 -- The letters of a text, and a loop that counts them as plain measuring does (drawing's): what holds after `at` bytes, and one
 -- turn of it. Assumes nothing.
-use Rattle.integers.proofs.Prelude.{_≡_, Bool, true, false, _&&_, List, ℕ, _+_, _≤_, arith, eqb, length, drop}
-use Rattle.integers.proofs.Choices.{impossible}
-use Rattle.integers.specs.Integers.{pick}
+use Rattle.integers.proofs.Prelude.{_≡_, Bool, List, ℕ, _+_, _≤_, arith, length, drop}
 use Rattle.definitions.specs.Vocabulary.{FontReader, Point, RenderedDimensions, GlyphReader}
-use Rattle.definitions.specs.Refusals.{Outcome, success, refused}
+use Rattle.definitions.specs.Refusals.{success, refused}
 use Rattle.definitions.specs.Header.{Opened}
 use Rattle.definitions.specs.Glyph.{glyph}
 use Rattle.definitions.specs.Utf8.{character, firstCharacter, characters, decode, codePoints}
-use Rattle.definitions.specs.Text.{Answer, shows, nothing, stops, answer}
+use Rattle.definitions.specs.Text.{Answer, shows}
 use Rattle.definitions.specs.TextSteps.{step, measureFrom, start}
 use Rattle.definitions.specs.Font.{u8g2, measuredAnswer}
 use Rattle.definitions.proofs.GlyphLaws.{glyph-range}

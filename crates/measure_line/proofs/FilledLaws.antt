@@ -1,6 +1,6 @@
 -- The line follows from as much of the files as the program reads: a font of more than 65,536 bytes is number 1 and a text of more
 -- than 4,096 bytes number 4, whatever else they hold.
-use Rattle.integers.proofs.Prelude.{_≡_, refl, sym, ap, _∙_, Bool, List, ℕ, _≤_, _<_, decLt, arith, length, take, length-take, take-all, lt-ltb}
+use Rattle.integers.proofs.Prelude.{_≡_, refl, sym, ap, _∙_, List, ℕ, _<_, decLt, arith, length, take, length-take, take-all, lt-ltb}
 use Rattle.definitions.specs.Vocabulary.{FontReader}
 use Rattle.definitions.specs.Refusals.{Outcome, success, refused, unlessRefused}
 use Rattle.definitions.specs.Header.{fontCauses}

@@ -1,5 +1,5 @@
 -- DrawResult at the opposite of the corner of a text's box: the call is the definition's, and all of the text is seen. Assumes nothing.
-use Rattle.integers.proofs.Prelude.{_≡_, sym, subst, _∙_, false, List, ℕ, _≤_, ℤ, pos, _-ℤ_, length}
+use Rattle.integers.proofs.Prelude.{_≡_, sym, subst, _∙_, List, ℕ, _≤_, ℤ, pos, _-ℤ_, length}
 use Rattle.definitions.specs.Vocabulary.{Framebuffer, Point, Rectangle, RenderedDimensions, FontColor}
 use Rattle.definitions.specs.Refusals.{Outcome, success}
 use Rattle.definitions.specs.Geometry.{left, top}

@@ -2,7 +2,7 @@
 use Rattle.integers.proofs.Prelude.{_≡_, sym, ap, _∙_, List, ℕ}
 use Rattle.definitions.specs.Vocabulary.{RenderedDimensions}
 use Rattle.definitions.specs.Refusals.{Outcome, success, refused}
-use Rattle.definitions.specs.Agreement.{on, Ground, width, height}
+use Rattle.definitions.specs.Agreement.{on, Ground}
 use Rattle.redraw_checks.specs.Drawing.{Drawing, drawn, after}
 use Rattle.redraw.specs.Redraw.{readingOn}
 

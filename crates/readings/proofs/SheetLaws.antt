@@ -1,7 +1,7 @@
 -- The sheet, reading by reading: each step answers as drawing the reading alone on the ground does, and without the fault the screen
 -- shows after each what it is to show. Both are the laws of the step (StepsLaws of redraw), reading by reading. Assumes nothing.
 use Rattle.integers.proofs.Prelude.{_≡_, refl, sym, ap, subst, _∙_, Bool, true, false, List, [], _∷_, _++_, ℕ, zero, suc, _+_, _≤_, _<_, decLt, arith}
-use Rattle.integers.proofs.Prelude.{eqb, length}
+use Rattle.integers.proofs.Prelude.{length}
 use Rattle.integers.proofs.Choices.{impossible}
 use Rattle.integers.specs.Integers.{pick}
 use Rattle.definitions.specs.Vocabulary.{RenderedDimensions, Transparent, Place}

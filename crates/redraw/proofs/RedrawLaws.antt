@@ -20,17 +20,17 @@ use Rattle.definitions.specs.Agreement.{Ground, on, WithinLimits, pixel, KeptOu
 use Rattle.redraw_checks.specs.Drawing.{Drawing, asks, withText, drawn, after, measured}
 use Rattle.definitions.proofs.FramebufferLaws.{length-shown, shown-at, same-pixels}
 use Rattle.definitions.proofs.PictureLaws.{covers-inside, inside-covers}
-use Rattle.definitions.proofs.RefusalLaws.{or-false, none-applies, succeeded, NoneApplies, each-off}
-use Rattle.definitions.proofs.CausesLaws.{LimitsPass, DrawPasses, limits-pass, limits-off, draw-passes, draw-off}
+use Rattle.definitions.proofs.RefusalLaws.{or-false, none-applies, succeeded}
+use Rattle.definitions.proofs.CausesLaws.{LimitsPass, limits-pass, limits-off, draw-passes, draw-off}
 use Rattle.definitions.proofs.ComesLaws.{comes-stopped}
 use Rattle.definitions.proofs.TextLaws.{measure-from, draw-from}
 use Rattle.definitions.proofs.LetterRefusals.{Late, late, late-drawn}
 use Rattle.definitions.proofs.Agreement.{alone, size}
 use Rattle.framebuffer.specs.Areas.{fillPicture}
 use Rattle.framebuffer.proofs.RowLaws.{row-of-pixel}
-use Rattle.redraw_checks.specs.Checks.{redrawCauses}
+use Rattle.redraw_checks.proofs.ChecksLaws.{StepPasses, step-passes}
 use Rattle.redraw.specs.Redraw.{wholeOr, readingOn, AllOf, clearedBy, cleared, redrawn, redrawnBuffer, taken}
-use Rattle.redraw_checks.specs.Checks.{originOf, stepOf, checkedStep}
+use Rattle.redraw_checks.specs.Checks.{redrawCauses, originOf, stepOf, checkedStep}
 
 -- Of what `redraw` ensures: the answer, what is shown, and what that leaves of a reading.
 abbrev pub shown-by : {A B C : Type 0} → A × (B × C) → B
@@ -213,18 +213,6 @@ module _ (font : List ℕ) (r : Drawing) (p : Ground) where
         ∙ rw unrefused
 
 -- ---- the step, as the code goes
-
--- None of its causes applies: the old text is one that can be drawn, and the new text passes as a drawing does.
-pub record StepPasses (font old : List ℕ) (new : Drawing) (p : Ground) : Type 0 where
-  pub old-in : textCause old .applies ≡ false
-  pub passes : DrawPasses font (asks new) (new .color) p
-
-pub step-passes : (font old : List ℕ) (new : Drawing) (p : Ground) → anyApplies (redrawCauses font old new p) ≡ false → StepPasses font old new p
-step-passes font old new p e = by (each-off (redrawCauses font old new p) e)
-  where
-    by : NoneApplies (redrawCauses font old new p) → StepPasses font old new p
-    by (l, (h, (s, (o, (t, (q, (c, none))))))) =
-        record { old-in = o; passes = record { limited = record { length-in = l; header-in = h; size-in = s; text-in = t; place-in = q }; color-in = c } }
 
 module _ (font old : List ℕ) (new : Drawing) (background : ℕ) (p : Ground) where
   -- refused by one of its causes

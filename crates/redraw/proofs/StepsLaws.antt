@@ -21,7 +21,8 @@ use Rattle.redraw.specs.Redraw.{wholeOr, readingOn, AllOf, clearedBy, re
 use Rattle.redraw.specs.Steps.{Setting, Reading, inSetting, groundIn, Screen, readingOf, bare, stepAnswer, stepOn, stepsOn, answers}
 use Rattle.redraw.specs.Steps.{alone, lastTaken, showing, ClearFor, ClearForAll, LeavesReading}
 use Rattle.redraw.proofs.RedrawLaws.{length-after, within-limits, same-answer, some-width, fill-restores, length-cleared}
-use Rattle.redraw.proofs.RedrawLaws.{refused-early, causesOf, drawn-early, drawn-late, same-causes, redrawn-is, step-passes}
+use Rattle.redraw.proofs.RedrawLaws.{refused-early, causesOf, drawn-early, drawn-late, same-causes, redrawn-is}
+use Rattle.redraw_checks.proofs.ChecksLaws.{step-passes}
 
 -- What drawing answers does not depend on the colours, if the font allows them.
 same-color : (f : Setting) (bytes text : List ℕ) (c d : FontColor) → backgroundOff c (u8g2 (f .font) .background) ≡ false → backgroundOff d (u8g2 (f .font) .background) ≡ false

@@ -1,23 +1,21 @@
 -- A reading drawn over the one before, whole or not at all: the one call that the gauge makes.
 use mathlib.Core.Path.{_≡_}
 use mathlib.Core.Bool.{Bool, true, _||_}
-use mathlib.Core.List.{List, [], _∷_, _++_}
+use mathlib.Core.List.{List}
 use Prim.Native.Nat.{ℕ, _<_}
 use lib.Dec.{eqb}
 use lib.IntN.{pos}
 use Rattle.integers.specs.Integers.{pick}
 use Rattle.definitions.specs.Vocabulary.{BoundingBox, RenderedDimensions, Place}
-use Rattle.definitions.specs.Refusals.{Outcome, success, refused, Cause, unlessRefused, anyApplies}
-use Rattle.definitions.specs.Header.{fontCauses}
+use Rattle.definitions.specs.Refusals.{Outcome, success, refused, unlessRefused, anyApplies}
 use Rattle.definitions.specs.Geometry.{InsideBox}
-use Rattle.definitions.specs.Framebuffer.{shown, framebufferCause}
-use Rattle.definitions.specs.Font.{u8g2}
-use Rattle.definitions.specs.Limits.{textCause, positionCause, backgroundCause}
+use Rattle.definitions.specs.Framebuffer.{shown}
 use Rattle.definitions.specs.Agreement.{Ground, on, pixel, width, height}
 use Rattle.checks.specs.declared.origin.Pen.{Pen}
 use Rattle.framebuffer.specs.Areas.{fillPicture}
 use Rattle.renderer.specs.Texts.{countedWith, drawnWith}
 use Rattle.redraw_checks.specs.Drawing.{Drawing, withText, drawn, after}
+use Rattle.redraw_checks.specs.Checks.{redrawCauses}
 use Rattle.redraw.specs.Contexts.{contextOf}
 
 -- ---- a reading on a ground

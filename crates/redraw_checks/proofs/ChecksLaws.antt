@@ -11,7 +11,8 @@ use Rattle.definitions.specs.Calls.{openFont}
 use Rattle.definitions.specs.Agreement.{Ground, width, height}
 use Rattle.redraw_checks.specs.Drawing.{Drawing, asks, withText}
 use Rattle.definitions.proofs.OpenedLaws.{passes-font, opened, opened-limits}
-use Rattle.definitions.proofs.RefusalLaws.{succeeded}
+use Rattle.definitions.proofs.RefusalLaws.{succeeded, NoneApplies, each-off}
+use Rattle.definitions.proofs.CausesLaws.{DrawPasses}
 use Rattle.definitions.proofs.ComesLaws.{Comes, comes-none, comes-off, comes-on, comes-passed, comes-stopped}
 use Rattle.framebuffer.specs.Areas.{BufferFits}
 use Rattle.checks.specs.declared.origin.Pen.{Pen}
@@ -19,9 +20,7 @@ use Rattle.checks.specs.Origins.{originBy, checkedOrigin, Checked}
 use Rattle.checks.proofs.OriginLaws.{text-limits, position-limits, origin-checked, origin-is}
 use Rattle.checks.proofs.SizeLaws.{size-fits}
 use Rattle.redraw_checks.specs.declared.Step.{Step}
-use Rattle.redraw_checks.specs.Checks.{redrawCauses}
-use Rattle.redraw_checks.specs.Checks.{originOf, penOf, stepOf, checkedStep}
-use Rattle.redraw.proofs.RedrawLaws.{step-passes}
+use Rattle.redraw_checks.specs.Checks.{redrawCauses, originOf, penOf, stepOf, checkedStep}
 
 -- ---- test by test
 
@@ -100,6 +99,18 @@ module _ (font old : List ℕ) (new : Drawing) (p : Ground) where
               ∙ after-place (comes-off (backgroundCause (new .color) (u8g2 font .background)) e comes-none)
 
 -- ---- a step that passes them
+
+-- None of its causes applies: the old text is one that can be drawn, and the new text passes as a drawing does.
+pub record StepPasses (font old : List ℕ) (new : Drawing) (p : Ground) : Type 0 where
+  pub old-in : textCause old .applies ≡ false
+  pub passes : DrawPasses font (asks new) (new .color) p
+
+pub step-passes : (font old : List ℕ) (new : Drawing) (p : Ground) → anyApplies (redrawCauses font old new p) ≡ false → StepPasses font old new p
+step-passes font old new p e = by (each-off (redrawCauses font old new p) e)
+  where
+    by : NoneApplies (redrawCauses font old new p) → StepPasses font old new p
+    by (l, (h, (s, (o, (t, (q, (c, none))))))) =
+        record { old-in = o; passes = record { limited = record { length-in = l; header-in = h; size-in = s; text-in = t; place-in = q }; color-in = c } }
 
 pub record Ready (font old : List ℕ) (new : Drawing) (p : Ground) (s : Step) : Type 0 where
   pub unrefused : anyApplies (redrawCauses font old new p) ≡ false

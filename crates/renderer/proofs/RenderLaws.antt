@@ -1,15 +1,12 @@
 -- Drawing a text: the letters, the loop over them, and what the causes leave of a call. Assumes nothing.
-use Rattle.integers.proofs.Prelude.{_≡_, refl, sym, ap, _∙_, Bool, true, false, List, [], _∷_, _++_, ℕ, _+_, _≤_, arith, length, drop}
-use Rattle.integers.proofs.Choices.{impossible}
+use Rattle.integers.proofs.Prelude.{_≡_, refl, sym, ap, _∙_, Bool, true, false, List, [], _∷_, _++_, ℕ, _+_, _≤_, length, drop}
 use Rattle.definitions.specs.Vocabulary.{FontReader, Framebuffer, Point, RenderedDimensions, GlyphReader, FontColor}
 use Rattle.definitions.specs.Refusals.{Outcome, success, refused, Cause}
 use Rattle.definitions.specs.Header.{header, fontCauses, Opened}
-use Rattle.definitions.specs.Glyph.{glyph}
 use Rattle.definitions.specs.Utf8.{character, firstCharacter, decode, codePoints}
 use Rattle.definitions.specs.Text.{Answer, shows, dimensions}
 use Rattle.definitions.specs.TextSteps.{step, stepShown, measureFrom, drawFrom, start}
-use Rattle.definitions.specs.Runs.{Pixels, pixels, cut, glyphPixels}
-use Rattle.definitions.specs.Font.{u8g2, withRuns, drawable, drawnAnswer, pixelsOf}
+use Rattle.definitions.specs.Font.{u8g2, drawnAnswer, pixelsOf}
 use Rattle.definitions.specs.Picture.{textPicture}
 use Rattle.definitions.specs.Framebuffer.{shown, framebufferCause}
 use Rattle.definitions.specs.Limits.{textCause, positionCause, backgroundCause}

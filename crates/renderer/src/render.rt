@@ -1,9 +1,8 @@
 // Drawing a text on a framebuffer.
 ghost use mathlib.Core.Path.{_≡_};
 ghost use lib.ListN.{length};
-ghost use Rattle.definitions.specs.Header.{Opened};
 ghost use Rattle.definitions.specs.TextSteps.{answerShown};
-ghost use Rattle.definitions.specs.Font.{u8g2, drawnAnswer, pixelsOf};
+ghost use Rattle.definitions.specs.Font.{u8g2, pixelsOf};
 ghost use Rattle.definitions.specs.Calls.{plain, draw, drawBuffer, dimensionsOutcome};
 ghost use Rattle.answers.specs.Answers.{asAnswer};
 ghost use Rattle.renderer.specs.CharAnswers.{DrawableAnswer, DrawableChar, CharDrawn};

@@ -1,6 +1,6 @@
 -- The ranges of measuring line by line: a line, counted from its own start, stays near 0, and so does the place to which it is moved.
 -- Assumes nothing.
-use Rattle.integers.proofs.Prelude.{_≡_, refl, subst, Bool, true, false, List, _∷_, ℕ, _+_, _/_, _≤_, arith, eqb, ℤ, pos, negsuc, _+ℤ_, _-ℤ_, _≤ℤ_}
+use Rattle.integers.proofs.Prelude.{_≡_, refl, subst, Bool, true, false, List, _∷_, ℕ, _+_, _/_, _≤_, eqb, ℤ, pos, negsuc, _+ℤ_, _-ℤ_, _≤ℤ_}
 use Rattle.integers.proofs.Prelude.{w32, SFits}
 use Rattle.integers.proofs.Choices.{impossible}
 use Rattle.integers.specs.Integers.{pick, minZ}

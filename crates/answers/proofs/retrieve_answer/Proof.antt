@@ -1,5 +1,5 @@
 -- The letter of what the lookup answers.
-use Rattle.integers.proofs.Prelude.{_≡_, ap, _∙_, needs}
+use Rattle.integers.proofs.Prelude.{ap, _∙_, needs}
 use Rattle.definitions.specs.Text.{answer}
 use Rattle.answers.proofs.retrieve_answer.Statement.{statement}
 use Rattle.answers.proofs.retrieve_answer.Tie as tie

@@ -1,5 +1,5 @@
 -- The tests are the definition's causes, in its order.
-use Rattle.integers.proofs.Prelude.{_≡_, sym, _∙_, true, false, ⊎-elim, length, lt-ltb, le-ltb, needs}
+use Rattle.integers.proofs.Prelude.{_≡_, sym, _∙_, false, ⊎-elim, lt-ltb, le-ltb, needs}
 use Rattle.definitions.specs.Calls.{openFont}
 use Rattle.definitions.specs.Header.{header, lengthOff}
 use Rattle.definitions.proofs.OpenedLaws.{opened-limits}

@@ -2,7 +2,7 @@
 use Rattle.integers.proofs.Prelude.{_≡_, sym, ap, _∙_, List, ℕ, _*_, needs}
 use Rattle.definitions.specs.Vocabulary.{FontReader}
 use Rattle.definitions.specs.Header.{header, Opened}
-use Rattle.definitions.specs.Lookup.{Search, found, search as lookup}
+use Rattle.definitions.specs.Lookup.{found, search as lookup}
 use Rattle.definitions.specs.Glyph.{fields, fromSearch, glyph}
 use Rattle.definitions.proofs.LookupLaws.{search-within}
 use Rattle.glyph_searcher.specs.Answers.{searched}

@@ -7,7 +7,7 @@ use Rattle.definitions.specs.Framebuffer.{framebufferCause}
 use Rattle.definitions.specs.Limits.{textCause, backgroundOff, backgroundCause}
 use Rattle.definitions.specs.Calls.{openFont, fontReaderOutcome}
 use Rattle.definitions.specs.Agreement.{Ground}
-use Rattle.redraw_checks.specs.Drawing.{Drawing, asks, withText, asked, groundOf}
+use Rattle.redraw_checks.specs.Drawing.{Drawing, asks, asked, groundOf}
 use Rattle.definitions.proofs.OpenedLaws.{opened}
 use Rattle.checks.specs.declared.origin.Pen.{Pen}
 use Rattle.checks.specs.Origins.{checkedOrigin, originOutcome}

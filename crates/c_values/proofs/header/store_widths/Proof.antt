@@ -1,5 +1,5 @@
 -- Each number is what its function ensures.
-use Rattle.integers.proofs.Prelude.{arith, length-set, w8, w64, needs}
+use Rattle.integers.proofs.Prelude.{arith, length-set, w64, needs}
 use Rattle.integers.proofs.Laws.{stored}
 use Rattle.c_values.proofs.header.store_widths.Statement.{statement}
 use Rattle.c_values.proofs.header.store_widths.Tie as tie

@@ -1,5 +1,5 @@
 -- With a box and without one.
-use Rattle.integers.proofs.Prelude.{sym, _∙_, ap, w32, w64, SFits, toZ-ofZ, needs}
+use Rattle.integers.proofs.Prelude.{_∙_, w32, w64, SFits, toZ-ofZ, needs}
 use Rattle.integers.proofs.Laws.{stored}
 use Rattle.c_values.proofs.reply.of_bounds.Statement.{statement}
 use Rattle.c_values.proofs.reply.of_bounds.Tie as tie

@@ -1,5 +1,5 @@
 -- What was appended lies within the buffer.
-use Rattle.integers.proofs.Prelude.{_≡_, _+_, _-_, _≤_, length, needs}
+use Rattle.integers.proofs.Prelude.{_≡_, _-_, _≤_, length, needs}
 use Rattle.cases.proofs.case_file.append_repeated.Statement.{statement}
 use Rattle.cases.proofs.case_file.append_repeated.Tie as tie
 

@@ -1,5 +1,5 @@
 -- The difference lies in the range of 32 bits.
-use Rattle.integers.proofs.Prelude.{_≡_, arith, pos, _-ℤ_, Width, w32, w64, SFits, toZ, hbits, toZ-pos, toZ-ofZ, sfits-widen, needs}
+use Rattle.integers.proofs.Prelude.{_≡_, arith, pos, _-ℤ_, w32, w64, SFits, toZ, toZ-pos, toZ-ofZ, sfits-widen, needs}
 use Rattle.integers.proofs.Laws.{zarith, minus}
 use Rattle.cases.proofs.case_file.signed_number.Statement.{statement}
 use Rattle.cases.proofs.case_file.signed_number.Tie as tie

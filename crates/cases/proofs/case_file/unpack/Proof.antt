@@ -1,5 +1,5 @@
 -- What was unpacked lies within the buffer.
-use Rattle.integers.proofs.Prelude.{_≡_, _+_, _-_, _≤_, length, needs}
+use Rattle.integers.proofs.Prelude.{_≡_, _-_, _≤_, length, needs}
 use Rattle.cases.proofs.case_file.unpack.Statement.{statement}
 use Rattle.cases.proofs.case_file.unpack.Tie as tie
 

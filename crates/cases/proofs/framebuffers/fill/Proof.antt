@@ -1,5 +1,5 @@
 -- The length stays.
-use Rattle.integers.proofs.Prelude.{_≡_, _-_, _≤_, _<_, length, needs}
+use Rattle.integers.proofs.Prelude.{_≡_, _-_, length, needs}
 use Rattle.cases.proofs.framebuffers.fill.Statement.{statement}
 use Rattle.cases.proofs.framebuffers.fill.Tie as tie
 

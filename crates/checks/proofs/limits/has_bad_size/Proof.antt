@@ -1,5 +1,5 @@
 -- The tests are those of the cause, in order; sides of at most 256 have a product that fits.
-use Rattle.integers.proofs.Prelude.{_≡_, sym, _∙_, mul-le-mul, arith, needs}
+use Rattle.integers.proofs.Prelude.{sym, _∙_, mul-le-mul, arith, needs}
 use Rattle.checks.proofs.LimitLaws.{side-limits}
 use Rattle.checks.proofs.limits.has_bad_size.Statement.{statement}
 use Rattle.checks.proofs.limits.has_bad_size.Tie as tie

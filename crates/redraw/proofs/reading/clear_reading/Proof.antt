@@ -1,5 +1,5 @@
 -- The box of what drawing the text would answer is filled.
-use Rattle.integers.proofs.Prelude.{_≡_, sym, ap, _∙_, needs}
+use Rattle.integers.proofs.Prelude.{sym, ap, _∙_, needs}
 use Rattle.definitions.specs.Calls.{dimensionsOutcome}
 use Rattle.redraw.proofs.reading.clear_reading.Statement.{statement}
 use Rattle.redraw.proofs.reading.clear_reading.Tie as tie

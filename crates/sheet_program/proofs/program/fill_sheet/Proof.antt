@@ -1,5 +1,5 @@
 -- `fill_sheet` meets its contract: the ground is background wherever a reading can stand, so what `run` promises holds. Assumes nothing.
-use Rattle.integers.proofs.Prelude.{ap, subst, _∙_, List, ℕ, arith, needs}
+use Rattle.integers.proofs.Prelude.{ap, subst, _∙_, List, ℕ, needs}
 use Rattle.buffers.proofs.CopyLaws.{whole}
 use Rattle.readings.specs.Sheet.{totalsTo, Sound}
 use Rattle.sheet_program.proofs.program.fill_sheet.Statement.{statement}

@@ -1,5 +1,5 @@
 -- In 64 bits the difference from 0 fits, and it is not negative.
-use Rattle.integers.proofs.Prelude.{_≡_, _≤_, ℤ, pos, natAbs, _-ℤ_, _≤ℤ_, w32, w64, SFits, Fits, toZ-ofZ, sfits-widen, needs}
+use Rattle.integers.proofs.Prelude.{_≡_, ℤ, pos, natAbs, _-ℤ_, w32, w64, SFits, Fits, toZ-ofZ, sfits-widen}
 use Rattle.integers.proofs.Laws.{zarith, minus, size, range, nonneg, castable}
 use Rattle.utils.proofs.number.magnitude.Statement.{statement}
 use Rattle.utils.proofs.number.magnitude.Tie as tie
