@@ -1,6 +1,5 @@
 // What the programs print: numbers, and answers in the measuring program's words (`ok` or `no`, then numbers).
-pub mod digits;
-
+use code_points::write_digits;
 use libc::STDOUT_FILENO;
 use types::error::Error;
 use types::geometry::BoundingBox;
@@ -56,7 +55,7 @@ pub fn dimensions(d: RenderedDimensions) {
 
 fn code_point(c: u32) {
     let mut out = [0u8; 8];
-    let start = digits::write_digits(c, &mut out);
+    let start = write_digits(c, &mut out);
     text(b"U+");
     text(&out[start..]);
 }

@@ -1,7 +1,7 @@
 -- `hex_digit` meets its contract. Assumes nothing.
 use Rattle.integers.proofs.Prelude.{lt-ltb, le-ltb, needs}
-use Rattle.printing.proofs.digits.hex_digit.Statement.{statement}
-use Rattle.printing.proofs.digits.hex_digit.Tie as tie
+use Rattle.code_points.proofs.hex_digit.Statement.{statement}
+use Rattle.code_points.proofs.hex_digit.Tie as tie
 
 returns : tie.Need-returns
 returns c = simp (lt-ltb _ _ (c .if1 .taken))

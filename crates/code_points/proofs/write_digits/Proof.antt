@@ -1,9 +1,9 @@
 -- `write_digits` meets its contract: DigitLaws.antt has the step. Assumes nothing.
 use Rattle.integers.proofs.Prelude.{subst, ℕ, arith, needs}
-use Rattle.printing.specs.CodePoints.{hexDigits, hexPlaces}
-use Rattle.printing.proofs.DigitLaws.{Written, written-none, written-next, written-all}
-use Rattle.printing.proofs.digits.write_digits.Statement.{statement}
-use Rattle.printing.proofs.digits.write_digits.Tie as tie
+use Rattle.code_points.specs.CodePoints.{hexDigits, hexPlaces}
+use Rattle.code_points.proofs.DigitLaws.{Written, written-none, written-next, written-all}
+use Rattle.code_points.proofs.write_digits.Statement.{statement}
+use Rattle.code_points.proofs.write_digits.Tie as tie
 
 abbrev Inv-loop : tie.InvT-loop
 Inv-loop c out₀ rest₀ left₀ start₀ out rest left start = Written (hexDigits (hexPlaces c) c) out rest left start

@@ -2,7 +2,7 @@
 ghost use mathlib.Core.Path.{_≡_};
 ghost use Prim.Native.Nat.{_≤_, _<_};
 ghost use lib.ListN.{length, drop};
-ghost use Rattle.printing.specs.CodePoints.{hexDigit, hexDigits, hexPlaces};
+ghost use Rattle.code_points.specs.CodePoints.{hexDigit, hexDigits, hexPlaces};
 
 fn hex_digit(d: u32) -> u8
     requires { ⌜ d < 16 ⌝ }

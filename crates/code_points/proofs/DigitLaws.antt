@@ -1,7 +1,7 @@
 -- Hexadecimal digits written from the last to the first: what is left to write, then what stands at the buffer's end. Assumes nothing.
 use Rattle.integers.proofs.Prelude.{_≡_, sym, _∙_, List, [], _∷_, _++_, append-nil, append-assoc, ℕ, zero, suc, _-_, _/_, _%_, _≤_, _<_, arith}
 use Rattle.integers.proofs.Prelude.{length, set, drop, length-set, drop-of-length-le, drop-cons, getD-set-same, drop-set-lt}
-use Rattle.printing.specs.CodePoints.{hexDigit, hexDigits}
+use Rattle.code_points.specs.CodePoints.{hexDigit, hexDigits}
 
 -- `whole` is what is left to write, and then what stands from `start` on
 pub record Written (whole : List ℕ) (out : List ℕ) (rest left start : ℕ) : Type 0 where

@@ -1,7 +1,7 @@
 -- `digit_count` meets its contract, test by test. Assumes nothing.
 use Rattle.integers.proofs.Prelude.{arith, lt-ltb, le-ltb}
-use Rattle.printing.proofs.digits.digit_count.Statement.{statement}
-use Rattle.printing.proofs.digits.digit_count.Tie as tie
+use Rattle.code_points.proofs.digit_count.Statement.{statement}
+use Rattle.code_points.proofs.digit_count.Tie as tie
 
 returns : tie.Need-returns
 returns c = (simp (lt-ltb _ _ (c .if1 .taken)), omega arith)
