@@ -1,2 +1,1 @@
-pub mod WordsLaws
 pub mod ShownLaws

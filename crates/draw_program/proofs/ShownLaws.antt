@@ -1,18 +1,11 @@
 -- What is drawn can be shown. Assumes nothing.
-use Rattle.integers.proofs.Prelude.{_≡_, subst, List, ℕ, _+_, _*_, _≤_, _<_, mul-le-mul-right, mul-comm, arith, length, take, length-take-le}
+use Rattle.integers.proofs.Prelude.{_≡_, subst, List, ℕ, _*_, arith, length, take, length-take-le}
 use Rattle.definitions.specs.Vocabulary.{Size, FontColor}
 use Rattle.pictures.specs.declared.whole.DrawResult.{DrawResult}
 use Rattle.pictures.specs.declared.whole.DrawResult.the-variants.{Drawn, Blank, TooLarge, Refused}
 use Rattle.pictures.specs.Drawings.{IsDrawing}
 use Rattle.pictures.proofs.DrawingLaws.{area-most}
 use Rattle.draw_program.specs.Shown.{Small, Showable}
-
--- ---- the rows of a picture
-
-pub row-within : (width height y : ℕ) → y < height → y * width + width ≤ width * height
-row-within width height y h = omega (arith, mul-le-mul-right width h, mul-comm width height)
-
--- ---- what is shown
 
 pub showable : (font text : List ℕ) (lineHeight : ℕ) (color : FontColor) (before after : List ℕ) (d : DrawResult)
     → IsDrawing font text lineHeight color before after d → Showable d

@@ -1,4 +1,1 @@
-pub mod Words
-pub mod Marks
-pub mod Images
 pub mod Shown

@@ -1,6 +1,5 @@
 -- What is shown of a drawing.
-use mathlib.Core.Path.{_≡_}
-use Prim.Native.Nat.{ℕ, _*_, _≤_}
+use Prim.Native.Nat.{_≤_}
 use Rattle.definitions.specs.Vocabulary.{Size}
 use Rattle.pictures.specs.declared.whole.DrawResult.{DrawResult}
 use Rattle.pictures.specs.declared.whole.DrawResult.the-variants.{Drawn, Blank, TooLarge, Refused}
@@ -9,12 +8,6 @@ use Rattle.pictures.specs.declared.whole.DrawResult.the-variants.{Drawn, Blank,
 pub record Small (size : Size) : Type 0 where
   pub wide : size .width ≤ 256
   pub high : size .height ≤ 256
-
--- So many pixels are a picture of that width and height.
-pub record IsPicture (width height pixels : ℕ) : Type 0 where
-  pub wide : width ≤ 256
-  pub high : height ≤ 256
-  pub area : pixels ≡ width * height
 
 -- what the program must know of a drawing to show it
 abbrev pub Showable : DrawResult → Type 0

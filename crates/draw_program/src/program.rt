@@ -1,13 +1,14 @@
 // The program: draws a text in the font font.bin and prints the answer and the picture.
 ghost use mathlib.Core.Path.{_≡_};
 ghost use lib.ListN.{length};
-ghost use Rattle.draw_program.specs.Shown.{Small, IsPicture, Showable};
-use crate::image::write_image;
-use crate::marks::EMPTY;
-use crate::marks::color;
-use crate::marks::print_rows;
-use crate::options::Options;
+ghost use Rattle.picture_text.specs.Marks.{IsPicture};
+ghost use Rattle.draw_program.specs.Shown.{Small, Showable};
+use draw_options::Options;
 use font_file::FontFile;
+use pgm::write_image;
+use picture_text::EMPTY;
+use picture_text::color;
+use picture_text::print_rows;
 use pictures::whole::DrawResult;
 use pictures::whole::draw_whole;
 use types::error::Error;

@@ -1,6 +1,6 @@
 // The drawing program's runs with arguments, each under a heading: with `background`; with `background` and `pgm`, and then the
 // image that it wrote.
-use draw_program::options::Options;
+use draw_options::Options;
 use draw_program::program::start;
 use libc::STDOUT_FILENO;
 
