@@ -10,9 +10,10 @@ use Rattle.definitions.specs.Text.{dimensions}
 use Rattle.definitions.specs.Limits.{textCause, positionCause}
 use Rattle.definitions.specs.Font.{u8g2}
 use Rattle.definitions.specs.Calls.{openFont, measuredText, measure}
-use Rattle.pictures.specs.Whole.{roomFor, atZero, whole, measuredAtZero, SeenWhole}
+use Rattle.corner.specs.Whole.{roomFor, atZero, whole, measuredAtZero, SeenWhole}
 use Rattle.definitions.proofs.OpenedLaws.{opened, open-refused}
-use Rattle.pictures.specs.Drawings.{Measured, Framed, CornerDrawn, area, Called, IsDrawn}
+use Rattle.corner.specs.Corners.{Measured, Framed, CornerDrawn}
+use Rattle.pictures.specs.Drawings.{area, Called, IsDrawn}
 
 -- the largest framebuffer
 pub area-most : {width height : ℕ} → width ≤ 256 → height ≤ 256 → width * height ≤ 65536

@@ -1,3 +1,1 @@
-pub mod WholeLaws
-pub mod CornerLaws
 pub mod DrawingLaws

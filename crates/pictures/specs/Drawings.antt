@@ -5,41 +5,17 @@ use mathlib.Core.List.{List, _++_}
 use mathlib.Core.Logic.{_⊎_}
 use Prim.Native.Nat.{ℕ, _*_, _≤_, _<_}
 use lib.ListN.{take, drop}
-use Rattle.definitions.specs.Vocabulary.{Framebuffer, None, Point, Size, Rectangle, RenderedDimensions, FontColor}
+use Rattle.definitions.specs.Vocabulary.{None, Point, Size, Rectangle, RenderedDimensions, FontColor}
 use Rattle.definitions.specs.Refusals.{Outcome, success, refusal}
-use Rattle.pictures.specs.Whole.{measuredAtZero, drawnWhole, shownWhole, boxed, SeenWhole}
+use Rattle.corner.specs.Whole.{measuredAtZero, drawnWhole, shownWhole, boxed, SeenWhole}
+use Rattle.corner.specs.Corners.{Measured}
 use Rattle.pictures.specs.declared.whole.DrawResult.{DrawResult}
 use Rattle.pictures.specs.declared.whole.DrawResult.the-variants.{Drawn, Blank, TooLarge, Refused}
 
--- The text was measured at (0, 0), and its box is r. A default line height is at most 128.
-pub record Measured (font text : List ℕ) (lineHeight : ℕ) (r : Rectangle) : Type 0 where
-  pub low : lineHeight ≤ 128
-  pub advance : Point
-  pub box : measuredAtZero font text lineHeight ≡ success (boxed advance r)
-
--- A framebuffer of r's size, and how many bytes it has.
-pub record Framed (r : Rectangle) (p : Framebuffer) (n : ℕ) : Type 0 where
-  pub width-is : p .width ≡ r .size .width
-  pub height-is : p .height ≡ r .size .height
-  pub wide : p .width ≤ 256
-  pub high : p .height ≤ 256
-  pub area : n ≡ p .width * p .height
-
--- Both: the text is drawn on that framebuffer.
-pub record Cornered (font text : List ℕ) (lineHeight : ℕ) (r : Rectangle) (p : Framebuffer) (n : ℕ) : Type 0 where
-  pub measured : Measured font text lineHeight r
-  pub framed : Framed r p n
-
--- .. and a buffer for the largest framebuffer.
+-- The text was measured, and there is a buffer for the largest framebuffer.
 pub record Buffered (font text : List ℕ) (lineHeight : ℕ) (r : Rectangle) (bytes : ℕ) : Type 0 where
   pub measured : Measured font text lineHeight r
   pub room : bytes ≡ 65536
-
--- What that comes to: all of it is seen.
-pub record CornerDrawn (font text : List ℕ) (lineHeight : ℕ) (color : FontColor) (r : Rectangle) (before after : List ℕ) (o : Outcome RenderedDimensions) : Type 0 where
-  pub answered : o ≡ drawnWhole font text lineHeight color r before
-  pub shown : after ≡ shownWhole font text lineHeight color r before
-  pub seen : (advance : Point) → measuredAtZero font text lineHeight ≡ success (boxed advance r) → SeenWhole advance r o
 
 abbrev pub area : Rectangle → ℕ
 area r = r .size .width * r .size .height

@@ -1,15 +1,12 @@
 // A text drawn on a framebuffer of its own, just large enough for all of it.
 ghost use mathlib.Core.Path.{_≡_};
-ghost use Prim.Native.Nat.{_*_, _≤_};
-ghost use lib.IntN.{pos, negsuc, _-ℤ_};
+ghost use Prim.Native.Nat.{_≤_};
 ghost use lib.ListN.{length};
-ghost use lib.Signed.{_≤ℤ_};
 ghost use Rattle.definitions.specs.Header.{header};
-ghost use Rattle.definitions.specs.Calls.{dimensionsOutcome};
-ghost use Rattle.pictures.specs.Drawings.{Cornered, Buffered, CornerDrawn, IsDrawing};
+ghost use Rattle.pictures.specs.Drawings.{Buffered, IsDrawing};
+use corner::draw_at_corner;
 use font_reader::new_from_raw_data;
 use measuring::rendered_dimensions::get_rendered_dimensions;
-use renderer::render::render;
 use types::error::Error;
 use types::framebuffer::Framebuffer;
 use types::geometry::BoundingBox;
@@ -20,7 +17,6 @@ use types::geometry::Size;
 use types::results::DimensionsResult;
 use types::results::FontReaderResult;
 use types::style::FontColor;
-use types::style::FontStyle;
 use types::style::Placement;
 use types::style::VerticalPosition;
 
@@ -32,42 +28,6 @@ pub enum DrawResult {
     // the text's box does not fit the largest framebuffer
     TooLarge(Rectangle),
     Refused(Error),
-}
-
-fn opposite(z: i32) -> i32
-    requires { ⌜ negsuc 1048575 ≤ℤ z ⌝ }
-    ensures { λ r. ⌜ r ≡ pos 0 -ℤ z ⌝ }
-{
-    0 - z
-}
-
-// Draws a text whose box at (0, 0) is the rectangle at the opposite of its corner.
-fn draw_at_corner(
-    font: &[u8],
-    text: &[u8],
-    line_height: u32,
-    rectangle: Rectangle,
-    color: FontColor,
-    framebuffer: Framebuffer,
-    pixels: &mut [u8],
-) -> DimensionsResult
-    requires { ⌜ Cornered (now font) (now text) «line_height» rectangle framebuffer (length (now pixels)) ⌝ }
-    ensures { λ r. ⌜ CornerDrawn (now (font .entry)) (now (text .entry)) «line_height» color rectangle (now (pixels .entry))
-        (now (pixels .exit)) (dimensionsOutcome r) ⌝ }
-{
-    let placement = Placement {
-        position: Point {
-            x: opposite(rectangle.top_left.x),
-            y: opposite(rectangle.top_left.y),
-        },
-        line_height,
-        ignore_unknown_chars: false,
-    };
-    let style = FontStyle {
-        color,
-        vertical_pos: VerticalPosition::Baseline,
-    };
-    render(font, text, placement, style, framebuffer, pixels)
 }
 
 // Draws a text whose box at (0, 0) is the rectangle, if a framebuffer can be so large.

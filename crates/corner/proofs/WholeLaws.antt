@@ -19,7 +19,7 @@ use Rattle.definitions.specs.Framebuffer.{sideOff, framebufferCause}
 use Rattle.definitions.specs.Limits.{coordinateOff, positionCause, backgroundCause}
 use Rattle.definitions.specs.Calls.{Request, codePointsOf, origin, laid, measureCauses, measuredText, measure, draw}
 use Rattle.definitions.specs.Agreement.{limits, on}
-use Rattle.pictures.specs.Whole.{atZero, whole, measuredAtZero, opposite, roomFor, drawnWhole, inCorner, boxed, SeenWhole}
+use Rattle.corner.specs.Whole.{atZero, whole, measuredAtZero, opposite, roomFor, drawnWhole, inCorner, boxed, SeenWhole}
 use Rattle.definitions.proofs.OpenedLaws.{opened-limits}
 use Rattle.definitions.proofs.RefusalLaws.{or-false, succeeded, passed}
 use Rattle.definitions.proofs.CausesLaws.{MeasurePasses, measure-passes, LimitsPass, limits-off}

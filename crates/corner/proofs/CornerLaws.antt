@@ -6,9 +6,9 @@ use Rattle.definitions.specs.Geometry.{left, top}
 use Rattle.definitions.specs.Text.{point}
 use Rattle.definitions.specs.Font.{u8g2}
 use Rattle.definitions.specs.Calls.{draw, drawBuffer}
-use Rattle.pictures.specs.Whole.{whole, measuredAtZero, opposite, drawnWhole, shownWhole, boxed, SeenWhole}
-use Rattle.pictures.proofs.WholeLaws.{NearPlace, near, seen-whole}
-use Rattle.pictures.specs.Drawings.{Measured, Framed}
+use Rattle.corner.specs.Whole.{whole, measuredAtZero, opposite, drawnWhole, shownWhole, boxed, SeenWhole}
+use Rattle.corner.proofs.WholeLaws.{NearPlace, near, seen-whole}
+use Rattle.corner.specs.Corners.{Measured, Framed}
 
 pub corner-near : {font text : List ℕ} {lineHeight : ℕ} {r : Rectangle} → Measured font text lineHeight r → NearPlace r
 corner-near {font} {text} {lineHeight} {r} m = near font text lineHeight (m .advance) r (m .low) (m .box)

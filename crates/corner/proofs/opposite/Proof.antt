@@ -1,8 +1,8 @@
 -- `opposite` meets its contract. Assumes nothing.
 use Rattle.integers.proofs.Prelude.{pos, _-ℤ_, w32, SFits, toZ-ofZ}
 use Rattle.integers.proofs.Laws.{zarith, minus, range}
-use Rattle.pictures.proofs.whole.opposite.Statement.{statement}
-use Rattle.pictures.proofs.whole.opposite.Tie as tie
+use Rattle.corner.proofs.opposite.Statement.{statement}
+use Rattle.corner.proofs.opposite.Tie as tie
 
 fits : (c : tie.Start) → SFits w32 (pos 0 -ℤ c .args .z)
 fits c = omega (zarith, minus (pos 0) (c .args .z), range (c .fits .z))

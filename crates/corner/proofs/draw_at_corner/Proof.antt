@@ -1,9 +1,9 @@
 -- `draw_at_corner` meets its contract: CornerLaws.antt has what the call comes to. Assumes nothing.
 use Rattle.integers.proofs.Prelude.{_∙_, negsuc, _≤ℤ_, w32, SFits, toZ, ofZ, toZ-ofZ, needs}
 use Rattle.integers.proofs.Laws.{stored}
-use Rattle.pictures.proofs.CornerLaws.{corner-near, call-answers, call-shows, call-seen}
-use Rattle.pictures.proofs.whole.draw_at_corner.Statement.{statement}
-use Rattle.pictures.proofs.whole.draw_at_corner.Tie as tie
+use Rattle.corner.proofs.CornerLaws.{corner-near, call-answers, call-shows, call-seen}
+use Rattle.corner.proofs.draw_at_corner.Statement.{statement}
+use Rattle.corner.proofs.draw_at_corner.Tie as tie
 
 fits-x : (c : tie.Start) → SFits w32 (c .args .rectangle .«top_left» .x)
 fits-x c = search needs
