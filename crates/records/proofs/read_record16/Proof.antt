@@ -1,8 +1,8 @@
 -- Each way out is the definition's, by the bytes of the record. Assumes nothing.
 use Rattle.integers.proofs.Prelude.{sym, _∙_, arith, eq-eqb, ne-eqb, needs}
 use Rattle.definitions.proofs.LookupLaws.{record16-at, record16-zero, record16-cut, record16-short}
-use Rattle.glyph_searcher.proofs.record.read_record16.Statement.{statement}
-use Rattle.glyph_searcher.proofs.record.read_record16.Tie as tie
+use Rattle.records.proofs.read_record16.Statement.{statement}
+use Rattle.records.proofs.read_record16.Tie as tie
 
 returns : tie.Need-returns
 returns c = let a = c .before .before .args in sym (record16-short (a .ch) (a .font .now) (a .at) (omega arith))

@@ -1,7 +1,7 @@
 -- The test of the jump is the definition's. Assumes nothing.
 use borrow.Author.Tests.{eq-eqb, ne-eqb}
-use Rattle.glyph_searcher.proofs.record.jump_to_next.Statement.{statement}
-use Rattle.glyph_searcher.proofs.record.jump_to_next.Tie as tie
+use Rattle.records.proofs.jump_to_next.Statement.{statement}
+use Rattle.records.proofs.jump_to_next.Tie as tie
 
 returns : tie.Need-returns
 returns c = simp (eq-eqb _ _ (c .if1 .taken))

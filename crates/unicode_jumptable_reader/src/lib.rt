@@ -4,7 +4,7 @@ ghost use mathlib.Core.Path.{_≡_};
 ghost use Prim.Native.Nat.{_≤_};
 ghost use lib.ListN.{length, drop};
 ghost use Rattle.definitions.specs.Lookup.{jumpTable};
-ghost use Rattle.glyph_searcher.specs.Answers.{distance};
+ghost use Rattle.unicode_jumptable_reader.specs.Distances.{distance};
 
 // How far from the table the records begin, or none if the table ends before.
 pub enum JumpOffset {

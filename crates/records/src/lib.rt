@@ -5,7 +5,7 @@ ghost use lib.Dec.{eqb};
 ghost use lib.ListN.{drop};
 ghost use Rattle.integers.specs.Integers.{pick};
 ghost use Rattle.definitions.specs.Lookup.{next, last, record8, record16};
-ghost use Rattle.glyph_searcher.specs.Answers.{asRecord, recordOf};
+ghost use Rattle.records.specs.Records.{asRecord, recordOf};
 use utils::big_endian::u16_at;
 
 pub enum Record {

@@ -2,11 +2,11 @@
 -- than 65536 an entry, so it stays far below 2 to the power 64. Assumes nothing.
 use Rattle.integers.proofs.Prelude.{sym, _∙_, _+_, _-_, _≤_, arith, length, needs}
 use Rattle.definitions.specs.Header.{bigEndian16}
-use Rattle.glyph_searcher.proofs.TableLaws.{SummedTo, table-end, table-found, table-next}
-use Rattle.glyph_searcher.proofs.unicode_jumptable_reader.calculate_jump_offset.Statement.{
+use Rattle.unicode_jumptable_reader.proofs.TableLaws.{SummedTo, table-end, table-found, table-next}
+use Rattle.unicode_jumptable_reader.proofs.calculate_jump_offset.Statement.{
   statement,
 }
-use Rattle.glyph_searcher.proofs.unicode_jumptable_reader.calculate_jump_offset.Tie as tie
+use Rattle.unicode_jumptable_reader.proofs.calculate_jump_offset.Tie as tie
 
 abbrev Inv-loop : tie.InvT-loop
 Inv-loop font start encoding jump-offset₀ at₀ jump-offset at = SummedTo font start encoding jump-offset at

@@ -1,7 +1,7 @@
 -- By the width of the code. Assumes nothing.
 use Rattle.integers.proofs.Prelude.{_∙_, eq-eqb, ne-eqb, needs}
-use Rattle.glyph_searcher.proofs.record.read_record.Statement.{statement}
-use Rattle.glyph_searcher.proofs.record.read_record.Tie as tie
+use Rattle.records.proofs.read_record.Statement.{statement}
+use Rattle.records.proofs.read_record.Tie as tie
 
 returns : tie.Need-returns
 returns c = c .read-record8 .ensures ∙ simp (eq-eqb _ _ (c .before .if1 .taken))

@@ -1,8 +1,8 @@
 -- Each way out is the definition's, by the bytes of the record. Assumes nothing.
 use Rattle.integers.proofs.Prelude.{sym, _∙_, arith, eq-eqb, needs}
 use Rattle.definitions.proofs.LookupLaws.{record8-at, record8-other, record8-cut}
-use Rattle.glyph_searcher.proofs.record.read_record8.Statement.{statement}
-use Rattle.glyph_searcher.proofs.record.read_record8.Tie as tie
+use Rattle.records.proofs.read_record8.Statement.{statement}
+use Rattle.records.proofs.read_record8.Tie as tie
 
 returns : tie.Need-returns
 returns c = let a = c .before .before .args in sym (record8-cut (a .ch) (a .font .now) (a .at) (omega arith))
