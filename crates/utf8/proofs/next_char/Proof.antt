@@ -1,12 +1,12 @@
--- `text::next_char` meets its contract: `first-by`, from the row that was found and the bytes after the first.
+-- `utf8::next_char` meets its contract: `first-by`, from the row that was found and the bytes after the first.
 -- Assumes nothing.
 use Rattle.integers.proofs.Prelude.{_≡_, refl, sym, ap, _∙_, arith, getD, drop, needs}
 use Rattle.definitions.proofs.Utf8Laws.{first-by}
-use Rattle.content.specs.Text.{asRow}
-use Rattle.content.specs.declared.text.Row.{Row}
+use Rattle.utf8.specs.Text.{asRow}
+use Rattle.utf8.specs.declared.Row.{Row}
 use Rattle.definitions.specs.Utf8.{Character, sequence, firstCharacter}
-use Rattle.content.proofs.text.next_char.Statement.{statement}
-use Rattle.content.proofs.text.next_char.Tie as tie
+use Rattle.utf8.proofs.next_char.Statement.{statement}
+use Rattle.utf8.proofs.next_char.Tie as tie
 
 -- what is known once the row is found
 known : (c : tie.After-row-of) {r : Row} {x : Character} → c .row-of .result ≡ r

@@ -1,8 +1,8 @@
 -- How the code's types are read: a row of Unicode's table 3-7, and the character at a position of a text.
-use Rattle.content.specs.declared.text.Row.{Row}
-use Rattle.content.specs.declared.text.Row.the-variants.{One, Two, Three, Four, None}
-use Rattle.content.specs.declared.text.NextChar.{NextChar}
-use Rattle.content.specs.declared.text.NextChar.the-variants.{Char, Malformed}
+use Rattle.utf8.specs.declared.Row.{Row}
+use Rattle.utf8.specs.declared.Row.the-variants.{One, Two, Three, Four, None}
+use Rattle.utf8.specs.declared.NextChar.{NextChar}
+use Rattle.utf8.specs.declared.NextChar.the-variants.{Char, Malformed}
 use Rattle.definitions.specs.Utf8.{one, two, three, four, none, Character, character, malformed}
 use Rattle.definitions.specs.Utf8 as utf8
 
