@@ -5,7 +5,7 @@ use Rattle.integers.specs.Integers.{pick}
 use Rattle.integers.proofs.Choices.{impossible}
 use Rattle.definitions.specs.Lookup.{Record, next, cut, record8, record16, follow, chain}
 use Rattle.definitions.proofs.LookupLaws.{Looks, looks8, looks16, chain-at}
-use Rattle.glyph_searcher.specs.Answers.{recordOf}
+use Rattle.records.specs.Records.{recordOf}
 
 module _ (width c : ℕ) where
   looks : Looks (recordOf width c)

@@ -1,9 +1,6 @@
 // From a code point to the byte where its glyph begins.
-mod record;
-mod unicode_jumptable_reader;
-
-use record::Record;
-use record::read_record;
+use records::Record;
+use records::read_record;
 use types::font_reader::FontReader;
 use unicode_jumptable_reader::JumpOffset;
 use unicode_jumptable_reader::calculate_jump_offset;
@@ -12,7 +9,8 @@ ghost use Prim.Native.Nat.{_≤_};
 ghost use lib.ListN.{length};
 ghost use Rattle.definitions.specs.Header.{Opened};
 ghost use Rattle.definitions.specs.Lookup.{chain, chainStart, searchTable, search as lookup};
-ghost use Rattle.glyph_searcher.specs.Answers.{searched, recordOf};
+ghost use Rattle.records.specs.Records.{recordOf};
+ghost use Rattle.glyph_searcher.specs.Answers.{searched};
 
 // Where the records begin: the first byte after the header.
 const U8G2_FONT_DATA_STRUCT_SIZE: usize = 23;

@@ -15,8 +15,6 @@ use checks::limits::has_bad_size;
 use checks::origin::OriginResult;
 use checks::origin::Pen;
 use checks::origin::checked_origin;
-use content::text::NextChar;
-use content::text::next_char;
 use font_reader::new_from_raw_data;
 use glyph_renderer::render_glyph;
 use layout::steps::NEWLINE;
@@ -34,6 +32,8 @@ use types::results::FontReaderResult;
 use types::style::FontColor;
 use types::style::FontStyle;
 use types::style::Placement;
+use utf8::NextChar;
+use utf8::next_char;
 
 // What is drawn with, and on what.
 pub struct Context {

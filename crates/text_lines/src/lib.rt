@@ -9,8 +9,6 @@ ghost use Rattle.checks.specs.Origins.{CheckedText};
 ghost use Rattle.layout.specs.Ranges.{LineHasRoom};
 use answers::try_retrieve_glyph_data;
 use checks::origin::Pen;
-use content::text::NextChar;
-use content::text::next_char;
 use layout::render_actions::compute_horizontal_offset;
 use layout::steps::NEWLINE;
 use layout::steps::add_answer;
@@ -22,6 +20,8 @@ use types::geometry::Rectangle;
 use types::geometry::RenderedDimensions;
 use types::results::DimensionsResult;
 use types::style::HorizontalAlignment;
+use utf8::NextChar;
+use utf8::next_char;
 use utils::combine_bounding_boxes;
 
 // The text so far: the line from its own start, how far below the origin it lies, and the box of the lines that have ended.

@@ -2,7 +2,7 @@
 -- (RecordLaws). The measure is what is left of the font, since a jump that is not 0 moves on. Assumes nothing.
 use Rattle.integers.proofs.Prelude.{_≡_, sym, ap, _∙_, List, ℕ, _-_, _≤_, arith, length, needs}
 use Rattle.definitions.specs.Lookup.{chain}
-use Rattle.glyph_searcher.specs.Answers.{asRecord, recordOf}
+use Rattle.records.specs.Records.{asRecord, recordOf}
 use Rattle.glyph_searcher.proofs.RecordLaws.{followed, further}
 use Rattle.glyph_searcher.proofs.search_chain.Statement.{statement}
 use Rattle.glyph_searcher.proofs.search_chain.Tie as tie

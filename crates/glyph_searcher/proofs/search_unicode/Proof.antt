@@ -2,7 +2,7 @@
 -- chain itself. Assumes nothing.
 use Rattle.integers.proofs.Prelude.{sym, ap, _∙_, arith, needs}
 use Rattle.definitions.proofs.LookupLaws.{looks16, chain-past, table-past, table-none, table-sum}
-use Rattle.glyph_searcher.specs.Answers.{distance}
+use Rattle.unicode_jumptable_reader.specs.Distances.{distance}
 use Rattle.glyph_searcher.proofs.search_unicode.Statement.{statement}
 use Rattle.glyph_searcher.proofs.search_unicode.Tie as tie
 

@@ -1,0 +1,77 @@
+// What a record says of a code point. A record has a code, a jump and a glyph's data.
+ghost use mathlib.Core.Path.{_≡_};
+ghost use Prim.Native.Nat.{_≤_};
+ghost use lib.Dec.{eqb};
+ghost use lib.ListN.{drop};
+ghost use Rattle.integers.specs.Integers.{pick};
+ghost use Rattle.definitions.specs.Lookup.{next, last, record8, record16};
+ghost use Rattle.records.specs.Records.{asRecord, recordOf};
+use utils::big_endian::u16_at;
+
+pub enum Record {
+    // the glyph begins so many bytes on
+    Here(u8),
+    // the next record begins so many bytes on
+    Next(u8),
+    // the chain ends
+    Last,
+    // a byte is missing
+    Cut,
+}
+
+// Jump 0 ends the chain.
+fn jump_to_next(jump: u8) -> Record
+    ensures { λ r. ⌜ asRecord r ≡ pick (eqb jump 0) last (next jump) ⌝ }
+{
+    if jump == 0 {
+        return Record::Last;
+    }
+    Record::Next(jump)
+}
+
+// A record with a code of one byte. Its code counts before its jump, as in the
+// Rust's `retrieve_glyph_data` (SPECIFICATION, Lookup).
+fn read_record8(font: &[u8], at: usize, ch: u16) -> Record
+    requires { ⌜ at ≤ 1048831 ⌝ }
+    ensures { λ r. ⌜ asRecord r ≡ record8 ch (drop at (now (font .entry))) ⌝ }
+{
+    if font.len() <= at + 1 {
+        return Record::Cut;
+    }
+    if font[at] as u16 == ch {
+        return Record::Here(2);
+    }
+    jump_to_next(font[at + 1])
+}
+
+// A record with a code of two bytes. Code 0 ends the chain, also where its jump is missing.
+fn read_record16(font: &[u8], at: usize, ch: u16) -> Record
+    requires { ⌜ at ≤ 1048831 ⌝ }
+    ensures { λ r. ⌜ asRecord r ≡ record16 ch (drop at (now (font .entry))) ⌝ }
+{
+    if font.len() < at + 2 {
+        return Record::Cut;
+    }
+    let code = u16_at(font, at);
+    if code == 0 {
+        return Record::Last;
+    }
+    if font.len() == at + 2 {
+        return Record::Cut;
+    }
+    if code == ch {
+        return Record::Here(3);
+    }
+    jump_to_next(font[at + 2])
+}
+
+// A record whose code has char_width bytes, 1 or 2.
+pub fn read_record(font: &[u8], at: usize, ch: u16, char_width: usize) -> Record
+    requires { ⌜ at ≤ 1048831 ⌝ }
+    ensures { λ r. ⌜ asRecord r ≡ recordOf «char_width» ch (drop at (now (font .entry))) ⌝ }
+{
+    if char_width == 1 {
+        return read_record8(font, at, ch);
+    }
+    read_record16(font, at, ch)
+}
