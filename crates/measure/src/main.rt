@@ -2,7 +2,7 @@
 // the working folder, the text is standard input as it stands, and one line tells what the text
 // measures. What the line says is proved in `measure_line`.
 use libc::STDIN_FILENO;
-use measure_line::program::measure_file;
+use measure_program::measure_file;
 
 fn main() {
     measure_file(b"font.bin", STDIN_FILENO);

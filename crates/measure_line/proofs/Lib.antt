@@ -1,3 +1,2 @@
 pub mod MeasuredLaws
 pub mod LineCases
-pub mod FilledLaws

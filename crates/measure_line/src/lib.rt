@@ -1,6 +1,4 @@
 // The line that the measuring program prints (SPECIFICATION, Measuring program).
-pub mod program;
-
 ghost use mathlib.Core.Path.{_≡_};
 ghost use Rattle.definitions.specs.Calls.{dimensionsOutcome};
 ghost use Rattle.measure_line.specs.Measured.{measuredByProgram, measuringLine};

@@ -27,8 +27,8 @@ use Rattle.redraw.proofs.RedrawLaws.{drawn-measured, causesOf, drawn-early, dra
 use Rattle.buffers.proofs.DifferenceLaws.{none-if-same}
 use Rattle.redraw.proofs.StepsLaws.{Sized, bare-sized, answers-alone, sized-next, length-left, Shown, bare-shown, nothing-shown, step-shows}
 use Rattle.readings.specs.declared.values.Found.{Found}
-use Rattle.readings.specs.Readings.{readingText, reading}
-use Rattle.readings.specs.Ground.{ClearTo}
+use Rattle.sheet_ground.specs.Readings.{readingText, reading}
+use Rattle.sheet_ground.specs.Ground.{ClearTo}
 use Rattle.readings.proofs.NarrowLaws.{faultless}
 use Rattle.readings.specs.Sheet.{toFill, stepBuffer, SheetState, screenOf, answerOn, screenAfter, wanted, differing, screenAt}
 use Rattle.readings.specs.Sheet.{Finds, totalsTo, aloneTo, Sound}

@@ -1,3 +1,1 @@
-pub mod Readings
-pub mod Ground
 pub mod Sheet

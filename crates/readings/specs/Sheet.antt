@@ -17,7 +17,7 @@ use Rattle.sheet_totals.specs.Totals.{noTotals, wholeOne, partOne, unseenOne, r
 use Rattle.redraw_checks.specs.Checks.{redrawCauses}
 use Rattle.redraw.specs.Redraw.{readingOn, clearedBy, redrawn, taken}
 use Rattle.readings.specs.declared.values.Found.{Found}
-use Rattle.readings.specs.Readings.{readingText, reading}
+use Rattle.sheet_ground.specs.Readings.{readingText, reading}
 
 -- ---- one reading over another
 

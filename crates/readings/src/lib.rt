@@ -1,6 +1,4 @@
 // The gauge's readings drawn one over the other, each step watched: the screen after it is compared with the reading drawn alone.
 pub mod check;
-pub mod ground;
 pub mod step;
-pub mod texts;
 pub mod values;

@@ -6,15 +6,15 @@ ghost use Rattle.definitions.specs.Calls.{dimensionsOutcome};
 ghost use Rattle.buffers.specs.Differences.{differences};
 ghost use Rattle.redraw.specs.Redraw.{redrawn, taken};
 ghost use Rattle.redraw_checks.specs.Drawing.{groundOf};
-ghost use Rattle.readings.specs.Readings.{readingText, reading};
+ghost use Rattle.sheet_ground.specs.Readings.{readingText, reading};
 ghost use Rattle.readings.specs.Sheet.{stepBuffer, screenOf, wanted, Finds};
 use crate::check::draw_alone;
 use crate::check::redraw_on;
-use crate::texts::write_reading;
 use crate::values::Found;
 use crate::values::Trial;
 use buffers::count_differences;
 use redraw::reading::is_taken;
+use sheet_ground::texts::write_reading;
 use types::place::Place;
 use types::results::DimensionsResult;
 

@@ -16,7 +16,7 @@ use Rattle.definitions.specs.Font.{u8g2}
 use Rattle.definitions.specs.Framebuffer.{sized}
 use Rattle.definitions.specs.Calls.{placed, plain}
 use Rattle.definitions.proofs.MovedLaws.{measured-at-zero}
-use Rattle.readings.specs.Readings.{readingText, PlaceFits}
+use Rattle.sheet_ground.specs.Readings.{readingText, PlaceFits}
 use Rattle.sheet_extent.specs.Extent.{atOrigin, widened, withBox, withReading, extentOf, Within, HoldsReadings, NearEdge, NearExtent, AllMeasured}
 use Rattle.sight.specs.Sights.{OnFramebuffer}
 use Rattle.sheet_extent.specs.Extent.{beforeZero, inside, positionFor, sideOf, side, placeAt, placeFor, Uncut, AllSeen}

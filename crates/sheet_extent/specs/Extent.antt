@@ -18,7 +18,7 @@ use Rattle.sheet_extent.specs.declared.values.Extent.{Extent}
 use Rattle.sheet_extent.specs.declared.values.Options.{Options}
 use Rattle.sheet_extent.specs.declared.values.Wanted.{Wanted}
 use Rattle.sheet_extent.specs.declared.values.Wanted.the-variants.{Seen, At}
-use Rattle.readings.specs.Readings.{readingText, reading}
+use Rattle.sheet_ground.specs.Readings.{readingText, reading}
 use Rattle.sight.specs.Sights.{OnFramebuffer}
 
 -- ---- the edges

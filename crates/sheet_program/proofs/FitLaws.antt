@@ -1,7 +1,7 @@
 -- A framebuffer of the place's size, at the front of the largest. Assumes nothing.
 use Rattle.integers.proofs.Prelude.{_≡_, sym, _∙_, List, ℕ, _*_, _≤_, mul-le-mul, arith, length, take, length-take-le}
 use Rattle.definitions.specs.Vocabulary.{Framebuffer}
-use Rattle.readings.specs.Readings.{PlaceFits}
+use Rattle.sheet_ground.specs.Readings.{PlaceFits}
 use Rattle.sheet_program.specs.Sheets.{Buffers, LargeBuffers}
 
 module _ {p : Framebuffer} (f : PlaceFits (p .width) (p .height)) where

@@ -5,7 +5,7 @@ use mathlib.Core.List.{List}
 use Prim.Native.Nat.{ℕ, _*_, _≤_}
 use lib.ListN.{length}
 use Rattle.definitions.specs.Vocabulary.{Framebuffer, Place}
-use Rattle.readings.specs.Ground.{ground as groundOf, ClearTo}
+use Rattle.sheet_ground.specs.Ground.{ground as groundOf, ClearTo}
 use Rattle.readings.specs.Sheet.{screenAt, totalsTo, Sound}
 use Rattle.sheet_program.specs.declared.values.Sheet.{Sheet}
 

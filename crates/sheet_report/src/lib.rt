@@ -1,6 +1,6 @@
 // What the sheet's program prints: the readings that are refused or differ, the totals, and the verdict.
 use libc::STDOUT_FILENO;
-use readings::texts::write_reading;
+use sheet_ground::texts::write_reading;
 use sheet_totals::Totals;
 use types::error::Error;
 use types::results::DimensionsResult;

@@ -3,7 +3,7 @@ use Rattle.integers.proofs.Prelude.{ap, _∙_, List, ℕ, needs}
 use Rattle.buffers.specs.Differences.{differences}
 use Rattle.redraw.specs.Redraw.{readingOn}
 use Rattle.redraw_checks.specs.Drawing.{asked, groundOf}
-use Rattle.readings.proofs.ReadingLaws.{to-the-end}
+use Rattle.sheet_ground.proofs.ReadingLaws.{to-the-end}
 use Rattle.readings.proofs.step.compare.Statement.{statement}
 use Rattle.readings.proofs.step.compare.Tie as tie
 

@@ -1,7 +1,7 @@
 -- `make_sheet` meets its contract: FitLaws.antt has that the framebuffers are large enough. Assumes nothing.
 use Rattle.integers.proofs.Prelude.{sym, subst, arith, needs}
 use Rattle.definitions.specs.Vocabulary.{Place}
-use Rattle.readings.specs.Readings.{PlaceFits}
+use Rattle.sheet_ground.specs.Readings.{PlaceFits}
 use Rattle.sheet_program.specs.Sheets.{SheetOf}
 use Rattle.sheet_extent.proofs.ExtentLaws.{fits-for}
 use Rattle.sheet_program.proofs.FitLaws.{place-size, front-length, buffers-fit}

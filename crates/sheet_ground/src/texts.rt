@@ -3,7 +3,7 @@ ghost use mathlib.Core.Path.{_≡_};
 ghost use lib.ListN.{length};
 ghost use Rattle.definitions.specs.Font.{u8g2};
 ghost use Rattle.definitions.specs.Calls.{plain, measure, dimensionsOutcome};
-ghost use Rattle.readings.specs.Readings.{readingText, ReadingPut};
+ghost use Rattle.sheet_ground.specs.Readings.{readingText, ReadingPut};
 use angles::write_angle;
 use measuring::rendered_dimensions::get_rendered_dimensions;
 use types::results::DimensionsResult;

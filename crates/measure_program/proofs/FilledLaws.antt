@@ -7,9 +7,9 @@ use Rattle.definitions.specs.Header.{fontCauses}
 use Rattle.definitions.specs.Font.{u8g2}
 use Rattle.definitions.specs.Calls.{openFont, Request, measure}
 use Rattle.answer_line.specs.Line.{outcomeLine}
 use Rattle.measure_line.specs.Measured.{byProgram, measureOpened, measuredByProgram, measuringLine}
 use Rattle.measure_line.proofs.MeasuredLaws.{font-too-long}
-use Rattle.measure_line.specs.Filled.{Filled}
+use Rattle.measure_program.specs.Filled.{Filled}
 
 -- Whatever a buffer holds, some file fills it: the contract of `measure_buffers` is never empty.
 pub some-file : (buffer : List ℕ) (n : ℕ) → Filled (take n buffer) buffer n

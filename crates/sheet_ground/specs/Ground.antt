@@ -11,7 +11,7 @@ use Rattle.definitions.specs.Framebuffer.{mapAt}
 use Rattle.definitions.specs.Agreement.{pixel}
 use Rattle.redraw_checks.specs.Drawing.{measured, groundOf}
 use Rattle.redraw.specs.Redraw.{AllOf, clearedBy}
-use Rattle.readings.specs.Readings.{reading}
+use Rattle.sheet_ground.specs.Readings.{reading}
 
 abbrev pub rubbishAt : ℕ → ℕ
 rubbishAt i = 96 + i % 101

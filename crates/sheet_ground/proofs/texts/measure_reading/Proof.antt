@@ -2,9 +2,9 @@
 use Rattle.integers.proofs.Prelude.{ap, _∙_, List, ℕ, needs}
 use Rattle.definitions.specs.Font.{u8g2}
 use Rattle.definitions.specs.Calls.{plain, measure}
-use Rattle.readings.proofs.ReadingLaws.{to-the-end}
-use Rattle.readings.proofs.texts.measure_reading.Statement.{statement}
-use Rattle.readings.proofs.texts.measure_reading.Tie as tie
+use Rattle.sheet_ground.proofs.ReadingLaws.{to-the-end}
+use Rattle.sheet_ground.proofs.texts.measure_reading.Statement.{statement}
+use Rattle.sheet_ground.proofs.texts.measure_reading.Tie as tie
 
 returns : tie.Need-returns
 returns c =

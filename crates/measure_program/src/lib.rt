@@ -3,12 +3,12 @@
 ghost use mathlib.Core.List.{List};
 ghost use Prim.Native.Nat.{ℕ};
 ghost use Rattle.io.specs.Counts.{Counts};
 ghost use Rattle.measure_line.specs.Measured.{measuringLine};
 ghost use Rattle.numbers.specs.Written.{Written};
-ghost use Rattle.measure_line.specs.Filled.{Filled};
-use crate::measure_line;
+ghost use Rattle.measure_program.specs.Filled.{Filled};
 use answer_line::LINE_ROOM;
 use libc::STDOUT_FILENO;
+use measure_line::measure_line;
 
 // Room for a byte more than is allowed, so that what is too long is seen.
 const FONT_ROOM: usize = 65_537;

@@ -1,8 +1,8 @@
 -- Each way is a case of what the reading measures.
 use Rattle.integers.proofs.Prelude.{sym, ap, _∙_, needs}
 use Rattle.definitions.specs.Calls.{dimensionsOutcome}
-use Rattle.readings.proofs.ground.clear_reading.Statement.{statement}
-use Rattle.readings.proofs.ground.clear_reading.Tie as tie
+use Rattle.sheet_ground.proofs.ground.clear_reading.Statement.{statement}
+use Rattle.sheet_ground.proofs.ground.clear_reading.Tie as tie
 
 enum-told : tie.Need-enum-told
 enum-told c = search needs

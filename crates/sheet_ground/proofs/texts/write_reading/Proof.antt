@@ -1,8 +1,8 @@
 -- `write_reading` meets its contract: past the last reading nothing is left of the buffer. Assumes nothing.
 use Rattle.integers.proofs.Prelude.{_≡_, _∙_, ℕ, _<_, arith, pos, _-ℤ_, drop-of-length-le, w32, SFits, toZ, toZ-ofZ, toZ-pos, le-leb, lt-leb, needs}
 use Rattle.integers.proofs.Laws.{zarith, minus}
-use Rattle.readings.proofs.texts.write_reading.Statement.{statement}
-use Rattle.readings.proofs.texts.write_reading.Tie as tie
+use Rattle.sheet_ground.proofs.texts.write_reading.Statement.{statement}
+use Rattle.sheet_ground.proofs.texts.write_reading.Tie as tie
 
 module _ (k : ℕ) (h : k < 901) where
   plain : (toZ w32 k -ℤ pos 450) ≡ (pos k -ℤ pos 450)

@@ -1,9 +1,9 @@
 -- `lay_ground` meets its contract: the boxes of the first k readings are cleared, and GroundLaws.antt has what that leaves.
 -- Assumes nothing.
 use Rattle.integers.proofs.Prelude.{refl, _-_, arith, length, needs}
-use Rattle.readings.proofs.GroundLaws.{LaidTo, laid-start, laid-next, laid}
-use Rattle.readings.proofs.ground.lay_ground.Statement.{statement}
-use Rattle.readings.proofs.ground.lay_ground.Tie as tie
+use Rattle.sheet_ground.proofs.GroundLaws.{LaidTo, laid-start, laid-next, laid}
+use Rattle.sheet_ground.proofs.ground.lay_ground.Statement.{statement}
+use Rattle.sheet_ground.proofs.ground.lay_ground.Tie as tie
 
 abbrev Inv-loop : tie.InvT-loop
 Inv-loop font place buffer₀ k₀ buffer k = LaidTo font place buffer₀ buffer k

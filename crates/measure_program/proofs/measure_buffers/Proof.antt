@@ -1,9 +1,9 @@
 -- The buffers have room for a byte more than is allowed, so the line of what they hold is the line of the files.
 use Rattle.integers.proofs.Prelude.{arith, needs}
-use Rattle.measure_line.proofs.FilledLaws.{files-line}
+use Rattle.measure_program.proofs.FilledLaws.{files-line}
 use Rattle.numbers.proofs.WriterLaws.{spelled-as}
-use Rattle.measure_line.proofs.program.measure_buffers.Statement.{statement}
-use Rattle.measure_line.proofs.program.measure_buffers.Tie as tie
+use Rattle.measure_program.proofs.measure_buffers.Statement.{statement}
+use Rattle.measure_program.proofs.measure_buffers.Tie as tie
 
 returns : tie.Need-returns
 returns c =

@@ -1,9 +1,9 @@
 -- `fill_with_rubbish` meets its contract: WriteLaws.antt of buffers has the step. Assumes nothing.
 use Rattle.integers.proofs.Prelude.{refl, _+_, _%_, _-_, arith, length, needs}
 use Rattle.buffers.proofs.WriteLaws.{WrittenTo, none-written, write-next}
-use Rattle.readings.proofs.GroundLaws.{all-rubbish}
-use Rattle.readings.proofs.ground.fill_with_rubbish.Statement.{statement}
-use Rattle.readings.proofs.ground.fill_with_rubbish.Tie as tie
+use Rattle.sheet_ground.proofs.GroundLaws.{all-rubbish}
+use Rattle.sheet_ground.proofs.ground.fill_with_rubbish.Statement.{statement}
+use Rattle.sheet_ground.proofs.ground.fill_with_rubbish.Tie as tie
 
 abbrev Inv-loop : tie.InvT-loop
 Inv-loop buffer₀ i₀ buffer i = WrittenTo (λ k. 96 + k % 101) (length buffer₀) buffer₀ buffer i

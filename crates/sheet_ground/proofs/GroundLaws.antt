@@ -15,8 +15,8 @@ use Rattle.definitions.proofs.PictureLaws.{covers-inside}
 use Rattle.definitions.proofs.FramebufferLaws.{length-mapAt, getD-mapAt, length-shown, shown-at}
 use Rattle.framebuffer.proofs.RowLaws.{outside}
 use Rattle.framebuffer.proofs.FillLaws.{fill-inside, fill-outside}
-use Rattle.readings.specs.Readings.{reading, PlaceFits}
-use Rattle.readings.specs.Ground.{rubbishAt, rubbish, clearedTo, ground, ClearTo, RubbishBeside, GroundLaid}
+use Rattle.sheet_ground.specs.Readings.{reading, PlaceFits}
+use Rattle.sheet_ground.specs.Ground.{rubbishAt, rubbish, clearedTo, ground, ClearTo, RubbishBeside, GroundLaid}
 
 -- ---- rubbish
 
