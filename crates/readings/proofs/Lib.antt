@@ -1,3 +1,2 @@
-pub mod NarrowLaws
 pub mod AloneLaws
 pub mod SheetLaws

@@ -26,11 +26,12 @@ use Rattle.redraw.specs.Steps.{Setting, settingOf, Reading, readingOf, inSettin
 use Rattle.redraw.proofs.RedrawLaws.{drawn-measured, causesOf, drawn-early, drawn-late}
 use Rattle.buffers.proofs.DifferenceLaws.{none-if-same}
 use Rattle.redraw.proofs.StepsLaws.{Sized, bare-sized, answers-alone, sized-next, length-left, Shown, bare-shown, nothing-shown, step-shows}
+use Rattle.faulty_step.specs.Fault.{toFill, stepBuffer}
 use Rattle.readings.specs.declared.values.Found.{Found}
 use Rattle.sheet_ground.specs.Readings.{readingText, reading}
 use Rattle.sheet_ground.specs.Ground.{ClearTo}
-use Rattle.readings.proofs.NarrowLaws.{faultless}
-use Rattle.readings.specs.Sheet.{toFill, stepBuffer, SheetState, screenOf, answerOn, screenAfter, wanted, differing, screenAt}
+use Rattle.faulty_step.proofs.NarrowLaws.{faultless}
+use Rattle.readings.specs.Sheet.{SheetState, screenOf, answerOn, screenAfter, wanted, differing, screenAt}
 use Rattle.readings.specs.Sheet.{Finds, totalsTo, aloneTo, Sound}
 
 -- ---- the texts

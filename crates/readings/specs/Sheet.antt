@@ -1,46 +1,22 @@
 -- The sheet: each reading drawn over the one before by the step of the gauge, and the screen compared with what it is to show.
 use mathlib.Core.Path.{_≡_}
-use mathlib.Core.Bool.{Bool, true, false}
+use mathlib.Core.Bool.{Bool, false}
 use mathlib.Core.List.{List}
-use Prim.Native.Nat.{ℕ, zero, suc, _+_, _-_, _<_}
+use Prim.Native.Nat.{ℕ, zero, suc, _+_, _<_}
 use Rattle.integers.specs.Integers.{pick}
-use Rattle.definitions.specs.Vocabulary.{BoundingBox, None, Some, RenderedDimensions, Place}
-use Rattle.definitions.specs.Refusals.{Outcome, success, refused, anyApplies}
+use Rattle.definitions.specs.Vocabulary.{RenderedDimensions, Place}
+use Rattle.definitions.specs.Refusals.{Outcome}
 use Rattle.definitions.specs.Calls.{dimensionsOutcome}
-use Rattle.definitions.specs.Agreement.{on, Ground, width}
-use Rattle.redraw_checks.specs.Drawing.{Drawing, withText, drawn, groundOf}
+use Rattle.redraw_checks.specs.Drawing.{drawn, groundOf}
 use Rattle.buffers.specs.Differences.{differences}
 use Rattle.sight.specs.declared.Sight.{Sight}
 use Rattle.sight.specs.Sights.{sightOf}
 use Rattle.sheet_totals.specs.declared.Totals.{Totals}
 use Rattle.sheet_totals.specs.Totals.{noTotals, wholeOne, partOne, unseenOne, refusedOne, tallied}
-use Rattle.redraw_checks.specs.Checks.{redrawCauses}
-use Rattle.redraw.specs.Redraw.{readingOn, clearedBy, redrawn, taken}
+use Rattle.redraw.specs.Redraw.{readingOn, redrawn, taken}
+use Rattle.faulty_step.specs.Fault.{stepBuffer}
 use Rattle.readings.specs.declared.values.Found.{Found}
 use Rattle.sheet_ground.specs.Readings.{readingText, reading}
-
--- ---- one reading over another
-
--- a box one column too narrow
-abbrev pub narrowedBox : BoundingBox → BoundingBox
-narrowedBox None = None
-narrowedBox (Some r) = Some record {
-  «top_left» = r .«top_left»;
-  size = record { width = r .size .width - 1; height = r .size .height };
-}
-
--- What is filled of the old reading: its box, or with the fault put in one column less.
-abbrev pub toFill : Bool → Outcome RenderedDimensions → Outcome RenderedDimensions
-toFill true (success d) = success record { advance = d .advance; «bounding_box» = narrowedBox (d .«bounding_box») }
-toFill true (refused n c) = refused n c
-toFill false o = o
-
--- What the step leaves, with the fault or without: without it `redrawnBuffer`. What it answers is `redrawn` either way.
-unfoldable pub stepBuffer : Bool → List ℕ → List ℕ → Drawing → ℕ → Ground → List ℕ
-stepBuffer narrow font old new color p =
-    pick (anyApplies (redrawCauses font old new p)) (p .before)
-    (readingOn font new
-    (on (p .framebuffer) (clearedBy (width p) color (toFill narrow (drawn font (withText old new) p)) (p .before))))
 
 -- ---- one reading after the other
 

@@ -2,8 +2,8 @@
 ghost use Rattle.sheet_program.specs.Sheets.{Begins, Runs};
 use crate::cells::write_cell;
 use crate::values::Sheet;
+use faulty_step::Trial;
 use readings::step::step;
-use readings::values::Trial;
 use sheet_ground::texts::COUNT;
 use sheet_report::Refusals;
 use sheet_report::print_difference;

@@ -2,7 +2,7 @@
 use Rattle.integers.proofs.Prelude.{_∙_, needs}
 use Rattle.redraw.specs.Redraw.{redrawn}
 use Rattle.redraw_checks.specs.Drawing.{asked, groundOf}
-use Rattle.readings.specs.Sheet.{stepBuffer}
+use Rattle.faulty_step.specs.Fault.{stepBuffer}
 use Rattle.sheet_ground.proofs.ReadingLaws.{to-the-end, both-texts}
 use Rattle.readings.proofs.step.draw_over.Statement.{statement}
 use Rattle.readings.proofs.step.draw_over.Tie as tie

@@ -1,6 +1,6 @@
 -- The screen and the totals are those of the first k readings, and SheetLaws has what holds of all.
 use Rattle.integers.proofs.Prelude.{_≡_, refl, sym, ap, subst, _∙_, List, ℕ, _-_, _≤_, arith, length, needs}
-use Rattle.readings.specs.declared.values.Trial.{Trial}
+use Rattle.faulty_step.specs.declared.Trial.{Trial}
 use Rattle.readings.specs.Sheet.{SheetState, screenOf, screenAt, totalsTo, Sound}
 use Rattle.readings.proofs.SheetLaws.{start-screen, start-totals, few, next-screen, next-totals, sound}
 use Rattle.sheet_totals.specs.declared.Totals.{Totals}

@@ -9,9 +9,9 @@ use Rattle.redraw_checks.specs.declared.Step.{Step}
 use Rattle.redraw_checks.specs.Checks.{checkedStep, stepOutcome}
 use Rattle.redraw_checks.proofs.ChecksLaws.{Ready, ready}
 use Rattle.redraw.proofs.RedrawLaws.{stops, held, answers, leaves}
-use Rattle.readings.specs.Sheet.{toFill, stepBuffer}
-use Rattle.readings.proofs.check.redraw_narrow.Statement.{statement}
-use Rattle.readings.proofs.check.redraw_narrow.Tie as tie
+use Rattle.faulty_step.specs.Fault.{toFill, stepBuffer}
+use Rattle.faulty_step.proofs.redraw_narrow.Statement.{statement}
+use Rattle.faulty_step.proofs.redraw_narrow.Tie as tie
 
 -- what the call was given
 module _ (s : tie.Start) where

@@ -1,8 +1,8 @@
 -- `narrowed` meets its contract. Assumes nothing.
-use Rattle.readings.proofs.NarrowLaws.{no-width, narrower}
+use Rattle.faulty_step.proofs.NarrowLaws.{no-width, narrower}
 use borrow.Author.Needs.{needs}
-use Rattle.readings.proofs.check.narrowed.Statement.{statement}
-use Rattle.readings.proofs.check.narrowed.Tie as tie
+use Rattle.faulty_step.proofs.narrowed.Statement.{statement}
+use Rattle.faulty_step.proofs.narrowed.Tie as tie
 
 returns-2 : tie.Need-returns-2
 returns-2 c = no-width (c .before .before .before .before .bounding-box .given .1) (c .if1 .taken)

@@ -1,11 +1,11 @@
 -- Without the fault the step is the gauge's.
 use Rattle.integers.proofs.Prelude.{sym, ap, _∙_, Bool, List, ℕ, needs}
 use Rattle.redraw_checks.specs.Drawing.{asked, groundOf}
-use Rattle.readings.specs.Sheet.{stepBuffer}
+use Rattle.faulty_step.specs.Fault.{stepBuffer}
 use Rattle.redraw.proofs.RedrawLaws.{shown-by}
-use Rattle.readings.proofs.NarrowLaws.{faultless}
-use Rattle.readings.proofs.check.redraw_on.Statement.{statement}
-use Rattle.readings.proofs.check.redraw_on.Tie as tie
+use Rattle.faulty_step.proofs.NarrowLaws.{faultless}
+use Rattle.faulty_step.proofs.redraw_on.Statement.{statement}
+use Rattle.faulty_step.proofs.redraw_on.Tie as tie
 
 returns : tie.Need-returns
 returns c =

@@ -4,7 +4,7 @@ use Rattle.definitions.specs.Vocabulary.{BoundingBox, Some, Rectangle}
 use Rattle.definitions.specs.Agreement.{Ground}
 use Rattle.redraw_checks.specs.Drawing.{Drawing}
 use Rattle.redraw.specs.Redraw.{redrawnBuffer}
-use Rattle.readings.specs.Sheet.{narrowedBox, stepBuffer}
+use Rattle.faulty_step.specs.Fault.{narrowedBox, stepBuffer}
 
 -- Without the fault the step is the gauge's.
 pub faultless : (font old : List ℕ) (new : Drawing) (color : ℕ) (p : Ground) → stepBuffer false font old new color p ≡ redrawnBuffer font old new color p

@@ -4,8 +4,8 @@ use Rattle.definitions.specs.Vocabulary.{BoundingBox}
 use Rattle.definitions.specs.Framebuffer.{shown}
 use Rattle.definitions.specs.Calls.{dimensionsOutcome}
 use Rattle.framebuffer.specs.Areas.{fillPicture}
-use Rattle.readings.proofs.check.clear_narrow.Statement.{statement}
-use Rattle.readings.proofs.check.clear_narrow.Tie as tie
+use Rattle.faulty_step.proofs.clear_narrow.Statement.{statement}
+use Rattle.faulty_step.proofs.clear_narrow.Tie as tie
 
 enum-told : tie.Need-enum-told
 enum-told c = search needs
