@@ -1,7 +1,7 @@
--- `utf8::is_between` meets its contract: each comparison is a test of `isIn`. Assumes nothing.
+-- `is_between` meets its contract: each comparison is a test of `isIn`. Assumes nothing.
 use borrow.Author.Tests.{le-leb, lt-leb}
-use Rattle.utf8.proofs.is_between.Statement.{statement}
-use Rattle.utf8.proofs.is_between.Tie as tie
+use Rattle.utf8_sequences.proofs.is_between.Statement.{statement}
+use Rattle.utf8_sequences.proofs.is_between.Tie as tie
 
 returns : tie.Need-returns
 returns c = simp (le-leb _ _ (c .if1 .taken))

@@ -1,9 +1,9 @@
--- `utf8::row_of` meets its contract: each arm is a row of table 3-7, and the last one the bytes between and above them.
+-- `row_of` meets its contract: each arm is a row of table 3-7, and the last one the bytes between and above them.
 -- Assumes nothing.
 use Rattle.integers.proofs.Prelude.{sym, arith}
 use Rattle.definitions.proofs.Utf8Rows.{row-one, row-two, row-three-E0, row-three-E1, row-three-ED, row-three-EE, row-four-F0, row-four-F1, row-four-F4, row-none-80, row-none-F5}
-use Rattle.utf8.proofs.row_of.Statement.{statement}
-use Rattle.utf8.proofs.row_of.Tie as tie
+use Rattle.utf8_rows.proofs.row_of.Statement.{statement}
+use Rattle.utf8_rows.proofs.row_of.Tie as tie
 
 returns : tie.Need-returns
 returns c = sym (row-three-E0 _ (omega arith) (omega arith))
