@@ -4,7 +4,7 @@ use Rattle.integers.proofs.Prelude.{one-add, arith, take, drop, getD, take-nil,
 use lib.Pow.{shr-shr}
 use Rattle.definitions.specs.Bits.{bits, number}
 use Rattle.definitions.proofs.BitsLaws.{Small, double, power-suc, number-lowBits, number-small, drop-bytes}
-use Rattle.glyph_reader.specs.Window.{window}
+use Rattle.window.specs.Window.{window}
 
 halves : (r x : ℕ) → x / 2 ^ suc r ≡ x / 2 / 2 ^ r
 halves r x = sym (rw one-add at (shr-shr x 1 r))

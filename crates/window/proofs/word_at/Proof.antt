@@ -1,8 +1,8 @@
 -- Each byte is below 256, so the sum fits, and is the window of 32 bits (`window-bytes`). Assumes nothing.
 use Rattle.integers.proofs.Prelude.{_+_, arith, needs}
-use Rattle.glyph_reader.proofs.WindowLaws.{window-byte, window-bytes}
-use Rattle.glyph_reader.proofs.window.word_at.Statement.{statement}
-use Rattle.glyph_reader.proofs.window.word_at.Tie as tie
+use Rattle.window.proofs.WindowLaws.{window-byte, window-bytes}
+use Rattle.window.proofs.word_at.Statement.{statement}
+use Rattle.window.proofs.word_at.Tie as tie
 
 returns : tie.Need-returns
 returns c =

@@ -1,8 +1,8 @@
 -- Each byte is below 256, so the sum is the window (`window-bytes`). Assumes nothing.
 use Rattle.integers.proofs.Prelude.{_+_, arith, needs}
-use Rattle.glyph_reader.proofs.WindowLaws.{window-none, window-bytes}
-use Rattle.glyph_reader.proofs.window.three_bytes_at.Statement.{statement}
-use Rattle.glyph_reader.proofs.window.three_bytes_at.Tie as tie
+use Rattle.window.proofs.WindowLaws.{window-none, window-bytes}
+use Rattle.window.proofs.three_bytes_at.Statement.{statement}
+use Rattle.window.proofs.three_bytes_at.Tie as tie
 
 returns : tie.Need-returns
 returns c =

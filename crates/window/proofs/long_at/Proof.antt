@@ -1,8 +1,8 @@
 -- Two words or twice three bytes make it (`window-add`). Assumes nothing.
 use Rattle.integers.proofs.Prelude.{_+_, arith, needs}
-use Rattle.glyph_reader.proofs.WindowLaws.{window-small, window-add}
-use Rattle.glyph_reader.proofs.window.long_at.Statement.{statement}
-use Rattle.glyph_reader.proofs.window.long_at.Tie as tie
+use Rattle.window.proofs.WindowLaws.{window-small, window-add}
+use Rattle.window.proofs.long_at.Statement.{statement}
+use Rattle.window.proofs.long_at.Tie as tie
 
 returns : tie.Need-returns
 returns c =

@@ -2,7 +2,7 @@
 ghost use mathlib.Core.Path.{_≡_};
 ghost use Prim.Native.Nat.{_+_, _%_, _≤_};
 ghost use lib.ListN.{length, getD};
-ghost use Rattle.glyph_reader.specs.Window.{window};
+ghost use Rattle.window.specs.Window.{window};
 
 // The byte at i, or 0 past the font's end.
 fn byte_or_zero(font: &[u8], i: usize) -> u32

@@ -1,7 +1,7 @@
 -- Inside the font the byte is read; past its end stands 0, as `getD` has it. Assumes nothing.
 use Rattle.integers.proofs.Prelude.{refl, sym, arith, List·getD-eq-default, needs}
-use Rattle.glyph_reader.proofs.window.byte_or_zero.Statement.{statement}
-use Rattle.glyph_reader.proofs.window.byte_or_zero.Tie as tie
+use Rattle.window.proofs.byte_or_zero.Statement.{statement}
+use Rattle.window.proofs.byte_or_zero.Tie as tie
 
 cast-result : tie.Need-cast-result
 cast-result c = omega (arith, c .shared-slice-known .given (c .before .before .args .i))
