@@ -4,8 +4,8 @@ ghost use mathlib.Core.Bool.{true};
 ghost use Prim.Native.Nat.{_≤_};
 ghost use lib.ListN.{length};
 ghost use Rattle.definitions.specs.Utf8.{decode, isUtf8, codePoints, newlines};
-use utf8::NextChar;
 use utf8::next_char;
+use utf8_sequences::NextChar;
 
 // Whether the whole text is UTF-8: any other is refused before its first letter (SPECIFICATION, Refusals).
 pub fn is_utf8(text: &[u8]) -> bool

@@ -6,8 +6,8 @@ use Rattle.definitions.specs.Refusals.{Outcome, success, refused}
 use Rattle.definitions.specs.Bits.{bits, number, Read, got, ends, readAt, biased}
 use Rattle.definitions.specs.Glyph.{unlessEnds, field, fields}
 use Rattle.definitions.proofs.BitsLaws.{read-got, read-ends}
-use Rattle.glyph_reader.specs.Window.{window}
-use Rattle.glyph_reader.proofs.WindowLaws.{window-part}
+use Rattle.window.specs.Window.{window}
+use Rattle.window.proofs.WindowLaws.{window-part}
 
 abbrev pub metrics : ℕ → ℕ → ℤ → ℤ → ℤ → ℕ → GlyphReader
 metrics w h x y d at = record { «glyph_width» = w; «glyph_height» = h; «offset_x» = x; «offset_y» = y; advance = d; «bit_pos» = at }

@@ -1,3 +1,2 @@
-pub mod WindowLaws
 pub mod ReadLaws
 pub mod FieldLaws

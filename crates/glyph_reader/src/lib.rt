@@ -1,6 +1,4 @@
 // The fields of a glyph, read from the font's bits (SPECIFICATION, Bits and fields).
-pub mod window;
-
 ghost use mathlib.Core.Path.{_≡_};
 ghost use Prim.Native.Nat.{_*_, _%_, _^_, _≤_};
 ghost use lib.ListN.{length};

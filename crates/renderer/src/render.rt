@@ -32,8 +32,8 @@ use types::results::FontReaderResult;
 use types::style::FontColor;
 use types::style::FontStyle;
 use types::style::Placement;
-use utf8::NextChar;
 use utf8::next_char;
+use utf8_sequences::NextChar;
 
 // What is drawn with, and on what.
 pub struct Context {

@@ -4,8 +4,8 @@ use Rattle.integers.proofs.Prelude.{le-ltb, eq-eqb, ne-eqb}
 use lib.Pow.{pow-pos, pow-mono, shr-shr}
 use Rattle.definitions.specs.Bits.{bits, number}
 use Rattle.definitions.proofs.BitsLaws.{read-got, read-ends}
-use Rattle.glyph_reader.specs.Window.{window}
-use Rattle.glyph_reader.proofs.WindowLaws.{window-part}
+use Rattle.window.specs.Window.{window}
+use Rattle.window.proofs.WindowLaws.{window-part}
 use Rattle.runs.specs.declared.Runs.{Runs}
 use Rattle.runs.specs.RunReads.{Pair, Ends, Short, pairOf, inFont, pairAt, nextPair}
 

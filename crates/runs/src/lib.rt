@@ -7,9 +7,9 @@ ghost use Rattle.definitions.specs.Header.{Opened};
 ghost use Rattle.definitions.specs.Runs.{runs as runPixels, glyphPixels};
 ghost use Rattle.runs.specs.RunReads.{Readable, Widths, Short, isWhole, pairOf, FirstPair, PairAfter};
 ghost use Rattle.runs.specs.Stands.{CheckedPixel, PlaceOf};
-use glyph_reader::window::bytes_at;
 use types::font_reader::FontReader;
 use types::glyph_reader::GlyphReader;
+use window::bytes_at;
 
 // A zero run and a one run, and the bit of the font after their numbers. One bit must be left after each read, so the font has
 // the pair if it has that bit: one test for a pair. What is read past the font's end is zeros.

@@ -20,8 +20,8 @@ use types::geometry::Rectangle;
 use types::geometry::RenderedDimensions;
 use types::results::DimensionsResult;
 use types::style::HorizontalAlignment;
-use utf8::NextChar;
 use utf8::next_char;
+use utf8_sequences::NextChar;
 use utils::combine_bounding_boxes;
 
 // The text so far: the line from its own start, how far below the origin it lies, and the box of the lines that have ended.

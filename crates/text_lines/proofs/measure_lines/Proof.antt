@@ -1,7 +1,7 @@
 -- The loop keeps that the rest of the text leads from the lines so far to where the whole text leads from its start
 -- (`Aligned`), and that every number lies near 0. At the end the last line is still to be moved.
 use Rattle.integers.proofs.Prelude.{_≡_, sym, ap, _∙_, _-_, arith, length, drop, needs}
-use Rattle.utf8.specs.Text.{asCharacter}
+use Rattle.utf8_sequences.specs.Sequences.{asCharacter}
 use Rattle.definitions.specs.Refusals.{success}
 use Rattle.definitions.specs.Utf8.{character, firstCharacter}
 use Rattle.definitions.specs.Font.{u8g2, measuredAnswer}

@@ -2,8 +2,8 @@
 -- Assumes nothing.
 use Rattle.integers.proofs.Prelude.{_≡_, refl, sym, ap, _∙_, arith, getD, drop, needs}
 use Rattle.definitions.proofs.Utf8Laws.{first-by}
-use Rattle.utf8.specs.Text.{asRow}
-use Rattle.utf8.specs.declared.Row.{Row}
+use Rattle.utf8_rows.specs.Rows.{asRow}
+use Rattle.utf8_rows.specs.declared.Row.{Row}
 use Rattle.definitions.specs.Utf8.{Character, sequence, firstCharacter}
 use Rattle.utf8.proofs.next_char.Statement.{statement}
 use Rattle.utf8.proofs.next_char.Tie as tie

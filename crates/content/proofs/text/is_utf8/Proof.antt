@@ -3,7 +3,7 @@
 use Rattle.integers.proofs.Prelude.{_≡_, refl, sym, ap, _∙_, List, ℕ, _-_, _≤_, arith, length, drop, needs}
 use Rattle.definitions.specs.Utf8.{decode, isUtf8}
 use Rattle.definitions.proofs.Utf8Laws.{Position, position, not-utf8, at-end, utf8-next}
-use Rattle.utf8.specs.Text.{asCharacter}
+use Rattle.utf8_sequences.specs.Sequences.{asCharacter}
 use Rattle.content.proofs.text.is_utf8.Statement.{statement}
 use Rattle.content.proofs.text.is_utf8.Tie as tie
 

@@ -1,6 +1,6 @@
 -- The loop keeps that the rest of the text draws from here on what the whole text draws from its start (`DrawnTo`).
 use Rattle.integers.proofs.Prelude.{_≡_, sym, ap, subst, _∙_, ℕ, _-_, arith, length, drop, needs}
-use Rattle.utf8.specs.Text.{asCharacter}
+use Rattle.utf8_sequences.specs.Sequences.{asCharacter}
 use Rattle.definitions.specs.Utf8.{character, firstCharacter}
 use Rattle.definitions.specs.Font.{u8g2, drawnAnswer, pixelsOf}
 use Rattle.definitions.specs.Calls.{dimensionsOutcome}
