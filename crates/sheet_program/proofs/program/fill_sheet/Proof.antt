@@ -10,9 +10,11 @@ run-requires c κs = record { fits = search needs; begins = c .before .before .b
 
 returns : tie.Need-returns
 returns c =
-    let r = c .before .before .before .before .before .before .before .run in
-    let g = c .before .before .before .before .before .before .before .before .before .before .before .before .before .before .before .before .before .before .before .before .before .before .lay-ground in
-    let a = c .before .before .before .before .before .before .before .before .before .before .before .before .before .before .before .before .before .before .before .before .before .before .before .before .before .before .before .before .args in
+    let ran = c .before .before .before .before .before .before .before in
+    let laid = ran .before .before .before .before .before .before .before .before .before .before .before .before .before .before .before in
+    let a = laid .before .before .before .before .before .before .args in
+    let r = ran .run in
+    let g = laid .lay-ground in
     record {
       totals = r .ensures .totals ∙ ap (λ (l : List ℕ). totalsTo (a .narrow) (a .font .now) (a .place) l 901) (g .ensures .laid);
       sound =
