@@ -8,7 +8,7 @@ use Rattle.integers.proofs.Choices.{LedOn, impossible}
 use Rattle.definitions.specs.Vocabulary.{FontReader, BoundingBox, Point, RenderedDimensions, GlyphReader, FontColor}
 use Rattle.definitions.specs.Refusals.{Outcome, success, refused, Cause, anyApplies}
 use Rattle.definitions.specs.Header.{header}
-use Rattle.definitions.specs.Lookup.{Search, found, missing, short, search}
+use Rattle.definitions.specs.Lookup.{Search, found, missing, short, search, stepsOf}
 use Rattle.definitions.specs.Glyph.{fields, fromSearch, glyph}
 use Rattle.definitions.specs.Geometry.{InsideBox}
 use Rattle.definitions.specs.Text.{Answer, shows, nothing, answer, joinAll, Layout, point, dimensionsOf, dimensions}
@@ -72,9 +72,9 @@ pub follows-itself : (f : Font) → f ⊑ f
 follows-itself f = record { ascent = refl; descent = refl; background = refl; letter = λ c h ps e k. (e, k) }
 
 from-search : (font : List ℕ) (c : ℕ) (g : GlyphReader) (s : Search) → fromSearch font c s ≡ success g
-    → LedOn found s (λ start. fields font (header font) c (start * 8)) (success g)
-from-search font c g (found start) e = record { value = start; was = refl; gives = e }
-from-search font c g missing e = impossible cc
+    → LedOn (λ start. found start (stepsOf s)) s (λ start. fields font (header font) c (start * 8)) (success g)
+from-search font c g (found start steps) e = record { value = start; was = refl; gives = e }
+from-search font c g (missing steps) e = impossible cc
 from-search font c g short e = impossible cc
 
 module _ (font more : List ℕ) (least : 23 ≤ length font) where
@@ -82,7 +82,7 @@ module _ (font more : List ℕ) (least : 23 ≤ length font) where
   unfolding glyph
   glyph-longer c g e =
       let t = from-search font c g (search font c) e in
-      rw (search-longer font more least c (t .value) (t .was), header-longer font more least)
+      rw (search-longer font more least c (t .value) _ (t .was), header-longer font more least)
       (fields-longer font (header font) c (t .value * 8) g more (t .gives))
 
   -- A longer font follows the font.

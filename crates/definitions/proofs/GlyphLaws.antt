@@ -77,6 +77,6 @@ unfolding glyph
 glyph-range font head c g o e = by (search font c) e
   where
     by : (s : Search) → fromSearch font c s ≡ success g → InRange font g
-    by (found at) e = fields-range font (header font) c (at * 8) g (subst (λ (h : FontReader). Opened font h) (o .read) o) e
-    by missing e = impossible cc
+    by (found at steps) e = fields-range font (header font) c (at * 8) g (subst (λ (h : FontReader). Opened font h) (o .read) o) e
+    by (missing steps) e = impossible cc
     by short e = impossible cc

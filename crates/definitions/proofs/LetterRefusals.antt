@@ -1,6 +1,8 @@
--- A letter refuses a text with 7 or 8, and never with the number of a cause that is tested before the letters. Assumes nothing.
+-- A letter refuses a text with 7 or 8 and with its own code point, and never with the number of a cause that is tested before the
+-- letters. Assumes nothing.
 use Rattle.integers.proofs.Prelude.{_≡_, refl, Bool, true, false, _&&_, _⊎_, inl, inr, List, [], _∷_, map, ℕ, _*_, eqb}
 use Rattle.integers.specs.Integers.{pick}
+use Rattle.integers.proofs.Choices.{impossible}
 use Rattle.definitions.specs.Vocabulary.{FontReader, BoundingBox, Point, GlyphReader}
 use Rattle.definitions.specs.Refusals.{Outcome, success, refused, andThen}
 use Rattle.definitions.specs.Header.{header}
@@ -9,27 +11,36 @@ use Rattle.definitions.specs.Lookup.{Search, found, missing, short, sear
 use Rattle.definitions.specs.Glyph.{unlessEnds, fields, fromSearch, glyph}
 use Rattle.definitions.specs.Text.{Answer, shows, nothing, stops, answer, Layout, point, dimensionsOf, place, letters, Lines, last, first, lines, newline, thenLines, lineByLine, layout}
 use Rattle.definitions.specs.Runs.{Pixels, pixels, cut}
-use Rattle.definitions.specs.Font.{Font, u8g2, withRuns, drawable, drawnAnswer}
+use Rattle.definitions.specs.Font.{Font, u8g2, withRuns, drawable, measuredAnswer, drawnAnswer}
 
--- success, or a letter's refusal
-pub data Late {A : Type 0} : Outcome A → Type 0 where
-  none : {a : A} → Late (success a)
-  late : {n c : ℕ} → (n ≡ 7) ⊎ (n ≡ 8) → Late (refused n c)
+-- success, or a letter's refusal, which blames the letter
+pub data LateAt {A : Type 0} (Blamed : ℕ → Type 0) : Outcome A → Type 0 where
+  none : {a : A} → LateAt Blamed (success a)
+  late : {n c : ℕ} → (n ≡ 7) ⊎ (n ≡ 8) → Blamed c → LateAt Blamed (refused n c)
 
-late-on : {A B : Type 0} (o : Outcome A) → Late o → (rest : A → Outcome B) → ((a : A) → Late (rest a)) → Late (andThen o rest)
+-- .. some letter
+abbrev pub Late : {A : Type 0} → Outcome A → Type 0
+Late o = LateAt (λ c. Unit {0}) o
+
+-- .. the letter c
+abbrev LateFor : {A : Type 0} → ℕ → Outcome A → Type 0
+LateFor c o = LateAt (λ k. k ≡ c) o
+
+late-on : {A B : Type 0} {Blamed : ℕ → Type 0} (o : Outcome A) → LateAt Blamed o → (rest : A → Outcome B) → ((a : A) → LateAt Blamed (rest a))
+    → LateAt Blamed (andThen o rest)
 late-on (success a) h rest k = k a
-late-on (refused n c) (late h) rest k = late h
+late-on (refused n c) (late h b) rest k = late h b
 
 -- ---- a glyph
 
-late-field : (font : List ℕ) (c b at : ℕ) (rest : ℕ → Outcome GlyphReader) → ((n : ℕ) → Late (rest n)) → Late (unlessEnds c (readAt font at b) rest)
+late-field : (font : List ℕ) (c b at : ℕ) (rest : ℕ → Outcome GlyphReader) → ((n : ℕ) → LateFor c (rest n)) → LateFor c (unlessEnds c (readAt font at b) rest)
 late-field font c b at rest h = by (readAt font at b)
   where
-    by : (r : Read) → Late (unlessEnds c r rest)
+    by : (r : Read) → LateFor c (unlessEnds c r rest)
     by (got n) = h n
-    by ends = late (inr refl)
+    by ends = late (inr refl) refl
 
-late-fields : (font : List ℕ) (head : FontReader) (c at : ℕ) → Late (fields font head c at)
+late-fields : (font : List ℕ) (head : FontReader) (c at : ℕ) → LateFor c (fields font head c at)
 unfolding fields
 late-fields font head c at =
     late-field font c _ _ _ (λ w.
@@ -38,20 +49,20 @@ late-fields font head c at =
     late-field font c _ _ _ (λ y.
     late-field font c _ _ _ (λ d. none)))))
 
-late-search : (font : List ℕ) (c : ℕ) (s : Search) → Late (fromSearch font c s)
-late-search font c (found start) = late-fields font (header font) c (start * 8)
-late-search font c missing = late (inl refl)
-late-search font c short = late (inr refl)
+late-search : (font : List ℕ) (c : ℕ) (s : Search) → LateFor c (fromSearch font c s)
+late-search font c (found start steps) = late-fields font (header font) c (start * 8)
+late-search font c (missing steps) = late (inl refl) refl
+late-search font c short = late (inr refl) refl
 
-late-glyph : (font : List ℕ) (c : ℕ) → Late (glyph font c)
+late-glyph : (font : List ℕ) (c : ℕ) → LateFor c (glyph font c)
 unfolding glyph
 late-glyph font c = late-search font c (lookup font c)
 
-late-runs : (c : ℕ) (g : GlyphReader) (p : Pixels) → Late (withRuns c g p)
+late-runs : (c : ℕ) (g : GlyphReader) (p : Pixels) → LateFor c (withRuns c g p)
 late-runs c g (pixels ps) = none
-late-runs c g cut = late (inr refl)
+late-runs c g cut = late (inr refl) refl
 
-late-drawable : (font : Font) (c : ℕ) (o : Outcome GlyphReader) → Late o → Late (drawable font c o)
+late-drawable : (font : Font) (c : ℕ) (o : Outcome GlyphReader) → LateFor c o → LateFor c (drawable font c o)
 late-drawable font c o h = late-on o h (λ g. withRuns c g (font .pixels g)) (λ g. late-runs c g (font .pixels g))
 
 -- ---- a text
@@ -60,25 +71,45 @@ late-drawable font c o h = late-on o h (λ g. withRuns c g (font .pixels g)) (λ
 pub skips-seven : map (answer true) (refused 7 65 ∷ refused 8 65 ∷ []) ≡ nothing ∷ stops 8 65 ∷ []
 skips-seven = refl
 
-data LateAnswer : Answer → Type 0 where
-  goes-on : {g : GlyphReader} → LateAnswer (shows g)
-  skipped : LateAnswer nothing
-  ends-late : {n c : ℕ} → (n ≡ 7) ⊎ (n ≡ 8) → LateAnswer (stops n c)
+data LateAnswer (c : ℕ) : Answer → Type 0 where
+  goes-on : {g : GlyphReader} → LateAnswer c (shows g)
+  skipped : LateAnswer c nothing
+  ends-late : {n k : ℕ} → (n ≡ 7) ⊎ (n ≡ 8) → k ≡ c → LateAnswer c (stops n k)
 
-late-answer : (skip : Bool) (o : Outcome GlyphReader) → Late o → LateAnswer (answer skip o)
-late-answer skip (success g) h = goes-on
-late-answer skip (refused n c) (late h) = by (skip && eqb n 7)
+late-answer : (skip : Bool) (c : ℕ) (o : Outcome GlyphReader) → LateFor c o → LateAnswer c (answer skip o)
+late-answer skip c (success g) h = goes-on
+late-answer skip c (refused n k) (late h b) = by (skip && eqb n 7)
   where
-    by : (t : Bool) → LateAnswer (pick t nothing (stops n c))
+    by : (t : Bool) → LateAnswer c (pick t nothing (stops n k))
     by true = skipped
-    by false = ends-late h
+    by false = ends-late h b
 
-module _ (answers : ℕ → Answer) (each : (c : ℕ) → LateAnswer (answers c)) (lineHeight : ℕ) (origin : Point) where
-  late-place : (advance : Point) (a : Answer) → LateAnswer a → (rest : Point → Layout) → ((next : Point) → Late (rest next .advance))
+late-measured-answer : (font : List ℕ) (skip : Bool) (c : ℕ) → LateAnswer c (measuredAnswer (u8g2 font) skip c)
+late-measured-answer font skip c = late-answer skip c (glyph font c) (late-glyph font c)
+
+late-drawn-answer : (font : List ℕ) (skip : Bool) (c : ℕ) → LateAnswer c (drawnAnswer (u8g2 font) skip c)
+late-drawn-answer font skip c =
+    late-answer skip c (drawable (u8g2 font) c (glyph font c)) (late-drawable (u8g2 font) c (glyph font c) (late-glyph font c))
+
+blames : {c n k : ℕ} (a : Answer) → LateAnswer c a → a ≡ stops n k → k ≡ c
+blames (shows g) h e = impossible cc
+blames nothing h e = impossible cc
+blames (stops n k) (ends-late h b) e = cc
+
+-- What stops a text, in measuring and in drawing, is the letter that is blamed.
+module _ (font : List ℕ) (skip : Bool) (c : ℕ) {n k : ℕ} where
+  pub measured-blames : measuredAnswer (u8g2 font) skip c ≡ stops n k → k ≡ c
+  measured-blames e = blames (measuredAnswer (u8g2 font) skip c) (late-measured-answer font skip c) e
+
+  pub drawn-blames : drawnAnswer (u8g2 font) skip c ≡ stops n k → k ≡ c
+  drawn-blames e = blames (drawnAnswer (u8g2 font) skip c) (late-drawn-answer font skip c) e
+
+module _ (answers : ℕ → Answer) (each : (c : ℕ) → LateAnswer c (answers c)) (lineHeight : ℕ) (origin : Point) where
+  late-place : {c : ℕ} (advance : Point) (a : Answer) → LateAnswer c a → (rest : Point → Layout) → ((next : Point) → Late (rest next .advance))
       → Late (place origin advance a rest .advance)
   late-place advance (shows g) h rest k = k (point _ _)
   late-place advance nothing h rest k = k advance
-  late-place advance (stops n c) (ends-late h) rest k = late h
+  late-place advance (stops n c) (ends-late h b) rest k = late h tt
 
   late-letters : (l : List ℕ) (advance : Point) → Late (letters answers origin advance l .advance)
   unfolding letters
@@ -102,8 +133,6 @@ pub late-drawn : (font : List ℕ) (skip : Bool) (lineHeight : ℕ) (origin adva
     → Late (dimensionsOf b (layout (drawnAnswer (u8g2 font) skip) lineHeight origin advance cs .advance))
 late-drawn font skip lineHeight origin advance b cs =
     late-on _
-    (late-lines (drawnAnswer (u8g2 font) skip)
-    (λ c. late-answer skip (drawable (u8g2 font) c (glyph font c)) (late-drawable (u8g2 font) c (glyph font c) (late-glyph font c)))
-    lineHeight origin (lines cs) advance)
+    (late-lines (drawnAnswer (u8g2 font) skip) (late-drawn-answer font skip) lineHeight origin (lines cs) advance)
     (λ a. success record { advance = a; «bounding_box» = b })
     (λ a. none)

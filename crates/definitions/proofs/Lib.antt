@@ -7,6 +7,7 @@ pub mod JoinLaws
 pub mod BitsLaws
 pub mod GlyphLaws
 pub mod LookupLaws
+pub mod StepsLaws
 pub mod VerticalOffsetLaws
 pub mod RunsLaws
 pub mod FramebufferLaws
@@ -16,6 +17,7 @@ pub mod RefusalLaws
 pub mod CausesLaws
 pub mod ComesLaws
 pub mod LetterRefusals
+pub mod SumsLaws
 pub mod Agreement
 pub mod AgreementCase
 pub mod MovedLaws

@@ -5,11 +5,11 @@ use Rattle.integers.proofs.Prelude.{suc-add, add-zero, decLt, add-one, arith, T
 use Rattle.integers.proofs.Prelude.{List·getD-append, drop-of-length-le, drop-cons, drop-append-le, leb-true, le-leb, lt-leb, eq-eqb, ne-eqb}
 use Rattle.integers.proofs.Prelude.{eqb-false}
 use Rattle.integers.proofs.Choices.{impossible, of-pick}
-use Rattle.definitions.specs.Vocabulary.{FontReader}
+use Rattle.definitions.specs.Vocabulary.{FontReader, LookupSteps}
 use Rattle.integers.specs.Integers.{pick}
 use Rattle.definitions.specs.Header.{byte, bigEndian16, header}
-use Rattle.definitions.specs.Lookup.{found, missing, short, Record, here, next, last, cut, record8, record16, follow, chain}
-use Rattle.definitions.specs.Lookup.{Distance, sum, none, jumpTable, chainStart, tableStart, fromTable, searchTable, search}
+use Rattle.definitions.specs.Lookup.{found, missing, short, Record, here, next, last, cut, record8, record16, looked, follow, chain}
+use Rattle.definitions.specs.Lookup.{Distance, sum, none, jumpTable, chainStart, tableStart, noSteps, afterEntries, fromTable, searchTable, search}
 
 -- A record with jump 0 is found, since its code comes first.
 pub code-first : record8 45 (45 ∷ 0 ∷ []) ≡ here 2
@@ -17,14 +17,14 @@ unfolding record8
 code-first = refl
 
 -- The table is walked on where a distance leads past the end: an entry with a limit of 0, and then one that answers.
-pub past-the-end : jumpTable 256 0 (255 ∷ 255 ∷ 0 ∷ 0 ∷ 0 ∷ 0 ∷ 1 ∷ 0 ∷ []) ≡ sum 65535
+pub past-the-end : jumpTable 256 0 0 (255 ∷ 255 ∷ 0 ∷ 0 ∷ 0 ∷ 0 ∷ 1 ∷ 0 ∷ []) ≡ sum 65535 2
 unfolding jumpTable
 past-the-end = refl
 
-not-missing : {Q : Type 0} {p : ℕ} → missing ≡ found p → Q
+not-missing : {Q : Type 0} {p : ℕ} {r q : LookupSteps} → missing r ≡ found p q → Q
 not-missing e = impossible cc
 
-not-short : {Q : Type 0} {p : ℕ} → short ≡ found p → Q
+not-short : {Q : Type 0} {p : ℕ} {q : LookupSteps} → short ≡ found p q → Q
 not-short e = impossible cc
 
 -- What is left of a font at `at` begins with the byte there, and what is left after k bytes more with the byte there.
@@ -44,64 +44,71 @@ pub record Looks (look : List ℕ → Record) : Type 0 where
   pub empty : look [] ≡ cut
 
 module _ {look : List ℕ → Record} (l : Looks look) where
-  skip : (at n m : ℕ) (s : List ℕ) → n ≤ length s → chain look at (n + m) s ≡ chain look (at + n) m (drop n s)
+  skip : (steps : LookupSteps) (at n m : ℕ) (s : List ℕ) → n ≤ length s → chain look steps at (n + m) s ≡ chain look steps (at + n) m (drop n s)
   unfolding chain
-  skip at zero m s h = rw (zero-add, add-zero)
-  skip at (suc n) m [] h = absurd (omega arith)
-  skip at (suc n) m (b ∷ s) h =
+  skip steps at zero m s h = rw (zero-add, add-zero)
+  skip steps at (suc n) m [] h = absurd (omega arith)
+  skip steps at (suc n) m (b ∷ s) h =
       let e : suc at + n ≡ at + suc n = omega arith in
-      rw suc-add (skip (suc at) n m s (omega arith) ∙ ap (λ (k : ℕ). chain look k m (drop n s)) e)
+      rw suc-add (skip steps (suc at) n m s (omega arith) ∙ ap (λ (k : ℕ). chain look steps k m (drop n s)) e)
 
-  pub chain-past : (at n : ℕ) (s : List ℕ) → length s ≤ n → chain look at n s ≡ short
+  pub chain-past : (steps : LookupSteps) (at n : ℕ) (s : List ℕ) → length s ≤ n → chain look steps at n s ≡ short
   unfolding chain
-  chain-past at n [] h = refl
-  chain-past at zero (b ∷ s) h = absurd (omega arith)
-  chain-past at (suc n) (b ∷ s) h = chain-past (suc at) n s (omega arith)
+  chain-past steps at n [] h = refl
+  chain-past steps at zero (b ∷ s) h = absurd (omega arith)
+  chain-past steps at (suc n) (b ∷ s) h = chain-past steps (suc at) n s (omega arith)
 
   -- Record by record, as a loop goes: `at` is where the record begins.
-  pub chain-at : (font : List ℕ) (at : ℕ) → chain look 0 at font ≡ follow (look (drop at font)) at (λ jump. chain look 0 (at + jump) font)
-  unfolding chain
-  chain-at font at = by (decLt at (length font))
-    where
-      by : Dec (at < length font) → chain look 0 at font ≡ follow (look (drop at font)) at (λ jump. chain look 0 (at + jump) font)
-      by (no h) =
-          let e : drop at font ≡ [] = drop-of-length-le font {i = at} (omega arith) in
-          chain-past 0 at font (omega arith) ∙ rw (e, l .empty)
-      by (yes h) = (rw (add-zero, zero-add) at (skip 0 at 0 font (omega arith))) ∙ rw (first font at h) (look-at (look (byte font at ∷ drop (at + 1) font)) refl)
-        where
-          look-at : (r : Record) → look (byte font at ∷ drop (at + 1) font) ≡ r
-              → follow r at (λ jump. chain look (suc at) (jump - 1) (drop (at + 1) font)) ≡ follow r at (λ jump. chain look 0 (at + jump) font)
-          look-at (here n) e = refl
-          look-at (next zero) e = absurd (l .moves _ e)
-          look-at (next (suc j)) e =
-              let n : at + 1 + (suc j - 1) ≡ at + suc j = omega arith in
-              let m : 0 + (at + 1) ≡ suc at = omega arith in
-              sym (rw (n, m) at (skip 0 (at + 1) (suc j - 1) font (omega arith)))
-          look-at last e = refl
-          look-at cut e = refl
+  module _ (steps : LookupSteps) (font : List ℕ) (at : ℕ) where
+    pub chain-at : chain look steps 0 at font ≡ follow (look (drop at font)) steps at (λ jump. chain look (looked steps) 0 (at + jump) font)
+    unfolding chain
+    chain-at = by (decLt at (length font))
+      where
+        by : Dec (at < length font)
+            → chain look steps 0 at font ≡ follow (look (drop at font)) steps at (λ jump. chain look (looked steps) 0 (at + jump) font)
+        by (no h) =
+            let e : drop at font ≡ [] = drop-of-length-le font {i = at} (omega arith) in
+            chain-past steps 0 at font (omega arith) ∙ rw (e, l .empty)
+        by (yes h) =
+            (rw (add-zero, zero-add) at (skip steps 0 at 0 font (omega arith)))
+            ∙ rw (first font at h) (look-at (look (byte font at ∷ drop (at + 1) font)) refl)
+          where
+            look-at : (r : Record) → look (byte font at ∷ drop (at + 1) font) ≡ r
+                → follow r steps at (λ jump. chain look (looked steps) (suc at) (jump - 1) (drop (at + 1) font))
+                ≡ follow r steps at (λ jump. chain look (looked steps) 0 (at + jump) font)
+            look-at (here n) e = refl
+            look-at (next zero) e = absurd (l .moves _ e)
+            look-at (next (suc j)) e =
+                let n : at + 1 + (suc j - 1) ≡ at + suc j = omega arith in
+                let m : 0 + (at + 1) ≡ suc at = omega arith in
+                sym (rw (n, m) at (skip (looked steps) 0 (at + 1) (suc j - 1) font (omega arith)))
+            look-at last e = refl
+            look-at cut e = refl
 
-  pub chain-within : (at n : ℕ) (s : List ℕ) (p : ℕ) → chain look at n s ≡ found p → p ≤ at + length s
+  pub chain-within : (steps : LookupSteps) (at n : ℕ) (s : List ℕ) (p : ℕ) (q : LookupSteps) → chain look steps at n s ≡ found p q → p ≤ at + length s
   unfolding chain
-  chain-within at n [] p e = not-short e
-  chain-within at (suc n) (b ∷ s) p e = omega (arith, chain-within (suc at) n s p e)
-  chain-within at zero (b ∷ s) p e = by (λ n. chain-within (suc at) n s p) (look (b ∷ s)) refl e
+  chain-within steps at n [] p q e = not-short e
+  chain-within steps at (suc n) (b ∷ s) p q e = omega (arith, chain-within steps (suc at) n s p q e)
+  chain-within steps at zero (b ∷ s) p q e = by (λ n. chain-within (looked steps) (suc at) n s p q) (look (b ∷ s)) refl e
     where
-      by : ((n : ℕ) → chain look (suc at) n s ≡ found p → p ≤ suc at + length s)
-          → (r : Record) → look (b ∷ s) ≡ r → follow r at (λ jump. chain look (suc at) (jump - 1) s) ≡ found p → p ≤ at + length (b ∷ s)
+      by : ((n : ℕ) → chain look (looked steps) (suc at) n s ≡ found p q → p ≤ suc at + length s)
+          → (r : Record) → look (b ∷ s) ≡ r → follow r steps at (λ jump. chain look (looked steps) (suc at) (jump - 1) s) ≡ found p q
+          → p ≤ at + length (b ∷ s)
       by later (here n) r e = let k : at + n ≡ p = cc in omega (arith, l .within (b ∷ s) n r)
       by later (next j) r e = omega (arith, later (j - 1) e)
       by later last r e = not-missing e
       by later cut r e = not-short e
 
-  pub chain-longer : (at n : ℕ) (s more : List ℕ) (p : ℕ) → chain look at n s ≡ found p → chain look at n (s ++ more) ≡ found p
+  pub chain-longer : (steps : LookupSteps) (at n : ℕ) (s more : List ℕ) (p : ℕ) (q : LookupSteps)
+      → chain look steps at n s ≡ found p q → chain look steps at n (s ++ more) ≡ found p q
   unfolding chain
-  chain-longer at n [] more p e = not-short e
-  chain-longer at (suc n) (b ∷ s) more p e = chain-longer (suc at) n s more p e
-  chain-longer at zero (b ∷ s) more p e = by (λ n. chain-longer (suc at) n s more p) (look (b ∷ s)) refl e
+  chain-longer steps at n [] more p q e = not-short e
+  chain-longer steps at (suc n) (b ∷ s) more p q e = chain-longer steps (suc at) n s more p q e
+  chain-longer steps at zero (b ∷ s) more p q e = by (λ n. chain-longer (looked steps) (suc at) n s more p q) (look (b ∷ s)) refl e
     where
-      by : ((n : ℕ) → chain look (suc at) n s ≡ found p → chain look (suc at) n (s ++ more) ≡ found p)
-          → (r : Record) → look (b ∷ s) ≡ r → follow r at (λ jump. chain look (suc at) (jump - 1) s) ≡ found p
-          → follow (look ((b ∷ s) ++ more)) at (λ jump. chain look (suc at) (jump - 1) (s ++ more)) ≡ found p
+      by : ((n : ℕ) → chain look (looked steps) (suc at) n s ≡ found p q → chain look (looked steps) (suc at) n (s ++ more) ≡ found p q)
+          → (r : Record) → look (b ∷ s) ≡ r → follow r steps at (λ jump. chain look (looked steps) (suc at) (jump - 1) s) ≡ found p q
+          → follow (look ((b ∷ s) ++ more)) steps at (λ jump. chain look (looked steps) (suc at) (jump - 1) (s ++ more)) ≡ found p q
       by rest (here n) r e = rw (l .longer (b ∷ s) more (λ c. impossible cc), r) e
       by rest (next j) r e = rw (l .longer (b ∷ s) more (λ c. impossible cc), r) (rest (j - 1) e)
       by rest last r e = not-missing e
@@ -231,49 +238,49 @@ module _ (c : ℕ) (font : List ℕ) (at : ℕ) where
 
 -- ---- the jump table
 
-pub table-ends : (c total : ℕ) (s : List ℕ) → length s < 4 → jumpTable c total s ≡ none
+pub table-ends : (c total n : ℕ) (s : List ℕ) → length s < 4 → jumpTable c total n s ≡ none n
 unfolding jumpTable
-table-ends c total [] h = refl
-table-ends c total (a ∷ []) h = refl
-table-ends c total (a ∷ b ∷ []) h = refl
-table-ends c total (a ∷ b ∷ d ∷ []) h = refl
-table-ends c total (a ∷ b ∷ d ∷ e ∷ s) h = absurd (omega arith)
+table-ends c total n [] h = refl
+table-ends c total n (a ∷ []) h = refl
+table-ends c total n (a ∷ b ∷ []) h = refl
+table-ends c total n (a ∷ b ∷ d ∷ []) h = refl
+table-ends c total n (a ∷ b ∷ d ∷ e ∷ s) h = absurd (omega arith)
 
-pub table-at : (c total : ℕ) (font : List ℕ) (at : ℕ) → at + 4 ≤ length font
-    → jumpTable c total (drop at font)
+pub table-at : (c total n : ℕ) (font : List ℕ) (at : ℕ) → at + 4 ≤ length font
+    → jumpTable c total n (drop at font)
     ≡ pick (ltb (bigEndian16 font (at + 2)) c)
-    (jumpTable c (total + bigEndian16 font at) (drop (at + 4) font))
-    (sum (total + bigEndian16 font at))
+    (jumpTable c (total + bigEndian16 font at) (suc n) (drop (at + 4) font))
+    (sum (total + bigEndian16 font at) (suc n))
 unfolding jumpTable
-table-at c total font at h =
+table-at c total n font at h =
     let h₀ : at < length font = omega arith in
     let h₁ : at + 1 < length font = omega arith in
     let h₂ : at + 2 < length font = omega arith in
     let h₃ : at + 3 < length font = omega arith in
-    let n : at + 2 + 1 ≡ at + 3 = omega arith in
-    rw (first font at h₀, later font at 1 h₁, later font at 2 h₂, later font at 3 h₃, n)
+    let k : at + 2 + 1 ≡ at + 3 = omega arith in
+    rw (first font at h₀, later font at 1 h₁, later font at 2 h₂, later font at 3 h₃, k)
 
-not-none : {Q : Type 0} {d : ℕ} → none ≡ sum d → Q
+not-none : {Q : Type 0} {d m n : ℕ} → none m ≡ sum d n → Q
 not-none e = impossible cc
 
-pub table-longer : (c total : ℕ) (s more : List ℕ) (d : ℕ) → jumpTable c total s ≡ sum d → jumpTable c total (s ++ more) ≡ sum d
+pub table-longer : (c total n : ℕ) (s more : List ℕ) (d m : ℕ) → jumpTable c total n s ≡ sum d m → jumpTable c total n (s ++ more) ≡ sum d m
 unfolding jumpTable
-table-longer c total [] more d e = not-none e
-table-longer c total (a ∷ []) more d e = not-none e
-table-longer c total (a ∷ b ∷ []) more d e = not-none e
-table-longer c total (a ∷ b ∷ f ∷ []) more d e = not-none e
-table-longer c total (a ∷ b ∷ f ∷ g ∷ s) more d e =
-    of-pick (ltb (f * 256 + g) c) (λ t q. rw t (table-longer c (total + (a * 256 + b)) s more d q)) (λ t q. rw t q) e
+table-longer c total n [] more d m e = not-none e
+table-longer c total n (a ∷ []) more d m e = not-none e
+table-longer c total n (a ∷ b ∷ []) more d m e = not-none e
+table-longer c total n (a ∷ b ∷ f ∷ []) more d m e = not-none e
+table-longer c total n (a ∷ b ∷ f ∷ g ∷ s) more d m e =
+    of-pick (ltb (f * 256 + g) c) (λ t q. rw t (table-longer c (total + (a * 256 + b)) (suc n) s more d m q)) (λ t q. rw t q) e
 
 -- ---- the whole lookup
 
 module _ (font : List ℕ) (c : ℕ) where
-  pub search-above : 65535 < c → search font c ≡ missing
+  pub search-above : 65535 < c → search font c ≡ missing noSteps
   unfolding search
   search-above h = let k : 255 < c = omega arith in simp (lt-leb c 255 k, lt-leb c 65535 h)
 
   module _ (head : FontReader) (read : head ≡ header font) where
-    pub search-chain : c ≤ 255 → search font c ≡ chain (record8 c) 0 (chainStart head c) font
+    pub search-chain : c ≤ 255 → search font c ≡ chain (record8 c) noSteps 0 (chainStart head c) font
     unfolding search
     search-chain h = rw (read, le-leb c 255 h)
 
@@ -286,24 +293,25 @@ module _ (font : List ℕ) (table c : ℕ) where
   table-past h = rw (lt-leb table (length font) h)
 
   module _ (h : table ≤ length font) where
-    pub table-none : jumpTable c 0 (drop table font) ≡ none → searchTable font table c ≡ missing
-    table-none e = rw (le-leb table (length font) h, e)
+    pub table-none : (n : ℕ) → jumpTable c 0 0 (drop table font) ≡ none n → searchTable font table c ≡ missing (afterEntries n)
+    table-none n e = rw (le-leb table (length font) h, e)
 
-    pub table-sum : (d : ℕ) → jumpTable c 0 (drop table font) ≡ sum d → searchTable font table c ≡ chain (record16 c) 0 (table + d) font
-    table-sum d e = rw (le-leb table (length font) h, e)
+    pub table-sum : (d n : ℕ) → jumpTable c 0 0 (drop table font) ≡ sum d n
+        → searchTable font table c ≡ chain (record16 c) (afterEntries n) 0 (table + d) font
+    table-sum d n e = rw (le-leb table (length font) h, e)
 
 -- A glyph that is found begins within the font, or at its end.
-table-within : (font : List ℕ) (table c : ℕ) (d : Distance) (p : ℕ) → fromTable font table c d ≡ found p → p ≤ length font
-table-within font table c none p e = not-missing e
-table-within font table c (sum d) p e = omega (arith, chain-within (looks16 c) 0 (table + d) font p e)
+table-within : (font : List ℕ) (table c : ℕ) (d : Distance) (p : ℕ) (q : LookupSteps) → fromTable font table c d ≡ found p q → p ≤ length font
+table-within font table c (none n) p q e = not-missing e
+table-within font table c (sum d n) p q e = omega (arith, chain-within (looks16 c) (afterEntries n) 0 (table + d) font p q e)
 
-pub search-within : (font : List ℕ) (c p : ℕ) → search font c ≡ found p → p ≤ length font
+pub search-within : (font : List ℕ) (c p : ℕ) (q : LookupSteps) → search font c ≡ found p q → p ≤ length font
 unfolding search
-search-within font c p e =
-    of-pick (leb c 255) (λ t q. omega (arith, chain-within (looks8 c) 0 (chainStart (header font) c) font p q))
+search-within font c p q e =
+    of-pick (leb c 255) (λ t k. omega (arith, chain-within (looks8 c) noSteps 0 (chainStart (header font) c) font p q k))
     (λ t. of-pick (leb c 65535)
     (λ u. of-pick (leb (tableStart (header font)) (length font))
-    (λ v. table-within font (tableStart (header font)) c (jumpTable c 0 (drop (tableStart (header font)) font)) p)
+    (λ v. table-within font (tableStart (header font)) c (jumpTable c 0 0 (drop (tableStart (header font)) font)) p q)
     (λ v. not-short))
     (λ u. not-missing)) e
 
@@ -345,27 +353,28 @@ module _ (font more : List ℕ) where
           head-byte 22 tt,
         )
 
-    from-table-longer : (table c : ℕ) (d d′ : Distance) (p : ℕ) → ((n : ℕ) → d ≡ sum n → d′ ≡ sum n)
-        → fromTable font table c d ≡ found p
-        → fromTable (font ++ more) table c d′ ≡ found p
-    from-table-longer table c none d′ p same e = not-missing e
-    from-table-longer table c (sum d) d′ p same e = rw (same d refl) (chain-longer (looks16 c) 0 (table + d) font more p e)
+    from-table-longer : (table c : ℕ) (d d′ : Distance) (p : ℕ) (q : LookupSteps) → ((m n : ℕ) → d ≡ sum m n → d′ ≡ sum m n)
+        → fromTable font table c d ≡ found p q
+        → fromTable (font ++ more) table c d′ ≡ found p q
+    from-table-longer table c (none n) d′ p q same e = not-missing e
+    from-table-longer table c (sum d n) d′ p q same e = rw (same d n refl) (chain-longer (looks16 c) (afterEntries n) 0 (table + d) font more p q e)
 
-    search-table-longer : (table c p : ℕ) → searchTable font table c ≡ found p → searchTable (font ++ more) table c ≡ found p
-    search-table-longer table c p e =
+    search-table-longer : (table c p : ℕ) (q : LookupSteps) → searchTable font table c ≡ found p q → searchTable (font ++ more) table c ≡ found p q
+    search-table-longer table c p q e =
         of-pick (leb table (length font))
-        (λ v q.
+        (λ v k.
         let l = leb-true table (length font) v in
         let w = le-leb table (length (font ++ more)) (omega (arith, length-append font more)) in
         rw (w, drop-append-le table font more l)
-        (from-table-longer table c (jumpTable c 0 (drop table font)) _ p (table-longer c 0 (drop table font) more) q))
+        (from-table-longer table c (jumpTable c 0 0 (drop table font)) _ p q (table-longer c 0 0 (drop table font) more) k))
         (λ v. not-short) e
 
-    pub search-longer : (c p : ℕ) → search font c ≡ found p → search (font ++ more) c ≡ found p
+    -- A glyph that is found is found at the same byte and by the same steps.
+    pub search-longer : (c p : ℕ) (q : LookupSteps) → search font c ≡ found p q → search (font ++ more) c ≡ found p q
     unfolding search
-    search-longer c p e =
+    search-longer c p q e =
         of-pick (leb c 255)
-        (λ t q. rw (t, header-longer) (chain-longer (looks8 c) 0 (chainStart (header font) c) font more p q))
+        (λ t k. rw (t, header-longer) (chain-longer (looks8 c) noSteps 0 (chainStart (header font) c) font more p q k))
         (λ t. of-pick (leb c 65535)
-        (λ u q. rw (t, u, header-longer) (search-table-longer (tableStart (header font)) c p q))
+        (λ u k. rw (t, u, header-longer) (search-table-longer (tableStart (header font)) c p q k))
         (λ u. not-missing)) e

@@ -524,12 +524,12 @@ module _ {answers answers′ : ℕ → Answer} (follows : Follows answers answer
 
 -- ---- each glyph of a text
 
--- what is so of each placed glyph
-abbrev pub Each : (Placed → Type 0) → List Placed → Type 0
+-- what is so of each element of a list
+abbrev pub Each : {A : Type 0} → (A → Type 0) → List A → Type 0
 Each P [] = Unit {0}
 Each P (p ∷ ps) = P p × Each P ps
 
-each-append : (P : Placed → Type 0) (ps qs : List Placed) → Each P ps → Each P qs → Each P (ps ++ qs)
+pub each-append : {A : Type 0} (P : A → Type 0) (ps qs : List A) → Each P ps → Each P qs → Each P (ps ++ qs)
 each-append P [] qs h k = k
 each-append P (p ∷ ps) qs h k = (h .0, each-append P ps qs (h .1) k)
 

@@ -2,11 +2,11 @@
 -- skipping. One table of what the definitions give and what follows from the rules, and one theorem, which computes them all.
 use mathlib.Core.Path.{_≡_, refl}
 use mathlib.Core.Bool.{Bool, true, false}
-use mathlib.Core.List.{List, [], _∷_, map}
+use mathlib.Core.List.{List, [], _∷_, _++_, map}
 use Prim.Native.Nat.{ℕ, _+_, _*_}
 use lib.IntN.{ℤ, pos, negℤ}
 use lib.ListN.{take, set, replicate}
-use Rattle.definitions.specs.Vocabulary.{FontReader, Framebuffer, BoundingBox, None, Some, Rectangle, RenderedDimensions, GlyphReader}
+use Rattle.definitions.specs.Vocabulary.{FontReader, Framebuffer, BoundingBox, None, Some, Rectangle, RenderedDimensions, GlyphReader, LookupSteps}
 use Rattle.definitions.specs.Vocabulary.{FontColor, Transparent, WithBackground, HorizontalAlignment}
 use Rattle.types.specs.declared.style.HorizontalAlignment.the-variants.{Center as Alignment·Center, Right as Alignment·Right}
 use Rattle.types.specs.declared.style.VerticalPosition.the-variants.{Baseline, Top, Center, Bottom}
@@ -23,7 +23,8 @@ use Rattle.definitions.specs.Runs.{afterPair, runs, glyphPixels}
 use Rattle.definitions.specs.Picture.{textPicture}
 use Rattle.definitions.specs.Framebuffer.{mapAt}
 use Rattle.definitions.specs.Font.{u8g2}
-use Rattle.definitions.specs.Calls.{placed, request, plain, openFont, fontBoundingBox, measure, measureAligned, draw, drawBuffer}
+use Rattle.definitions.specs.Calls.{Request, placed, request, plain, openFont, fontBoundingBox, measure, measureAligned, draw, drawBuffer}
+use Rattle.definitions.specs.Sums.{total, upTo, sums}
 use Rattle.definitions.specs.FontT.{T}
 
 -- what a case is about
@@ -35,6 +36,7 @@ pub data Result : Type 0 where
   measured : Outcome RenderedDimensions → Result
   boxed : Outcome BoundingBox → Result
   drawn : Outcome RenderedDimensions → List ℕ → Result
+  summed : Outcome RenderedDimensions → LookupSteps → Result
 
 pub record Case : Type 0 where
   pub given : Result
@@ -68,6 +70,17 @@ drawnWith color skip font text =
 
 abbrev drawnAt : List ℕ → List ℕ → Result
 drawnAt = drawnWith (Transparent 1) false
+
+-- .. and what a call comes to, with the sums that go with that
+abbrev summedBy : (Request → Outcome RenderedDimensions) → Bool → List ℕ → List ℕ → Result
+summedBy call skip font text =
+    let r = plain text (placed (point (pos 10) (pos 20)) 4 skip) Baseline in summed (call r) (sums (u8g2 font) r (call r))
+
+abbrev summedAt : List ℕ → List ℕ → Result
+summedAt font = summedBy (measure (u8g2 font)) false font
+
+abbrev steps : ℕ → ℕ → LookupSteps
+steps r e = record { records = r; entries = e }
 
 abbrev dims : ℤ → ℤ → BoundingBox → Outcome RenderedDimensions
 dims x y b = success record { advance = point x y; «bounding_box» = b }
@@ -254,10 +267,45 @@ cases =
     ∷ record { given = drawnAt (take 33 T) (65 ∷ []); expected = drawn (refused 8 65) (inked []) }
     -- * the empty text
     ∷ record { given = measuredAt T []; expected = measured (dims (pos 0) (pos 0) None) }
+    -- the sums of a success, newlines bringing nothing; of "A" and "5", which are missing; of U+10000, for which no byte is read
+    ∷ record { given = summedAt T (45 ∷ 52 ∷ []); expected = summed minusFour (steps 3 0) }
+    ∷ record { given = summedAt T (45 ∷ 10 ∷ 52 ∷ []); expected = summed fourBelow (steps 3 0) }
+    ∷ record { given = summedAt T (65 ∷ []); expected = summed (refused 7 65) (steps 1 0) }
+    ∷ record { given = summedAt T (53 ∷ []); expected = summed (refused 7 53) (steps 3 0) }
+    ∷ record { given = summedAt T (240 ∷ 144 ∷ 128 ∷ 128 ∷ []); expected = summed (refused 7 65536) (steps 0 0) }
+    -- with 7 up to the missing letter, with 8 none
+    ∷ record { given = summedAt T (45 ∷ 65 ∷ []); expected = summed (refused 7 65) (steps 2 0) }
+    ∷ record { given = summedAt T (45 ∷ 65 ∷ 52 ∷ []); expected = summed (refused 7 65) (steps 2 0) }
+    ∷ record { given = summedAt (take 33 T) (45 ∷ 65 ∷ []); expected = summed (refused 8 65) (steps 0 0) }
+    -- a text that is not UTF-8; "A" skipped
+    ∷ record { given = summedAt T (45 ∷ 255 ∷ []); expected = summed (refused 4 0) (steps 0 0) }
+    ∷ record { given = summedBy (measure (u8g2 T)) true T (45 ∷ 65 ∷ 52 ∷ []); expected = summed minusFour (steps 4 0) }
+    -- runs that the font's end cuts off: 8 in drawing alone
+    ∷ record { given = summedAt (take 32 T) (52 ∷ []); expected = summed four (steps 2 0) }
+    ∷ record {
+      given = summedBy (λ r. draw (u8g2 (take 32 T)) r (Transparent 1) record { width = 1; height = 1 } (0 ∷ [])) false (take 32 T) (52 ∷ []);
+      expected = summed (refused 8 52) (steps 0 0);
+    }
+    -- U+0100 by the jump table: an entry whose distance leads past the end, three bytes more, two entries and a byte
+    ∷ record { given = summedAt (take 23 F ++ 255 ∷ 255 ∷ 0 ∷ 0 ∷ []) (196 ∷ 128 ∷ []); expected = summed (refused 7 256) (steps 0 1) }
+    ∷ record {
+      given = summedAt (take 23 F ++ 255 ∷ 255 ∷ 0 ∷ 0 ∷ 0 ∷ 0 ∷ 0 ∷ []) (196 ∷ 128 ∷ []);
+      expected = summed (refused 7 256) (steps 0 1);
+    }
+    ∷ record { given = summedAt (T ++ replicate 9 0) (196 ∷ 128 ∷ []); expected = summed (refused 7 256) (steps 0 2) }
+    -- .. an entry and a record with code 0, and an entry and the glyph's record
+    ∷ record {
+      given = summedAt (T ++ 0 ∷ 4 ∷ 255 ∷ 255 ∷ 0 ∷ 0 ∷ 0 ∷ []) (196 ∷ 128 ∷ []);
+      expected = summed (refused 7 256) (steps 1 1);
+    }
+    ∷ record {
+      given = summedAt (T ++ 0 ∷ 4 ∷ 255 ∷ 255 ∷ 1 ∷ 0 ∷ 6 ∷ 138 ∷ 62 ∷ 2 ∷ []) (196 ∷ 128 ∷ []);
+      expected = summed minus (steps 1 1);
+    }
     ∷ []
 
 pub cases-hold : map (λ (c : Case). c .given) cases ≡ map (λ (c : Case). c .expected) cases
 unfolding cases openFont fontBoundingBox header headerOff signed8 T glyph fields search record8 chain record16 jumpTable
     readAt bits lowBits number table rowOf firstCharacter decodeFrom newlines joinAll letters lines lineByLine afterPair runs glyphPixels
-    textPicture mapAt measure measureAligned draw drawBuffer
+    textPicture mapAt measure measureAligned draw drawBuffer total upTo
 cases-hold = refl

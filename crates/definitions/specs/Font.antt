@@ -3,9 +3,10 @@ use mathlib.Core.Bool.{Bool}
 use mathlib.Core.List.{List, []}
 use Prim.Native.Nat.{ℕ}
 use lib.IntN.{ℤ}
-use Rattle.definitions.specs.Vocabulary.{GlyphReader}
+use Rattle.definitions.specs.Vocabulary.{GlyphReader, LookupSteps}
 use Rattle.definitions.specs.Refusals.{Outcome, success, refused, andThen, Cause}
 use Rattle.definitions.specs.Header.{header, fontCauses}
+use Rattle.definitions.specs.Lookup.{search, stepsOf}
 use Rattle.definitions.specs.Glyph.{glyph}
 use Rattle.definitions.specs.Runs.{Pixels, pixels, cut, glyphPixels}
 use Rattle.definitions.specs.Text.{Answer, answer}
@@ -17,6 +18,7 @@ pub record Font : Type 0 where
   pub background : Bool  -- whether a background colour is allowed
   pub glyph : ℕ → Outcome GlyphReader  -- what it answers to a code point
   pub pixels : GlyphReader → Pixels
+  pub steps : ℕ → LookupSteps  -- how it found that answer (request A1)
 
 -- a font in the U8g2 format
 abbrev pub u8g2 : List ℕ → Font
@@ -27,6 +29,7 @@ u8g2 font = record {
   background = header font .«supports_background_color»;
   glyph = glyph font;
   pixels = glyphPixels font (header font);
+  steps = λ c. stepsOf (search font c);
 }
 
 -- ---- what a letter shows

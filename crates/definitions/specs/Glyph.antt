@@ -39,8 +39,8 @@ fields font head c at =
     })))))
 
 abbrev pub fromSearch : List ℕ → ℕ → Search → Outcome GlyphReader
-fromSearch font c (found start) = fields font (header font) c (start * 8)
-fromSearch font c missing = refused 7 c
+fromSearch font c (found start steps) = fields font (header font) c (start * 8)
+fromSearch font c (missing steps) = refused 7 c
 fromSearch font c short = refused 8 c
 
 -- What the font answers to the code point c: the glyph, or the reason there is none.

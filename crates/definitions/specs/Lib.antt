@@ -16,6 +16,7 @@ pub mod Framebuffer
 pub mod TextSteps
 pub mod Limits
 pub mod Calls
+pub mod Sums
 pub mod Agreement
 pub mod FontT
 pub mod Cases

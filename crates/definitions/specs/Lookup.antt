@@ -1,18 +1,19 @@
--- SPECIFICATION, Lookup: where a code point's glyph begins, or why there is none.
+-- SPECIFICATION, Lookup: where a code point's glyph begins, or why there is none, and by how many steps that was found out.
 --
 -- The chain walks the font's bytes. `skip` bytes are still to be passed over before a record is looked at, and `at` is the
--- index of the list's first byte. So the walk ends with the bytes, and no other bound decides an answer.
+-- index of the list's first byte. So the walk ends with the bytes, and no other bound decides an answer. The steps are carried
+-- along and decide nothing (request A1).
 use mathlib.Core.List.{List, [], _∷_}
 use Prim.Native.Nat.{ℕ, zero, suc, _+_, _-_, _*_}
 use lib.Dec.{ltb, leb, eqb}
 use lib.ListN.{length, drop}
 use Rattle.integers.specs.Integers.{pick}
-use Rattle.definitions.specs.Vocabulary.{FontReader}
+use Rattle.definitions.specs.Vocabulary.{FontReader, LookupSteps}
 use Rattle.definitions.specs.Header.{header}
 
 pub data Search : Type 0 where
-  found : ℕ → Search  -- the glyph begins at this byte
-  missing : Search  -- the font has no such glyph: number 7
+  found : ℕ → LookupSteps → Search  -- the glyph begins at this byte
+  missing : LookupSteps → Search  -- the font has no such glyph: number 7
   short : Search  -- a byte is missing, or a move goes past the end: number 8
 
 -- ---- a record, which is code, jump, glyph
@@ -42,61 +43,79 @@ record16 c (high ∷ low ∷ jump ∷ s) =
 
 -- ---- the chain
 
--- what a record at `at` comes to, `rest` being the chain after a jump
-abbrev pub follow : Record → ℕ → (ℕ → Search) → Search
-follow (here n) at rest = found (at + n)
-follow (next jump) at rest = rest jump
-follow last at rest = missing
-follow cut at rest = short
+-- A record whose code was looked at is a step, whichever its code.
+abbrev pub looked : LookupSteps → LookupSteps
+looked steps = record { records = steps .records + 1; entries = steps .entries }
+
+-- what a record at `at` comes to, after the steps before it; `rest` is the chain after a jump
+abbrev pub follow : Record → LookupSteps → ℕ → (ℕ → Search) → Search
+follow (here n) steps at rest = found (at + n) (looked steps)
+follow (next jump) steps at rest = rest jump
+follow last steps at rest = missing (looked steps)
+follow cut steps at rest = short
 
 -- Record after record, each looked at as `look` does.
-unfoldable pub chain : (List ℕ → Record) → ℕ → ℕ → List ℕ → Search
-chain look at skip [] = short
-chain look at (suc skip) (b ∷ s) = chain look (suc at) skip s
-chain look at zero (b ∷ s) = follow (look (b ∷ s)) at (λ jump. chain look (suc at) (jump - 1) s)
+unfoldable pub chain : (List ℕ → Record) → LookupSteps → ℕ → ℕ → List ℕ → Search
+chain look steps at skip [] = short
+chain look steps at (suc skip) (b ∷ s) = chain look steps (suc at) skip s
+chain look steps at zero (b ∷ s) =
+    follow (look (b ∷ s)) steps at (λ jump. chain look (looked steps) (suc at) (jump - 1) s)
 
 -- ---- the jump table
 
 -- The jump table: the sum of the distances, up to the first entry whose upper limit is the code point or above; none if
--- the whole entries end before that.
+-- the whole entries end before that. Either comes with the number of entries that were read whole.
 pub data Distance : Type 0 where
-  sum : ℕ → Distance
-  none : Distance
+  sum : ℕ → ℕ → Distance
+  none : ℕ → Distance
 
-unfoldable pub jumpTable : ℕ → ℕ → List ℕ → Distance
-jumpTable c total [] = none
-jumpTable c total (a ∷ []) = none
-jumpTable c total (a ∷ b ∷ []) = none
-jumpTable c total (a ∷ b ∷ d ∷ []) = none
-jumpTable c total (a ∷ b ∷ d ∷ e ∷ s) =
-    pick (ltb (d * 256 + e) c) (jumpTable c (total + (a * 256 + b)) s) (sum (total + (a * 256 + b)))
+unfoldable pub jumpTable : ℕ → ℕ → ℕ → List ℕ → Distance
+jumpTable c total n [] = none n
+jumpTable c total n (a ∷ []) = none n
+jumpTable c total n (a ∷ b ∷ []) = none n
+jumpTable c total n (a ∷ b ∷ d ∷ []) = none n
+jumpTable c total n (a ∷ b ∷ d ∷ e ∷ s) =
+    pick (ltb (d * 256 + e) c) (jumpTable c (total + (a * 256 + b)) (suc n) s) (sum (total + (a * 256 + b)) (suc n))
 
 -- ---- the lookup
 
 -- The first byte after the header.
-abbrev pub records : ℕ
-records = 23
+abbrev pub firstRecord : ℕ
+firstRecord = 23
 
 -- The chain of a code point up to 255 begins there, moved by the offset of 'a' for 97 and above, by that of 'A' for 65 to 96.
 abbrev pub chainStart : FontReader → ℕ → ℕ
 chainStart head c =
-    pick (leb 97 c) (records + head .«array_offset_lower_a»)
-    (pick (leb 65 c) (records + head .«array_offset_upper_a») records)
+    pick (leb 97 c) (firstRecord + head .«array_offset_lower_a»)
+    (pick (leb 65 c) (firstRecord + head .«array_offset_upper_a») firstRecord)
 
 abbrev pub tableStart : FontReader → ℕ
-tableStart head = records + head .«array_offset_0x0100»
+tableStart head = firstRecord + head .«array_offset_0x0100»
+
+-- before the chain: so many entries read
+abbrev pub afterEntries : ℕ → LookupSteps
+afterEntries n = record { records = 0; entries = n }
+
+abbrev pub noSteps : LookupSteps
+noSteps = afterEntries 0
 
 -- the jump table at `table`, and the chain that it leads to
 abbrev pub fromTable : List ℕ → ℕ → ℕ → Distance → Search
-fromTable font table c none = missing
-fromTable font table c (sum d) = chain (record16 c) 0 (table + d) font
+fromTable font table c (none n) = missing (afterEntries n)
+fromTable font table c (sum d n) = chain (record16 c) (afterEntries n) 0 (table + d) font
 
 abbrev pub searchTable : List ℕ → ℕ → ℕ → Search
 searchTable font table c =
-    pick (leb table (length font)) (fromTable font table c (jumpTable c 0 (drop table font))) short
+    pick (leb table (length font)) (fromTable font table c (jumpTable c 0 0 (drop table font))) short
 
 -- From 256 to 65535: the table and its chain. Above: missing.
 unfoldable pub search : List ℕ → ℕ → Search
 search font c =
-    pick (leb c 255) (chain (record8 c) 0 (chainStart (header font) c) font)
-    (pick (leb c 65535) (searchTable font (tableStart (header font)) c) missing)
+    pick (leb c 255) (chain (record8 c) noSteps 0 (chainStart (header font) c) font)
+    (pick (leb c 65535) (searchTable font (tableStart (header font)) c) (missing noSteps))
+
+-- The steps that a code point brings: a found and a missing one, and none where the font ends.
+abbrev pub stepsOf : Search → LookupSteps
+stepsOf (found at steps) = steps
+stepsOf (missing steps) = steps
+stepsOf short = noSteps

@@ -10,6 +10,7 @@ pub use Rattle.types.specs.declared.geometry.BoundingBox.the-variants.{None, So
 pub use Rattle.types.specs.declared.geometry.RenderedDimensions.{RenderedDimensions}
 pub use Rattle.types.specs.declared.glyph_reader.GlyphReader.{GlyphReader}
 pub use Rattle.types.specs.declared.place.Place.{Place}
+pub use Rattle.types.specs.declared.steps.LookupSteps.{LookupSteps}
 pub use Rattle.types.specs.declared.style.FontColor.{FontColor}
 pub use Rattle.types.specs.declared.style.FontColor.the-variants.{Transparent, WithBackground}
 pub use Rattle.types.specs.declared.style.FontStyle.{FontStyle}

@@ -160,7 +160,7 @@ refused-early rest (c ∷ cs) h e = by (c .applies) refl (refused-early rest cs 
 
 late-taken : (o : Outcome RenderedDimensions) → Late o → taken o ≡ true
 late-taken (success d) h = refl
-late-taken (refused n c) (late h) = by h
+late-taken (refused n c) (late h b) = by h
   where
     by : (n ≡ 7) ⊎ (n ≡ 8) → (eqb n 7 || eqb n 8) ≡ true
     by (inl e) = rw e

@@ -7,4 +7,5 @@ pub mod geometry;
 pub mod glyph_reader;
 pub mod place;
 pub mod results;
+pub mod steps;
 pub mod style;
