@@ -6,14 +6,28 @@ use Rattle.definitions.specs.Vocabulary.{FontReader, GlyphReader}
 use Rattle.definitions.specs.Refusals.{errorNumber, codePoint}
 use Rattle.definitions.specs.Text.{shows, nothing, stops}
 use Rattle.definitions.specs.Text as text
+use Rattle.definitions.specs.Glyph.{glyph, glyphOutcome}
+use Rattle.definitions.specs.Font.{u8g2, drawable}
+use Rattle.types.specs.declared.results.GlyphLookup.{GlyphLookup}
 use Rattle.runs.specs.Stands.{CheckedGlyph}
 use Rattle.answers.specs.declared.Answer.{Answer}
+use Rattle.answers.specs.declared.CharAnswer.{CharAnswer}
 use Rattle.answers.specs.declared.Answer.the-variants.{Shows, Nothing, Stops}
 
 abbrev pub asAnswer : Answer → text.Answer
 asAnswer (Shows g) = shows g
 asAnswer Nothing = nothing
 asAnswer (Stops e) = stops (errorNumber e) (codePoint e)
+
+-- The answer to c is a, and the steps are those of its lookup.
+pub record Answered (font : List ℕ) (c : ℕ) (a : text.Answer) (r : CharAnswer) : Type 0 where
+  pub is : asAnswer (r .answer) ≡ a
+  pub counted : r .steps ≡ u8g2 font .steps c
+
+-- A lookup whose glyph has all its runs.
+pub record WholeLookedUp (font : List ℕ) (c : ℕ) (l : GlyphLookup) : Type 0 where
+  pub answered : glyphOutcome (l .result) ≡ drawable (u8g2 font) c (glyph font c)
+  pub counted : l .steps ≡ u8g2 font .steps c
 
 -- the runs of the glyph that it shows were read to the last pixel
 abbrev pub RunsChecked : List ℕ → FontReader → text.Answer → Type 0

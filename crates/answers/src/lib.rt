@@ -2,22 +2,30 @@
 ghost use mathlib.Core.Path.{_≡_};
 ghost use Rattle.definitions.specs.Refusals.{refusal};
 ghost use Rattle.definitions.specs.Header.{Opened};
-ghost use Rattle.definitions.specs.Glyph.{glyph, glyphOutcome};
+ghost use Rattle.definitions.specs.Glyph.{glyphOutcome};
 ghost use Rattle.definitions.specs.Text.{answer};
-ghost use Rattle.definitions.specs.Font.{u8g2, drawable, measuredAnswer, drawnAnswer};
-ghost use Rattle.answers.specs.Answers.{asAnswer};
+ghost use Rattle.definitions.specs.Font.{u8g2, measuredAnswer, drawnAnswer};
+ghost use Rattle.answers.specs.Answers.{asAnswer, Answered, WholeLookedUp};
 use font_reader::retrieve_glyph_data;
 use runs::check_runs;
 use types::error::Error;
 use types::font_reader::FontReader;
 use types::glyph_reader::GlyphReader;
+use types::results::GlyphLookup;
 use types::results::GlyphResult;
+use types::steps::LookupSteps;
 
 // A character shows a glyph, or nothing where it is unknown and skipped, or stops the text.
 pub enum Answer {
     Shows(GlyphReader),
     Nothing,
     Stops(Error),
+}
+
+// The answer to a character, and the steps of its lookup.
+pub struct CharAnswer {
+    pub answer: Answer,
+    pub steps: LookupSteps,
 }
 
 // Only an unknown character is skipped: the end of the font always stops the text.
@@ -49,37 +57,59 @@ pub fn try_retrieve_glyph_data(
     head: FontReader,
     ch: u32,
     ignore_unknown_chars: bool,
-) -> Answer
+) -> CharAnswer
     requires { ⌜ Opened (now font) head ⌝ }
-    ensures { λ r. ⌜ asAnswer r ≡ measuredAnswer (u8g2 (now (font .entry))) «ignore_unknown_chars» ch ⌝ }
+    ensures { λ r. ⌜ Answered (now (font .entry)) ch (measuredAnswer (u8g2 (now (font .entry))) «ignore_unknown_chars» ch) r ⌝ }
 {
     let lookup = retrieve_glyph_data(font, head, ch);
-    let GlyphResult::Ok(glyph) = lookup else {
-        return answer_of(lookup, ignore_unknown_chars);
+    let result = lookup.result;
+    let steps = lookup.steps;
+    let GlyphResult::Ok(glyph) = result else {
+        let answer = answer_of(result, ignore_unknown_chars);
+        return CharAnswer { answer, steps };
     };
-    Answer::Shows(glyph)
+    CharAnswer {
+        answer: Answer::Shows(glyph),
+        steps,
+    }
 }
 
 // The glyph of a code point, its runs read to the last pixel. So a glyph that the font's end cuts off is refused before any
 // of it is drawn.
-fn retrieve_whole_glyph(font: &[u8], head: FontReader, ch: u32) -> GlyphResult
+fn retrieve_whole_glyph(font: &[u8], head: FontReader, ch: u32) -> GlyphLookup
     requires { ⌜ Opened (now font) head ⌝ }
-    ensures { λ r. ⌜ glyphOutcome r ≡ drawable (u8g2 (now (font .entry))) ch (glyph (now (font .entry)) ch) ⌝ }
+    ensures { λ r. ⌜ WholeLookedUp (now (font .entry)) ch r ⌝ }
 {
     let lookup = retrieve_glyph_data(font, head, ch);
-    let GlyphResult::Ok(glyph) = lookup else {
+    let result = lookup.result;
+    let steps = lookup.steps;
+    let GlyphResult::Ok(glyph) = result else {
         return lookup;
     };
     if check_runs(font, head, glyph) {
-        return GlyphResult::Ok(glyph);
+        return lookup;
     }
-    GlyphResult::Err(Error::FontEnds(ch))
+    GlyphLookup {
+        result: GlyphResult::Err(Error::FontEnds(ch)),
+        steps,
+    }
 }
 
 // The answer to a code point in drawing.
-pub fn retrieve_answer(font: &[u8], head: FontReader, ch: u32, ignore_unknown_chars: bool) -> Answer
+pub fn retrieve_answer(
+    font: &[u8],
+    head: FontReader,
+    ch: u32,
+    ignore_unknown_chars: bool,
+) -> CharAnswer
     requires { ⌜ Opened (now font) head ⌝ }
-    ensures { λ r. ⌜ asAnswer r ≡ drawnAnswer (u8g2 (now (font .entry))) «ignore_unknown_chars» ch ⌝ }
+    ensures { λ r. ⌜ Answered (now (font .entry)) ch (drawnAnswer (u8g2 (now (font .entry))) «ignore_unknown_chars» ch) r ⌝ }
 {
-    answer_of(retrieve_whole_glyph(font, head, ch), ignore_unknown_chars)
+    let lookup = retrieve_whole_glyph(font, head, ch);
+    let result = lookup.result;
+    let steps = lookup.steps;
+    CharAnswer {
+        answer: answer_of(result, ignore_unknown_chars),
+        steps,
+    }
 }

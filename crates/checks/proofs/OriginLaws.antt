@@ -14,6 +14,7 @@ use Rattle.definitions.specs.Limits.{textCause, coordinateOff, positionCause}
 use Rattle.definitions.specs.Font.{u8g2}
 use Rattle.definitions.specs.Calls.{openFont, Request, measureCauses, codePointsOf, origin}
 use Rattle.definitions.proofs.RefusalLaws.{or-false, none-applies, succeeded, passed as causes-passed, each-off}
+use Rattle.definitions.proofs.SumsLaws.{refused-early}
 use Rattle.definitions.proofs.ComesLaws.{comes-stopped}
 use Rattle.definitions.proofs.OpenedLaws.{passes-font, opened}
 use Rattle.definitions.proofs.Utf8Laws.{utf8-characters, character-count}
@@ -135,6 +136,10 @@ module _ (font : List ℕ) {head : FontReader} (opens : openFont font ≡ succes
   pub request-checked : {o : Point} → SFits w8 (head .ascent) → SFits w8 (head .descent) → tested ≡ success o → Checked (r .text) o (r .lineHeight)
   request-checked {o} f g e =
       passed-checked (head .ascent) (head .descent) r f g (passed (head .ascent) (head .descent) r o e)
+
+  pub tested-early : {n c : ℕ} → tested ≡ refused n c → eqb n 7 ≡ false
+  tested-early e =
+      refused-early (originBy (head .ascent) (head .descent) r) (textCause (r .text) ∷ positionCause (r .position) (r .lineHeight) ∷ []) (refl, (refl, tt)) e
 
   module _ {A : Type 0} (rest : Outcome A) where
     abbrev after-font : List Cause

@@ -1,13 +1,15 @@
 -- The sums over a text (request A1): how a loop adds them up letter by letter, and that they fit 32 bits. Assumes nothing.
-use Rattle.integers.proofs.Prelude.{_≡_, refl, sym, ap, _∙_, Bool, true, false, List, [], _∷_, _++_, ℕ, _+_, _*_, _≤_, zero-add, arith, eqb, length}
+use Rattle.integers.proofs.Prelude.{_≡_, refl, sym, ap, subst, _∙_, Bool, true, false, List, [], _∷_, _++_, ℕ, _+_, _*_, _≤_, zero-add, arith, eqb, length}
 use Rattle.integers.proofs.Prelude.{length-append, mul-le-mul-right, eqb-true, eq-eqb, ne-eqb}
 use Rattle.integers.specs.Integers.{pick}
+use Rattle.integers.proofs.Choices.{impossible, of-pick}
 use Rattle.definitions.specs.Vocabulary.{LookupSteps}
-use Rattle.definitions.specs.Refusals.{Outcome, success, refused}
+use Rattle.definitions.specs.Refusals.{Outcome, success, refused, andThen, Cause, unlessRefused}
+use Rattle.definitions.specs.Header.{header, fontCauses}
 use Rattle.definitions.specs.Lookup.{noSteps}
-use Rattle.definitions.specs.Font.{u8g2}
-use Rattle.definitions.specs.Calls.{Request, codePointsOf}
-use Rattle.definitions.specs.Sums.{plusSteps, brings, total, upTo, counted, sums}
+use Rattle.definitions.specs.Font.{Font, u8g2}
+use Rattle.definitions.specs.Calls.{openFont, codePointsOf}
+use Rattle.definitions.specs.Sums.{plusSteps, brings, total, upTo, counted, sums, Fits32}
 use Rattle.definitions.proofs.StepsLaws.{Bounded, steps-bounded}
 use Rattle.definitions.proofs.TextLaws.{Each}
 
@@ -33,11 +35,6 @@ up-to-first [] c ds h = rw (eq-eqb c c refl) refl
 up-to-first (d ∷ cs) c ds h = rw (ne-eqb d c (h .0)) (ap (λ (l : List ℕ). d ∷ l) (up-to-first cs c ds (h .1)))
 
 -- ---- the sums fit the type that carries them
-
--- 4,096 lookups of the longest font take at most 4,294,873,088 steps of a kind, which is less than 2 to the power 32.
-pub record Fits32 (q : LookupSteps) : Type 0 where
-  pub records : q .records ≤ 4294967295
-  pub entries : q .entries ≤ 4294967295
 
 record FewEach (n : ℕ) (q : LookupSteps) : Type 0 where
   records : q .records ≤ n * 1048553
@@ -80,7 +77,31 @@ counted-shorter (refused n c) cs = by (eqb n 7)
     by false = omega arith
 
 -- So do the sums of every call within the limits, whatever it comes to.
-pub sums-fit : {A : Type 0} (font : List ℕ) (r : Request) (o : Outcome A) → 23 ≤ length font → length font ≤ 1048576
-    → length (codePointsOf (r .text)) ≤ 4096 → Fits32 (sums (u8g2 font) r o)
-sums-fit font r o least most short =
-    total-fits font least most (counted o (codePointsOf (r .text))) (omega (arith, counted-shorter o (codePointsOf (r .text))))
+pub sums-fit : {A : Type 0} (font text : List ℕ) (o : Outcome A) → 23 ≤ length font → length font ≤ 1048576
+    → length (codePointsOf text) ≤ 4096 → Fits32 (sums (u8g2 font) text o)
+sums-fit font text o least most short =
+    total-fits font least most (counted o (codePointsOf text)) (omega (arith, counted-shorter o (codePointsOf text)))
+
+-- ---- a call that is refused before its first letter has none
+
+pub no-sums : {A : Type 0} (font : Font) (text : List ℕ) {n c : ℕ} {o : Outcome A} → refused n c ≡ o → eqb n 7 ≡ false → noSteps ≡ sums font text o
+unfolding total
+no-sums font text {n} {c} e h = rw (sym e, h) refl
+
+-- the number of a cause
+pub refused-early : {A : Type 0} (a : A) (cs : List Cause) → Each (λ d. eqb (d .number) 7 ≡ false) cs → {n c : ℕ}
+    → unlessRefused cs (success a) ≡ refused n c → eqb n 7 ≡ false
+refused-early a [] h e = impossible cc
+refused-early a (d ∷ cs) h {n} {c} e =
+    of-pick (d .applies)
+    (λ t k. let same : d .number ≡ n = cc in subst (λ (m : ℕ). eqb m 7 ≡ false) same (h .0))
+    (λ t k. refused-early a cs (h .1) k) e
+
+pub open-early : (font : List ℕ) {n c : ℕ} → openFont font ≡ refused n c → eqb n 7 ≡ false
+unfolding openFont
+open-early font e = refused-early (header font) (fontCauses font) (refl, (refl, tt)) e
+
+-- What a success is made into makes no difference.
+pub sums-then : {A B : Type 0} (font : Font) (text : List ℕ) (o : Outcome A) (f : A → B) → sums font text (andThen o (λ a. success (f a))) ≡ sums font text o
+sums-then font text (success a) f = refl
+sums-then font text (refused n c) f = refl

@@ -74,7 +74,7 @@ drawnAt = drawnWith (Transparent 1) false
 -- .. and what a call comes to, with the sums that go with that
 abbrev summedBy : (Request → Outcome RenderedDimensions) → Bool → List ℕ → List ℕ → Result
 summedBy call skip font text =
-    let r = plain text (placed (point (pos 10) (pos 20)) 4 skip) Baseline in summed (call r) (sums (u8g2 font) r (call r))
+    let r = plain text (placed (point (pos 10) (pos 20)) 4 skip) Baseline in summed (call r) (sums (u8g2 font) text (call r))
 
 abbrev summedAt : List ℕ → List ℕ → Result
 summedAt font = summedBy (measure (u8g2 font)) false font

@@ -6,13 +6,15 @@ ghost use lib.IntN.{pos};
 ghost use lib.Signed.{_≤ℤ_};
 ghost use Rattle.integers.specs.Integers.{signed8};
 ghost use Rattle.definitions.specs.Header.{header, headerOff, defaultLineHeight, negative, signedByte, Opened};
-ghost use Rattle.definitions.specs.Glyph.{glyph, glyphOutcome};
 ghost use Rattle.definitions.specs.Calls.{openFont, fontReaderOutcome};
+ghost use Rattle.font_reader.specs.Lookups.{LookedUp};
 use glyph_searcher::SearchResult;
 use types::error::Error;
 use types::font_reader::FontReader;
 use types::results::FontReaderResult;
+use types::results::GlyphLookup;
 use types::results::GlyphResult;
+use types::steps::LookupSteps;
 use utils::big_endian::u16_at;
 
 const HEADER_SIZE: usize = 23;
@@ -108,16 +110,28 @@ pub fn new_from_raw_data(font: &[u8]) -> FontReaderResult
     FontReaderResult::Ok(read_header(font))
 }
 
-// What the font answers to a code point: its glyph, or number 7 or 8. The header is read anew, as only a few of its numbers
+// What the font answers to a code point: its glyph, or number 7 or 8, and by how many steps. The header is read anew, as only a few of its numbers
 // are needed: the compiler does not inline this function, and would copy all of `head` for each letter.
-pub fn retrieve_glyph_data(font: &[u8], head: FontReader, ch: u32) -> GlyphResult
+pub fn retrieve_glyph_data(font: &[u8], head: FontReader, ch: u32) -> GlyphLookup
     requires { ⌜ Opened (now font) head ⌝ }
-    ensures { λ r. ⌜ glyphOutcome r ≡ glyph (now (font .entry)) ch ⌝ }
+    ensures { λ r. ⌜ LookedUp (now (font .entry)) ch r ⌝ }
 {
     let header = read_header(font);
     match glyph_searcher::search(font, header, ch) {
-        SearchResult::Found(start) => glyph_reader::new(font, header, ch, start),
-        SearchResult::GlyphNotFound => GlyphResult::Err(Error::GlyphNotFound(ch)),
-        SearchResult::FontEnds => GlyphResult::Err(Error::FontEnds(ch)),
+        SearchResult::Found(start, steps) => GlyphLookup {
+            result: glyph_reader::new(font, header, ch, start),
+            steps,
+        },
+        SearchResult::GlyphNotFound(steps) => GlyphLookup {
+            result: GlyphResult::Err(Error::GlyphNotFound(ch)),
+            steps,
+        },
+        SearchResult::FontEnds => GlyphLookup {
+            result: GlyphResult::Err(Error::FontEnds(ch)),
+            steps: LookupSteps {
+                records: 0,
+                entries: 0,
+            },
+        },
     }
 }

@@ -3,7 +3,8 @@ use Rattle.integers.proofs.Prelude.{_≡_, ap, _∙_, Bool, true, false, List, 
 use Rattle.integers.proofs.Prelude.{drop-of-length-le}
 use Rattle.integers.specs.Integers.{pick}
 use Rattle.integers.proofs.Choices.{impossible}
-use Rattle.definitions.specs.Lookup.{Record, next, cut, record8, record16, follow, chain}
+use Rattle.definitions.specs.Vocabulary.{LookupSteps}
+use Rattle.definitions.specs.Lookup.{Record, next, cut, record8, record16, looked, follow, chain}
 use Rattle.definitions.proofs.LookupLaws.{Looks, looks8, looks16, chain-at}
 use Rattle.records.specs.Records.{recordOf}
 
@@ -16,10 +17,11 @@ module _ (width c : ℕ) where
       by false = looks16 c
 
   module _ (font : List ℕ) (at : ℕ) where
-    pub followed : {r : Record} → recordOf width c (drop at font) ≡ r
-        → chain (recordOf width c) 0 at font ≡ follow r at (λ jump. chain (recordOf width c) 0 (at + jump) font)
-    followed e =
-        chain-at looks font at ∙ ap (λ (r : Record). follow r at (λ jump. chain (recordOf width c) 0 (at + jump) font)) e
+    pub followed : (steps : LookupSteps) {r : Record} → recordOf width c (drop at font) ≡ r
+        → chain (recordOf width c) steps 0 at font ≡ follow r steps at (λ jump. chain (recordOf width c) (looked steps) 0 (at + jump) font)
+    followed steps e =
+        chain-at looks steps font at
+        ∙ ap (λ (r : Record). follow r steps at (λ jump. chain (recordOf width c) (looked steps) 0 (at + jump) font)) e
 
     -- A record that another one follows begins before the font's end, and the other further on.
     pub further : (jump : ℕ) → recordOf width c (drop at font) ≡ next jump → (at < length font) × (0 < jump)

@@ -1,40 +1,59 @@
-// From a code point to the byte where its glyph begins.
+// From a code point to the byte where its glyph begins, and by how many steps.
 use records::Record;
 use records::read_record;
 use types::font_reader::FontReader;
+use types::steps::LookupSteps;
 use unicode_jumptable_reader::JumpOffset;
 use unicode_jumptable_reader::calculate_jump_offset;
 ghost use mathlib.Core.Path.{_≡_};
 ghost use Prim.Native.Nat.{_≤_};
 ghost use lib.ListN.{length};
 ghost use Rattle.definitions.specs.Header.{Opened};
-ghost use Rattle.definitions.specs.Lookup.{chain, chainStart, searchTable, search as lookup};
+ghost use Rattle.definitions.specs.Lookup.{chain, chainStart, afterEntries, searchTable, search as lookup};
 ghost use Rattle.records.specs.Records.{recordOf};
-ghost use Rattle.glyph_searcher.specs.Answers.{searched};
+ghost use Rattle.glyph_searcher.specs.Answers.{searched, InLimits};
 
 // Where the records begin: the first byte after the header.
 const U8G2_FONT_DATA_STRUCT_SIZE: usize = 23;
 
 pub enum SearchResult {
     // the glyph begins at this byte
-    Found(usize),
+    Found(usize, LookupSteps),
     // the font has no such glyph: number 7
-    GlyphNotFound,
+    GlyphNotFound(LookupSteps),
     // a byte is missing, or a move goes past the end: number 8
     FontEnds,
 }
 
-// The chain from the record at `start` on, of records whose codes have char_width bytes.
-fn search_chain(font: &[u8], start: usize, ch: u16, char_width: usize) -> SearchResult
-    requires { ⌜ (length (now font) ≤ 1048576) × (start ≤ 1048576) ⌝ }
-    ensures { λ r. ⌜ searched r ≡ chain (recordOf «char_width» ch) 0 start (now (font .entry)) ⌝ }
+// The chain from the record at `start` on, of records whose codes have char_width bytes, after so many entries of the jump
+// table. Of a record that is neither found nor followed by another the code was looked at too.
+fn search_chain(font: &[u8], start: usize, ch: u16, char_width: usize, entries: u32) -> SearchResult
+    requires { ⌜ InLimits (length (now font)) start ⌝ }
+    ensures { λ r. ⌜ searched r ≡ chain (recordOf «char_width» ch) (afterEntries entries) 0 start (now (font .entry)) ⌝ }
 {
     let mut at = start;
+    let mut records: u32 = 0;
     loop {
-        match read_record(font, at, ch, char_width) {
-            Record::Here(n) => return SearchResult::Found(at + (n as usize)),
-            Record::Next(jump) => at += jump as usize,
-            Record::Last => return SearchResult::GlyphNotFound,
+        let says = read_record(font, at, ch, char_width);
+        let looked = records + 1;
+        match says {
+            Record::Here(n) => {
+                let steps = LookupSteps {
+                    records: looked,
+                    entries,
+                };
+                return SearchResult::Found(at + (n as usize), steps);
+            }
+            Record::Next(jump) => {
+                records = looked;
+                at += jump as usize;
+            }
+            Record::Last => {
+                return SearchResult::GlyphNotFound(LookupSteps {
+                    records: looked,
+                    entries,
+                });
+            }
             Record::Cut => return SearchResult::FontEnds,
         }
     }
@@ -56,19 +75,26 @@ fn chain_start(head: FontReader, ch: u32) -> usize
 // Code points from 256 to 65535: the jump table begins at `table`, and leads to the chain. Each may
 // begin exactly at the font's end, but not past it.
 fn search_unicode(font: &[u8], table: usize, encoding: u16) -> SearchResult
-    requires { ⌜ length (now font) ≤ 1048576 ⌝ }
+    requires { ⌜ (23 ≤ length (now font)) × (length (now font) ≤ 1048576) ⌝ }
     ensures { λ r. ⌜ searched r ≡ searchTable (now (font .entry)) table encoding ⌝ }
 {
     if font.len() < table {
         return SearchResult::FontEnds;
     }
-    let JumpOffset::Some(jump_offset) = calculate_jump_offset(font, table, encoding) else {
-        return SearchResult::GlyphNotFound;
-    };
-    if font.len() - table < jump_offset {
-        return SearchResult::FontEnds;
+    match calculate_jump_offset(font, table, encoding) {
+        JumpOffset::None(entries) => {
+            SearchResult::GlyphNotFound(LookupSteps {
+                records: 0,
+                entries,
+            })
+        }
+        JumpOffset::Some(jump_offset, entries) => {
+            if font.len() - table < jump_offset {
+                return SearchResult::FontEnds;
+            }
+            search_chain(font, table + jump_offset, encoding, 2, entries)
+        }
     }
-    search_chain(font, table + jump_offset, encoding, 2)
 }
 
 // Where the glyph of a code point begins. Above 65535 no byte is looked at.
@@ -77,11 +103,14 @@ pub fn search(font: &[u8], head: FontReader, ch: u32) -> SearchResult
     ensures { λ r. ⌜ searched r ≡ lookup (now (font .entry)) ch ⌝ }
 {
     if 65535 < ch {
-        return SearchResult::GlyphNotFound;
+        return SearchResult::GlyphNotFound(LookupSteps {
+            records: 0,
+            entries: 0,
+        });
     }
     if 255 < ch {
         let table = U8G2_FONT_DATA_STRUCT_SIZE + (head.array_offset_0x0100 as usize);
         return search_unicode(font, table, ch as u16);
     }
-    search_chain(font, chain_start(head, ch), ch as u16, 1)
+    search_chain(font, chain_start(head, ch), ch as u16, 1, 0)
 }

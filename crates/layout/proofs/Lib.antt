@@ -1,3 +1,4 @@
 pub mod RangeLaws
 pub mod LoopLaws
+pub mod SumLaws
 pub mod MeasureLaws

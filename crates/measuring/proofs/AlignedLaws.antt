@@ -1,16 +1,20 @@
 -- What the checks leave of a call, and what each call reads off. Assumes nothing.
-use Rattle.integers.proofs.Prelude.{_≡_, refl, sym, ap, _∙_, Bool, true, false, List, [], _∷_, ℕ}
+use Rattle.integers.proofs.Prelude.{_≡_, refl, sym, ap, _∙_, Bool, true, false, List, [], _∷_, ℕ, eqb}
 use Rattle.integers.specs.Integers.{pick}
-use Rattle.definitions.specs.Vocabulary.{FontReader, Point, RenderedDimensions}
-use Rattle.definitions.specs.Refusals.{Outcome, success, refused, Cause, unlessRefused}
+use Rattle.definitions.specs.Vocabulary.{FontReader, Point, RenderedDimensions, Error}
+use Rattle.types.specs.declared.results.DimensionsReport.{DimensionsReport}
+use Rattle.definitions.specs.Refusals.{Outcome, success, refused, errorNumber, refusal, Cause, unlessRefused}
 use Rattle.definitions.specs.Text.{dimensions}
 use Rattle.definitions.specs.TextSteps.{measureLines}
 use Rattle.definitions.specs.Font.{Font, u8g2, measuredAnswer}
-use Rattle.definitions.specs.Calls.{openFont, Request, placed, plain, codePointsOf, origin, measureCauses, measure, alignedText, measureAligned}
+use Rattle.definitions.specs.Calls.{openFont, Request, placed, plain, codePointsOf, origin, measureCauses, measure, alignedText, measureAligned, dimensionsOutcome}
+use Rattle.definitions.specs.Sums.{sums}
+use Rattle.definitions.proofs.SumsLaws.{no-sums}
 use Rattle.definitions.proofs.TextLaws.{measure-lines, boxAlone, box-of-layout, left-dimensions}
 use Rattle.definitions.proofs.Utf8Laws.{position}
 use Rattle.checks.proofs.OriginLaws.{tested, origin-is, call-refused, call-goes-on}
-use Rattle.measuring.specs.Aligned.{alignedDimensions}
+use Rattle.lookup_sums.specs.Reports.{refusedReport}
+use Rattle.measuring.specs.Aligned.{alignedDimensions, AlignedMeasured}
 
 -- ---- what the calls share
 
@@ -26,6 +30,16 @@ module _ (font : List ℕ) {head : FontReader} (opens : openFont font ≡ succes
   pub aligned-refused : {n c : ℕ} → tested font opens r ≡ refused n c → refused n c ≡ alignedDimensions (u8g2 font) r
   unfolding alignedDimensions
   aligned-refused e = sym (call-refused font opens r _ e)
+
+-- ---- the report: an answer, and the sums that go with it
+
+module _ (font : List ℕ) (r : Request) {report : DimensionsReport} where
+  pub reported : dimensionsOutcome (report .result) ≡ alignedDimensions (u8g2 font) r → report .steps ≡ sums (u8g2 font) (r .text) (dimensionsOutcome (report .result))
+      → AlignedMeasured font r report
+  reported a s = record { answered = a; summed = s ∙ ap (sums (u8g2 font) (r .text)) a }
+
+  pub refused-there : {e : Error} → report ≡ refusedReport e → refusal e ≡ alignedDimensions (u8g2 font) r → eqb (errorNumber e) 7 ≡ false → AlignedMeasured font r report
+  refused-there is a h = rw is record { answered = a; summed = no-sums (u8g2 font) (r .text) a h }
 
 -- ---- and what each reads off
 

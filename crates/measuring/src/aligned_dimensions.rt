@@ -1,35 +1,34 @@
 // The dimensions of an aligned text, which the public calls read their answers off.
-ghost use mathlib.Core.Path.{_≡_};
-ghost use Rattle.definitions.specs.Font.{u8g2};
-ghost use Rattle.definitions.specs.Calls.{request, dimensionsOutcome};
-ghost use Rattle.measuring.specs.Aligned.{alignedDimensions};
+ghost use Rattle.definitions.specs.Calls.{request};
+ghost use Rattle.measuring.specs.Aligned.{AlignedMeasured};
 use checks::origin::OriginResult;
 use checks::origin::Pen;
 use checks::origin::checked_origin;
 use font_reader::new_from_raw_data;
+use lookup_sums::refused;
 use text_lines::measure_lines;
-use types::results::DimensionsResult;
+use types::results::DimensionsReport;
 use types::results::FontReaderResult;
 use types::style::HorizontalAlignment;
 use types::style::Placement;
 use types::style::VerticalPosition;
 
-// The dimensions of the aligned text, or the refusal.
+// The dimensions of the aligned text, or the refusal, and the steps of its lookups.
 pub fn aligned_dimensions(
     font: &[u8],
     text: &[u8],
     placement: Placement,
     vertical_pos: VerticalPosition,
     horizontal_align: HorizontalAlignment,
-) -> DimensionsResult
-    ensures { λ r. ⌜ dimensionsOutcome r ≡ alignedDimensions (u8g2 (now (font .entry)))
-        (request (now (text .entry)) placement «vertical_pos» «horizontal_align») ⌝ }
+) -> DimensionsReport
+    ensures { λ r. ⌜ AlignedMeasured (now (font .entry))
+        (request (now (text .entry)) placement «vertical_pos» «horizontal_align») r ⌝ }
 {
     match new_from_raw_data(font) {
-        FontReaderResult::Err(error) => DimensionsResult::Err(error),
+        FontReaderResult::Err(error) => refused(error),
         FontReaderResult::Ok(head) => {
             match checked_origin(head.ascent, head.descent, text, placement, vertical_pos) {
-                OriginResult::Err(error) => DimensionsResult::Err(error),
+                OriginResult::Err(error) => refused(error),
                 OriginResult::Ok(origin) => {
                     let pen = Pen {
                         origin,

@@ -2,14 +2,16 @@
 ghost use mathlib.Core.Path.{_≡_};
 ghost use Rattle.definitions.specs.Font.{u8g2};
 ghost use Rattle.definitions.specs.Calls.{request, measureAligned, boundingBoxOutcome};
+ghost use Rattle.definitions.specs.Sums.{sums};
 use crate::aligned_dimensions::aligned_dimensions;
+use types::results::BoundingBoxReport;
 use types::results::BoundingBoxResult;
 use types::results::DimensionsResult;
 use types::style::HorizontalAlignment;
 use types::style::Placement;
 use types::style::VerticalPosition;
 
-// The bounding box of the aligned text at the position, or the refusal. It has no advance
+// The bounding box of the aligned text at the position, or the refusal, and the steps of its lookups. It has no advance
 // (SPECIFICATION, Alignment).
 pub fn get_rendered_dimensions_aligned(
     font: &[u8],
@@ -17,16 +19,26 @@ pub fn get_rendered_dimensions_aligned(
     placement: Placement,
     vertical_pos: VerticalPosition,
     horizontal_align: HorizontalAlignment,
-) -> BoundingBoxResult
-    ensures { λ r. ⌜ boundingBoxOutcome r ≡ measureAligned (u8g2 (now (font .entry)))
+) -> BoundingBoxReport
+    ensures answered { λ r. ⌜ boundingBoxOutcome (r .result) ≡ measureAligned (u8g2 (now (font .entry)))
         (request (now (text .entry)) placement «vertical_pos» «horizontal_align») ⌝ }
+    ensures summed { λ r. ⌜ r .steps ≡ sums (u8g2 (now (font .entry))) (now (text .entry)) (measureAligned
+        (u8g2 (now (font .entry))) (request (now (text .entry)) placement «vertical_pos» «horizontal_align»)) ⌝ }
 {
     let measured = aligned_dimensions(font, text, placement, vertical_pos, horizontal_align);
-    match measured {
-        DimensionsResult::Err(error) => BoundingBoxResult::Err(error),
+    let steps = measured.steps;
+    let result = measured.result;
+    match result {
+        DimensionsResult::Err(error) => BoundingBoxReport {
+            result: BoundingBoxResult::Err(error),
+            steps,
+        },
         DimensionsResult::Ok(dimensions) => {
             let bounding_box = dimensions.bounding_box;
-            BoundingBoxResult::Ok(bounding_box)
+            BoundingBoxReport {
+                result: BoundingBoxResult::Ok(bounding_box),
+                steps,
+            }
         }
     }
 }

@@ -1,8 +1,9 @@
-// What a record says of a code point. A record has a code, a jump and a glyph's data.
+// What a record says of a code point. A record has a code, a jump and a glyph's data. The font's end is compared with `at` and not
+// with a byte after it, so that a loop over records has the end at hand.
 ghost use mathlib.Core.Path.{_≡_};
 ghost use Prim.Native.Nat.{_≤_};
 ghost use lib.Dec.{eqb};
-ghost use lib.ListN.{drop};
+ghost use lib.ListN.{length, drop};
 ghost use Rattle.integers.specs.Integers.{pick};
 ghost use Rattle.definitions.specs.Lookup.{next, last, record8, record16};
 ghost use Rattle.records.specs.Records.{asRecord, recordOf};
@@ -32,10 +33,10 @@ fn jump_to_next(jump: u8) -> Record
 // A record with a code of one byte. Its code counts before its jump, as in the
 // Rust's `retrieve_glyph_data` (SPECIFICATION, Lookup).
 fn read_record8(font: &[u8], at: usize, ch: u16) -> Record
-    requires { ⌜ at ≤ 1048831 ⌝ }
+    requires { ⌜ 23 ≤ length (now font) ⌝ }
     ensures { λ r. ⌜ asRecord r ≡ record8 ch (drop at (now (font .entry))) ⌝ }
 {
-    if font.len() <= at + 1 {
+    if font.len() - 1 <= at {
         return Record::Cut;
     }
     if font[at] as u16 == ch {
@@ -46,17 +47,17 @@ fn read_record8(font: &[u8], at: usize, ch: u16) -> Record
 
 // A record with a code of two bytes. Code 0 ends the chain, also where its jump is missing.
 fn read_record16(font: &[u8], at: usize, ch: u16) -> Record
-    requires { ⌜ at ≤ 1048831 ⌝ }
+    requires { ⌜ 23 ≤ length (now font) ⌝ }
     ensures { λ r. ⌜ asRecord r ≡ record16 ch (drop at (now (font .entry))) ⌝ }
 {
-    if font.len() < at + 2 {
+    if font.len() - 2 < at {
         return Record::Cut;
     }
     let code = u16_at(font, at);
     if code == 0 {
         return Record::Last;
     }
-    if font.len() == at + 2 {
+    if font.len() - 2 == at {
         return Record::Cut;
     }
     if code == ch {
@@ -67,7 +68,7 @@ fn read_record16(font: &[u8], at: usize, ch: u16) -> Record
 
 // A record whose code has char_width bytes, 1 or 2.
 pub fn read_record(font: &[u8], at: usize, ch: u16, char_width: usize) -> Record
-    requires { ⌜ at ≤ 1048831 ⌝ }
+    requires { ⌜ 23 ≤ length (now font) ⌝ }
     ensures { λ r. ⌜ asRecord r ≡ recordOf «char_width» ch (drop at (now (font .entry))) ⌝ }
 {
     if char_width == 1 {

@@ -1,11 +1,16 @@
--- The loop that measures a text line by line. Assumes nothing.
-use Rattle.integers.proofs.Prelude.{_≡_, refl, List, ℕ, _+_, _≤_, arith, length, drop}
-use Rattle.definitions.specs.Vocabulary.{Point, GlyphReader, HorizontalAlignment}
-use Rattle.definitions.specs.Refusals.{success, refused}
+-- The loop that measures a text line by line, and adds up the steps of its lookups. Assumes nothing.
+use Rattle.integers.proofs.Prelude.{_≡_, refl, Bool, List, ℕ, _+_, _≤_, arith, eqb, length, drop}
+use Rattle.integers.specs.Integers.{pick}
+use Rattle.definitions.specs.Vocabulary.{FontReader, Point, RenderedDimensions, GlyphReader, LookupSteps, HorizontalAlignment}
+use Rattle.definitions.specs.Refusals.{Outcome, success, refused}
+use Rattle.definitions.specs.Header.{Opened}
+use Rattle.definitions.specs.Lookup.{noSteps}
 use Rattle.definitions.specs.Utf8.{character, firstCharacter, decode, codePoints}
 use Rattle.definitions.specs.Text.{Answer, shows}
 use Rattle.definitions.specs.TextSteps.{LineState, lineStep, measureLinesFrom, startLines, linesDimensions, measureLines}
-use Rattle.definitions.specs.Calls.{origin}
+use Rattle.definitions.specs.Font.{u8g2, measuredAnswer}
+use Rattle.definitions.specs.Sums.{plusSteps, brings, sums}
+use Rattle.definitions.proofs.LetterRefusals.{measured-blames}
 use Rattle.definitions.proofs.TextLaws.{lines-next, lines-stop}
 use Rattle.definitions.proofs.Utf8Laws.{position, character-count}
 use Rattle.checks.specs.Origins.{Checked}
@@ -13,7 +18,8 @@ use Rattle.layout.specs.Ranges.{LineHasRoom}
 use Rattle.layout.proofs.RangeLaws.{Small, advanced-start}
 use Rattle.text_lines.proofs.LinesLaws.{InLines, line-has-room, in-lines-next}
 use Rattle.layout.proofs.LoopLaws.{Reached, reached-start, reached-end, reached-next, reached-stops}
-use Rattle.layout.proofs.MeasureLaws.{checked-characters}
+use Rattle.layout.proofs.MeasureLaws.{checked-characters, measured-small}
+use Rattle.layout.proofs.SumLaws.{Summed, summed-next, summed-stops, line-goes-on, line-stops}
 
 -- ---- the loop
 
@@ -52,3 +58,26 @@ module _ {answers : ℕ → Answer} {a : HorizontalAlignment} {lineHeight : ℕ}
       pub aligned-stops : {m e : ℕ} → lineStep answers a lineHeight origin s c ≡ refused m e
           → refused m e ≡ measureLines answers a lineHeight origin (codePoints (decode text))
       aligned-stops e = rw (reached-stops (r .reached) first (λ cs. lines-stop answers a lineHeight origin s c cs e))
+
+-- ---- .. with the sums
+
+pub record MeasuredTo (font : List ℕ) (skip : Bool) (a : HorizontalAlignment) (lineHeight : ℕ) (origin : Point) (text : List ℕ) (s : LineState) (sum : LookupSteps) (at : ℕ) : Type 0 where
+  pub aligned : Aligned (measuredAnswer (u8g2 font) skip) a lineHeight origin text s at
+  pub summed : Summed font (measuredAnswer (u8g2 font) skip) text sum at
+
+module _ {font : List ℕ} {skip : Bool} {a : HorizontalAlignment} {lineHeight : ℕ} {origin : Point} {text : List ℕ} (k : Checked text origin lineHeight)
+    {s : LineState} {sum : LookupSteps} {at : ℕ} (r : MeasuredTo font skip a lineHeight origin text s sum at)
+    {c n : ℕ} (first : firstCharacter (drop at text) ≡ character c n) {q : LookupSteps} (brought : q ≡ brings (u8g2 font .steps) c)
+    {sum′ : LookupSteps} (sums-up : sum′ ≡ plusSteps sum q) where
+  pub measured-next : {head : FontReader} → Opened font head → {s′ : LineState} → lineStep (measuredAnswer (u8g2 font) skip) a lineHeight origin s c ≡ success s′
+      → MeasuredTo font skip a lineHeight origin text s′ sum′ (at + n)
+  measured-next o e = record {
+    aligned = aligned-next k (r .aligned) first (measured-small o skip) e;
+    summed = summed-next (r .summed) first brought sums-up (line-goes-on (measuredAnswer (u8g2 font) skip) a lineHeight origin s c e);
+  }
+
+  pub sum-stops : {m e : ℕ} → lineStep (measuredAnswer (u8g2 font) skip) a lineHeight origin s c ≡ refused m e
+      → {o : Outcome RenderedDimensions} → o ≡ refused m e → pick (eqb m 7) sum′ noSteps ≡ sums (u8g2 font) text o
+  sum-stops e f =
+      let stop = line-stops (measuredAnswer (u8g2 font) skip) a lineHeight origin s c e in
+      summed-stops (r .summed) first brought sums-up f stop (measured-blames font skip c (stop .1))

@@ -1,10 +1,8 @@
 // Measuring a text line by line. A line is measured from its own start, since how far it is moved is known only at its end.
 ghost use mathlib.Core.Path.{_≡_};
 ghost use Prim.Native.Nat.{_≤_};
-ghost use Rattle.definitions.specs.TextSteps.{start, movedBox, withLine, nextLine, lineStep, linesDimensions, measureLines};
-ghost use Rattle.definitions.specs.Font.{u8g2, measuredAnswer};
-ghost use Rattle.definitions.specs.Calls.{codePointsOf, dimensionsOutcome};
-ghost use Rattle.text_lines.specs.Lines.{asState, stateOutcome, Movable, CanAdd};
+ghost use Rattle.definitions.specs.TextSteps.{start, movedBox, withLine, nextLine, linesDimensions};
+ghost use Rattle.text_lines.specs.Lines.{asState, Movable, CanAdd, CharAdded, TextMeasured};
 ghost use Rattle.checks.specs.Origins.{CheckedText};
 ghost use Rattle.layout.specs.Ranges.{LineHasRoom};
 use answers::try_retrieve_glyph_data;
@@ -12,13 +10,18 @@ use checks::origin::Pen;
 use layout::render_actions::compute_horizontal_offset;
 use layout::steps::NEWLINE;
 use layout::steps::add_answer;
+use lookup_sums::add_steps;
+use lookup_sums::no_steps;
+use lookup_sums::sum_with;
 use types::error::Error;
 use types::font_reader::FontReader;
 use types::geometry::BoundingBox;
 use types::geometry::Point;
 use types::geometry::Rectangle;
 use types::geometry::RenderedDimensions;
+use types::results::DimensionsReport;
 use types::results::DimensionsResult;
+use types::steps::LookupSteps;
 use types::style::HorizontalAlignment;
 use utf8::next_char;
 use utf8_sequences::NextChar;
@@ -34,6 +37,12 @@ pub struct LineState {
 pub enum LineResult {
     Ok(LineState),
     Err(Error),
+}
+
+// .. with the steps of a character's lookup
+pub struct LineReport {
+    pub result: LineResult,
+    pub steps: LookupSteps,
 }
 
 fn empty_line() -> RenderedDimensions
@@ -101,28 +110,36 @@ fn add_char(
     state: LineState,
     horizontal_align: HorizontalAlignment,
     pen: Pen,
-) -> LineResult
+) -> LineReport
     requires { ⌜ CanAdd (now font) head state pen ⌝ }
-    ensures { λ r. ⌜ stateOutcome r ≡ lineStep (measuredAnswer (u8g2 (now (font .entry))) (pen .«ignore_unknown_chars»))
-        «horizontal_align» (pen .«line_height») (pen .origin) (asState state) ch ⌝ }
+    ensures { λ r. ⌜ CharAdded (now (font .entry)) ch «horizontal_align» pen state r ⌝ }
 {
     if ch == NEWLINE {
         let origin = pen.origin;
         let next = add_newline(state, horizontal_align, pen.line_height, origin);
-        return LineResult::Ok(next);
+        return LineReport {
+            result: LineResult::Ok(next),
+            steps: no_steps(),
+        };
     }
-    let answer = try_retrieve_glyph_data(font, head, ch, pen.ignore_unknown_chars);
+    let found = try_retrieve_glyph_data(font, head, ch, pen.ignore_unknown_chars);
+    let answer = found.answer;
+    let steps = found.steps;
     let line_so_far = state.line;
     let bounding_box = state.bounding_box;
     match add_answer(line_so_far, Point { x: 0, y: 0 }, answer) {
-        DimensionsResult::Err(error) => LineResult::Err(error),
-        DimensionsResult::Ok(line) => {
-            LineResult::Ok(LineState {
+        DimensionsResult::Err(error) => LineReport {
+            result: LineResult::Err(error),
+            steps,
+        },
+        DimensionsResult::Ok(line) => LineReport {
+            result: LineResult::Ok(LineState {
                 line,
                 advance_y: state.advance_y,
                 bounding_box,
-            })
-        }
+            }),
+            steps,
+        },
     }
 }
 
@@ -146,41 +163,53 @@ fn end_text(
     }
 }
 
-// The letters of a checked text, one after the other. The first that stops the text is the answer.
+// The letters of a checked text, one after the other, and their steps added up. The first that stops the text is the answer.
 pub fn measure_lines(
     font: &[u8],
     head: FontReader,
     text: &[u8],
     horizontal_align: HorizontalAlignment,
     pen: Pen,
-) -> DimensionsResult
+) -> DimensionsReport
     requires { ⌜ CheckedText (now font) head (now text) pen ⌝ }
-    ensures { λ r. ⌜ dimensionsOutcome r ≡ measureLines (measuredAnswer (u8g2 (now (font .entry)))
-        (pen .«ignore_unknown_chars»)) «horizontal_align» (pen .«line_height») (pen .origin)
-        (codePointsOf (now (text .entry))) ⌝ }
+    ensures { λ r. ⌜ TextMeasured (now (font .entry)) (now (text .entry)) «horizontal_align» pen r ⌝ }
 {
     let mut state = LineState {
         line: empty_line(),
         advance_y: 0,
         bounding_box: BoundingBox::None,
     };
+    let mut steps = no_steps();
     let mut at: usize = 0;
     while at < text.len() {
         let next = next_char(text, at);
         let NextChar::Char(ch, len) = next else {
-            return DimensionsResult::Err(Error::TextEncoding);
+            return DimensionsReport {
+                result: DimensionsResult::Err(Error::TextEncoding),
+                steps,
+            };
         };
         let added = add_char(font, head, ch, state, horizontal_align, pen);
-        match added {
+        let char_steps = added.steps;
+        let sum = add_steps(steps, char_steps);
+        let result = added.result;
+        match result {
             LineResult::Err(error) => {
-                return DimensionsResult::Err(error);
+                return DimensionsReport {
+                    result: DimensionsResult::Err(error),
+                    steps: sum_with(error, sum),
+                };
             }
-            LineResult::Ok(sum) => {
-                state = sum;
+            LineResult::Ok(longer) => {
+                state = longer;
+                steps = sum;
             }
         }
         at += len;
     }
     let origin = pen.origin;
-    DimensionsResult::Ok(end_text(state, horizontal_align, origin))
+    DimensionsReport {
+        result: DimensionsResult::Ok(end_text(state, horizontal_align, origin)),
+        steps,
+    }
 }

@@ -1,10 +1,11 @@
-// What the calls answer: a value, or the refusal.
+// What the calls answer: a value, or the refusal; with a text, the steps of its lookups beside either.
 use crate::error::Error;
 use crate::font_reader::FontReader;
 use crate::geometry::BoundingBox;
 use crate::geometry::Rectangle;
 use crate::geometry::RenderedDimensions;
 use crate::glyph_reader::GlyphReader;
+use crate::steps::LookupSteps;
 
 pub enum FontReaderResult {
     Ok(FontReader),
@@ -22,12 +23,28 @@ pub enum GlyphResult {
     Err(Error),
 }
 
+// .. and by how many steps.
+pub struct GlyphLookup {
+    pub result: GlyphResult,
+    pub steps: LookupSteps,
+}
+
 pub enum DimensionsResult {
     Ok(RenderedDimensions),
     Err(Error),
 }
 
+pub struct DimensionsReport {
+    pub result: DimensionsResult,
+    pub steps: LookupSteps,
+}
+
 pub enum BoundingBoxResult {
     Ok(BoundingBox),
     Err(Error),
+}
+
+pub struct BoundingBoxReport {
+    pub result: BoundingBoxResult,
+    pub steps: LookupSteps,
 }

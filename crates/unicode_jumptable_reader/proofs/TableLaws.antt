@@ -1,5 +1,5 @@
 -- One step of the walk over the jump table, in the terms of the code: what a test shows of the definition. Assumes nothing.
-use Rattle.integers.proofs.Prelude.{_≡_, _∙_, List, ℕ, _+_, _*_, _≤_, _<_, arith, length, drop, length-drop, lt-ltb, le-ltb}
+use Rattle.integers.proofs.Prelude.{_≡_, _∙_, List, ℕ, suc, _+_, _*_, _≤_, _<_, arith, length, drop, length-drop, lt-ltb, le-ltb}
 use Rattle.definitions.specs.Header.{bigEndian16}
 use Rattle.definitions.specs.Lookup.{sum, none, jumpTable}
 use Rattle.definitions.proofs.LookupLaws.{table-at, table-ends}
@@ -8,16 +8,18 @@ use Rattle.definitions.proofs.LookupLaws.{table-at, table-ends}
 pub record SummedTo (font : List ℕ) (start c total at : ℕ) : Type 0 where
   pub within : at ≤ length font
   pub small : total ≤ 65535 * at
-  pub same : jumpTable c 0 (drop start font) ≡ jumpTable c total (drop at font)
+  pub entries : ℕ
+  pub read : at ≡ start + 4 * entries
+  pub same : jumpTable c 0 0 (drop start font) ≡ jumpTable c total entries (drop at font)
 
-module _ (c total : ℕ) (font : List ℕ) (at : ℕ) where
-  pub table-end : length font < at + 4 → jumpTable c total (drop at font) ≡ none
-  table-end h = table-ends c total (drop at font) (omega (arith, length-drop at font))
+module _ (c total n : ℕ) (font : List ℕ) (at : ℕ) where
+  pub table-end : length font < at + 4 → jumpTable c total n (drop at font) ≡ none n
+  table-end h = table-ends c total n (drop at font) (omega (arith, length-drop at font))
 
   module _ (h : at + 4 ≤ length font) where
-    pub table-found : c ≤ bigEndian16 font (at + 2) → jumpTable c total (drop at font) ≡ sum (total + bigEndian16 font at)
-    table-found p = table-at c total font at h ∙ simp (le-ltb (bigEndian16 font (at + 2)) c p)
+    pub table-found : c ≤ bigEndian16 font (at + 2) → jumpTable c total n (drop at font) ≡ sum (total + bigEndian16 font at) (suc n)
+    table-found p = table-at c total n font at h ∙ simp (le-ltb (bigEndian16 font (at + 2)) c p)
 
     pub table-next : bigEndian16 font (at + 2) < c
-        → jumpTable c total (drop at font) ≡ jumpTable c (total + bigEndian16 font at) (drop (at + 4) font)
-    table-next p = table-at c total font at h ∙ simp (lt-ltb (bigEndian16 font (at + 2)) c p)
+        → jumpTable c total n (drop at font) ≡ jumpTable c (total + bigEndian16 font at) (suc n) (drop (at + 4) font)
+    table-next p = table-at c total n font at h ∙ simp (lt-ltb (bigEndian16 font (at + 2)) c p)

@@ -4,5 +4,5 @@ use Rattle.unicode_jumptable_reader.specs.declared.JumpOffset.{JumpOffse
 use Rattle.unicode_jumptable_reader.specs.declared.JumpOffset.the-variants.{Some, None}
 
 abbrev pub distance : JumpOffset → Distance
-distance (Some d) = sum d
-distance None = none
+distance (Some d n) = sum d n
+distance (None n) = none n

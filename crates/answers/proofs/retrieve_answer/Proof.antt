@@ -5,7 +5,10 @@ use Rattle.answers.proofs.retrieve_answer.Statement.{statement}
 use Rattle.answers.proofs.retrieve_answer.Tie as tie
 
 returns : tie.Need-returns
-returns c = c .answer-of .ensures ∙ ap (answer (c .before .before .before .args .ignore-unknown-chars)) (c .before .retrieve-whole-glyph .ensures)
+returns c =
+    let l = c .before .before .retrieve-whole-glyph .ensures in
+    let skip = c .before .before .before .before .args .ignore-unknown-chars in
+    record { is = c .answer-of .ensures ∙ ap (answer skip) (l .answered); counted = l .counted }
 
 pub retrieve-answer-spec : {M : Type 1} → statement M
 retrieve-answer-spec =

@@ -1,6 +1,6 @@
 -- Each way out is a law of the definition by the range of the code point (LookupLaws). Assumes nothing.
 use Rattle.integers.proofs.Prelude.{sym, ap, _∙_, ℕ, arith, needs}
-use Rattle.definitions.specs.Lookup.{record8, chain}
+use Rattle.definitions.specs.Lookup.{record8, noSteps, chain}
 use Rattle.definitions.proofs.LookupLaws.{search-above, search-chain, search-table}
 use Rattle.glyph_searcher.proofs.search.Statement.{statement}
 use Rattle.glyph_searcher.proofs.search.Tie as tie
@@ -15,14 +15,16 @@ returns-2 c =
     c .search-unicode .ensures ∙ sym (search-table (a .font .now) (a .ch) (a .head) (s .pre .read) (omega arith) (omega arith))
 
 search-chain-requires : tie.Need-search-chain-requires
-search-chain-requires c κs = let s = c .before .before .before .before in (s .pre .most, omega (arith, c .chain-start .ensures .1))
+search-chain-requires c κs =
+    let s = c .before .before .before .before in
+    record { least = s .pre .least; most = s .pre .most; begins = omega (arith, c .chain-start .ensures .1) }
 
 returns-3 : tie.Need-returns-3
 returns-3 c =
     let s = c .before .before .before .before .before in
     let a = s .args in
     c .search-chain .ensures
-    ∙ ap (λ (at : ℕ). chain (record8 (a .ch)) 0 at (a .font .now)) (c .before .chain-start .ensures .0)
+    ∙ ap (λ (at : ℕ). chain (record8 (a .ch)) noSteps 0 at (a .font .now)) (c .before .chain-start .ensures .0)
     ∙ sym (search-chain (a .font .now) (a .ch) (a .head) (s .pre .read) (omega arith))
 
 pub search-spec : {M : Type 1} → statement M

@@ -1,92 +1,110 @@
 -- The loop keeps that the rest of the text leads from the lines so far to where the whole text leads from its start
--- (`Aligned`), and that every number lies near 0. At the end the last line is still to be moved.
-use Rattle.integers.proofs.Prelude.{_≡_, sym, ap, _∙_, _-_, arith, length, drop, needs}
+-- (`Aligned`), that every number lies near 0, and that the steps so far are added up (`Summed`). At the end the last line is
+-- still to be moved.
+use Rattle.integers.proofs.Prelude.{_≡_, refl, sym, ap, _∙_, _-_, arith, length, drop, needs}
 use Rattle.utf8_sequences.specs.Sequences.{asCharacter}
 use Rattle.definitions.specs.Refusals.{success}
 use Rattle.definitions.specs.Utf8.{character, firstCharacter}
-use Rattle.definitions.specs.Font.{u8g2, measuredAnswer}
 use Rattle.definitions.proofs.Utf8Laws.{Position, position, none-malformed}
 use Rattle.text_lines.specs.Lines.{asState, stateOutcome}
-use Rattle.layout.proofs.MeasureLaws.{measured-small}
-use Rattle.text_lines.proofs.LoopLaws.{Aligned, aligned-start, aligned-room, aligned-end, aligned-next, aligned-stops}
+use Rattle.layout.proofs.MeasureLaws.{checked-characters}
+use Rattle.layout.proofs.SumLaws.{summed-start, summed-end, summed-fits}
+use Rattle.text_lines.proofs.LoopLaws.{aligned-start, aligned-room, aligned-end, aligned-stops, MeasuredTo, measured-next, sum-stops}
 use Rattle.text_lines.proofs.measure_lines.Statement.{
   statement,
 }
 use Rattle.text_lines.proofs.measure_lines.Tie as tie
 
 abbrev Inv-loop : tie.InvT-loop
-Inv-loop font head text horizontal-align pen state₀ at₀ state at =
-    Aligned (measuredAnswer (u8g2 font) (pen .«ignore_unknown_chars»)) horizontal-align (pen .«line_height») (pen .origin) text (asState state) at
+Inv-loop font head text horizontal-align pen state₀ steps₀ at₀ state steps at =
+    MeasuredTo font (pen .«ignore_unknown_chars») horizontal-align (pen .«line_height») (pen .origin) text (asState state) steps at
 
 abbrev μ-loop : tie.MeasureT-loop
-μ-loop font head text horizontal-align pen state₀ at₀ state at = length text - at
+μ-loop font head text horizontal-align pen state₀ steps₀ at₀ state steps at = length text - at
 
 -- the character that was read
-first : (c : tie.After-known-told Inv-loop μ-loop)
-    → firstCharacter (drop (c .before .before .before .before .before .loop .at) (c .before .before .before .before .before .before .before .before .before .args .text .now))
-    ≡ character (c .before .next .given .0 .0) (c .before .next .given .0 .1 .0)
-first c = sym (c .before .before .before .next-char .ensures) ∙ ap asCharacter (c .before .next .given .1)
+module _ (c : tie.After-known-told Inv-loop μ-loop) where
+  abbrev turn : tie.At-loop Inv-loop μ-loop
+  turn = c .before .before .before .before .before
 
-here : (c : tie.After-known-told3 Inv-loop μ-loop)
-    → Position
-    (c .before .before .before .before .before .before .before .before .before .before .before .before .before .args .text .now)
-    (c .before .before .before .before .before .before .before .before .before .loop .at)
-    (c .before .before .before .before .before .next .given .0 .0)
-    (c .before .before .before .before .before .next .given .0 .1 .0)
-here c = position _ _ (first (c .before .before .before .before))
+  abbrev entry : tie.Start Inv-loop μ-loop
+  entry = turn .before .before .before .before .before
+
+  first : firstCharacter (drop (turn .loop .at) (entry .args .text .now)) ≡ character (c .before .next .given .0 .0) (c .before .next .given .0 .1 .0)
+  first = sym (c .before .before .before .next-char .ensures) ∙ ap asCharacter (c .before .next .given .1)
+
+  here : Position (entry .args .text .now) (turn .loop .at) (c .before .next .given .0 .0) (c .before .next .given .0 .1 .0)
+  here = position _ _ first
 
 loop-holds : tie.Need-loop-holds Inv-loop μ-loop
-loop-holds c = simp (c .empty-line .ensures) (aligned-start (c .before .before .before .pre .checked))
-
-enum-told : tie.Need-enum-told Inv-loop μ-loop
-enum-told c = search needs
+loop-holds c =
+    let k = c .before .before .before .before .pre .checked in
+    simp (c .before .empty-line .ensures, c .no-steps .ensures) record { aligned = aligned-start k; summed = summed-start (checked-characters k) }
 
 -- the text was checked, so this is never reached
 returns : tie.Need-returns Inv-loop μ-loop
 returns c =
     let l = c .before .before .before .before .loop in
-    absurd (none-malformed _ (l .at) (c .before .before .before .loop-test .taken) (l .inv .reached .decoded) (sym (c .before .before .next-char .ensures) ∙ ap asCharacter (c .enum-told .given .1)))
+    absurd (none-malformed _ (l .at) (c .before .before .before .loop-test .taken) (l .inv .aligned .reached .decoded)
+    (sym (c .before .before .next-char .ensures) ∙ ap asCharacter (c .enum-told .given .1)))
 
 add-char-requires : tie.Need-add-char-requires Inv-loop μ-loop
 add-char-requires c κs =
-    let l = c .before .before .before .before .before in
-    let s = l .before .before .before .before in
-    record { opened = s .pre .opened; room = aligned-room (s .pre .checked) (l .loop .inv); line = s .pre .checked .line }
+    let s = entry c in
+    record { opened = s .pre .opened; room = aligned-room (s .pre .checked) (turn c .loop .inv .aligned); line = s .pre .checked .line }
+
+add-steps-requires : tie.Need-add-steps-requires Inv-loop μ-loop
+add-steps-requires c κs =
+    let k = c .before .before in
+    let s = entry k in
+    summed-fits (turn k .loop .inv .summed) (first k) (c .before .add-char .ensures .brought) (s .pre .opened .least) (s .pre .opened .most) (s .pre .checked .short)
 
 returns-2 : tie.Need-returns-2 Inv-loop μ-loop
 returns-2 c =
-    let k = c .before .before .before .before in
-    let l = k .before .before .before .before .before in
-    aligned-stops (l .before .before .before .before .pre .checked) (l .loop .inv) (first k)
-    (sym (c .before .before .before .add-char .ensures) ∙ ap stateOutcome (c .before .added .given .1))
+    let sum = c .before .before .before .before in
+    let k = sum .before .before .before in
+    let added = sum .before .before .add-char .ensures in
+    let stops = sym (added .added) ∙ ap stateOutcome (c .before .before .result .given .1) in
+    record {
+      measured = aligned-stops (entry k .pre .checked) (turn k .loop .inv .aligned) (first k) stops;
+      summed = c .sum-with .ensures
+          ∙ sum-stops (entry k .pre .checked) (turn k .loop .inv) (first k) (added .brought) (sum .add-steps .ensures) stops refl;
+    }
 
 add-at : tie.Need-add-at Inv-loop μ-loop
 add-at c =
-    let p = here c in
-    omega (arith, c .before .before .before .before .before .before .before .before .before .before .before .before .before .pre .checked .short)
+    let k = c .before .before .before .before .before .before in
+    let p = here k in
+    omega (arith, entry k .pre .checked .short)
 
 loop-less : tie.Need-loop-less Inv-loop μ-loop
-loop-less c = let p = here c in omega arith
+loop-less c = let p = here (c .before .before .before .before .before .before) in omega arith
 
 loop-again : tie.Need-loop-again Inv-loop μ-loop
 loop-again c =
-    let k = c .before .before .before .before in
-    let l = k .before .before .before .before .before in
-    let s = l .before .before .before .before in
-    aligned-next (s .pre .checked) (l .loop .inv) (first k) (measured-small (s .pre .opened) _)
-    (sym (c .before .before .before .add-char .ensures) ∙ ap stateOutcome (c .before .added2 .given .1))
+    let sum = c .before .before .before in
+    let k = sum .before .before .before in
+    let s = entry k in
+    let added = sum .before .before .add-char .ensures in
+    let goes = sym (added .added) ∙ ap stateOutcome (c .before .result2 .given .1) in
+    measured-next (s .pre .checked) (turn k .loop .inv) (first k) (added .brought) (sum .add-steps .ensures) (s .pre .opened) goes
 
 end-text-requires : tie.Need-end-text-requires Inv-loop μ-loop
-end-text-requires c κs = let l = c .before .before in aligned-room (l .before .before .before .before .pre .checked) (l .loop .inv)
+end-text-requires c κs = let l = c .before .before in aligned-room (l .before .before .before .before .before .pre .checked) (l .loop .inv .aligned)
 
 returns-3 : tie.Need-returns-3 Inv-loop μ-loop
 returns-3 c =
     let l = c .before .before .before in
-    ap success (c .end-text .ensures)
-    ∙ aligned-end (l .before .before .before .before .pre .checked) (l .loop .inv) (c .before .before .loop-test .left)
+    let over = c .before .before .loop-test .left in
+    record {
+      measured = ap success (c .end-text .ensures)
+          ∙ aligned-end (l .before .before .before .before .before .pre .checked) (l .loop .inv .aligned) over;
+      summed = summed-end (l .loop .inv .summed) over;
+    }
 
 pub measure-lines-spec : {M : Type 1} → statement M
 measure-lines-spec =
     tie.close
-    (tie.spec Inv-loop μ-loop (λ c κs. search needs) loop-holds (λ c κs. search needs) (λ c. search needs) enum-told returns
-    add-char-requires (λ c. search needs) returns-2 (λ c. search needs) add-at loop-less loop-again end-text-requires returns-3)
+    (tie.spec Inv-loop μ-loop (λ c κs. search needs) (λ c κs. search needs) loop-holds (λ c κs. search needs) (λ c. search needs)
+    (λ c. search needs) returns add-char-requires add-steps-requires (λ c. search needs) (λ c κs. search needs) returns-2
+    (λ c. search needs) add-at loop-less loop-again end-text-requires returns-3)

@@ -4,10 +4,11 @@ use Rattle.definitions.specs.Vocabulary.{FontReader}
 use Rattle.definitions.specs.Refusals.{success, errorNumber, codePoint}
 use Rattle.definitions.specs.Calls.{openFont, Request, request, fontReaderOutcome}
 use Rattle.definitions.proofs.OpenedLaws.{opened, open-refused}
+use Rattle.definitions.proofs.SumsLaws.{open-early}
 use Rattle.checks.specs.Origins.{originOutcome}
-use Rattle.checks.proofs.OriginLaws.{tested, request-checked}
+use Rattle.checks.proofs.OriginLaws.{tested, request-checked, tested-early}
 use Rattle.measuring.specs.Aligned.{alignedDimensions}
-use Rattle.measuring.proofs.AlignedLaws.{aligned-is, aligned-refused}
+use Rattle.measuring.proofs.AlignedLaws.{aligned-is, aligned-refused, reported, refused-there}
 use Rattle.measuring.proofs.aligned_dimensions.aligned_dimensions.Statement.{statement}
 use Rattle.measuring.proofs.aligned_dimensions.aligned_dimensions.Tie as tie
 
@@ -49,24 +50,25 @@ measure-lines-requires c κs =
 returns : tie.Need-returns
 unfolding alignedDimensions
 returns c =
-    let e = c .before .error .given .0 .0 in
-    sym
-    (open-refused _ _ (errorNumber e) (codePoint e)
-    (sym (c .before .before .before .new-from-raw-data .ensures) ∙ ap fontReaderOutcome (c .before .error .given .1)))
+    let e = c .before .before .error .given .0 .0 in
+    let off = sym (c .before .before .before .before .new-from-raw-data .ensures) ∙ ap fontReaderOutcome (c .before .before .error .given .1) in
+    refused-there _ _ (c .refused .ensures) (sym (open-refused _ _ (errorNumber e) (codePoint e) off)) (open-early _ off)
 
 returns-2 : tie.Need-returns-2
 returns-2 c =
-    let k = c .before .before .before .before .before .before in
-    aligned-refused _ (opens k) (asked k)
-    (sym (simp (toZ-ofZ, ascent-fits k, descent-fits k) at (c .before .before .before .checked-origin .ensures)) ∙ ap originOutcome (c .before .error2 .given .1))
+    let k = c .before .before .before .before .before .before .before in
+    let checked = c .before .before .before .before .checked-origin in
+    let off = sym (simp (toZ-ofZ, ascent-fits k, descent-fits k) at (checked .ensures)) ∙ ap originOutcome (c .before .before .error2 .given .1) in
+    refused-there _ _ (c .refused2 .ensures) (aligned-refused _ (opens k) (asked k) off) (tested-early _ (opens k) (asked k) off)
 
 returns-3 : tie.Need-returns-3
 returns-3 c =
     let k = font-known (c .before) in
-    c .measure-lines .ensures ∙ aligned-is _ (opens k) (asked k) (passes (c .before))
+    let m = c .measure-lines .ensures in
+    reported _ (asked k) (m .measured ∙ aligned-is _ (opens k) (asked k) (passes (c .before))) (m .summed)
 
 pub aligned-dimensions-spec : {M : Type 1} → statement M
 aligned-dimensions-spec =
     tie.close
-    (tie.spec (λ c κs. search needs) (λ c. search needs) (λ c. search needs) (λ c κs. search needs) (λ c. search needs)
-    (λ c. search needs) measure-lines-requires returns returns-2 returns-3)
+    (tie.spec (λ c κs. search needs) (λ c. search needs) (λ c κs. search needs) (λ c. search needs) (λ c κs. search needs)
+    (λ c. search needs) (λ c κs. search needs) (λ c. search needs) measure-lines-requires returns returns-2 returns-3)
