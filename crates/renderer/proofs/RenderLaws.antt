@@ -1,7 +1,10 @@
--- Drawing a text: the letters, the loop over them, and what the causes leave of a call. Assumes nothing.
-use Rattle.integers.proofs.Prelude.{_≡_, refl, sym, ap, _∙_, Bool, true, false, List, [], _∷_, _++_, ℕ, _+_, _≤_, length, drop}
-use Rattle.definitions.specs.Vocabulary.{FontReader, Framebuffer, Point, RenderedDimensions, GlyphReader, FontColor}
-use Rattle.definitions.specs.Refusals.{Outcome, success, refused, Cause}
+-- Drawing a text: the letters, the loop over them, their sums, and what the causes leave of a call. Assumes nothing.
+use Rattle.integers.proofs.Prelude.{_≡_, refl, sym, ap, _∙_, Bool, true, false, List, [], _∷_, _++_, ℕ, _+_, _≤_, eqb, length, drop}
+use Rattle.integers.specs.Integers.{pick}
+use Rattle.definitions.specs.Vocabulary.{FontReader, Framebuffer, Point, RenderedDimensions, GlyphReader, LookupSteps, FontColor, Error}
+use Rattle.types.specs.declared.results.DimensionsReport.{DimensionsReport}
+use Rattle.definitions.specs.Refusals.{Outcome, success, refused, errorNumber, refusal, Cause}
+use Rattle.definitions.specs.Lookup.{noSteps}
 use Rattle.definitions.specs.Header.{header, fontCauses, Opened}
 use Rattle.definitions.specs.Utf8.{character, firstCharacter, decode, codePoints}
 use Rattle.definitions.specs.Text.{Answer, shows, dimensions}
@@ -10,7 +13,10 @@ use Rattle.definitions.specs.Font.{u8g2, drawnAnswer, pixelsOf}
 use Rattle.definitions.specs.Picture.{textPicture}
 use Rattle.definitions.specs.Framebuffer.{shown, framebufferCause}
 use Rattle.definitions.specs.Limits.{textCause, positionCause, backgroundCause}
-use Rattle.definitions.specs.Calls.{openFont, Request, codePointsOf, origin, drawnText, drawCauses, draw, drawBuffer}
+use Rattle.definitions.specs.Calls.{openFont, Request, codePointsOf, origin, drawnText, drawCauses, draw, drawBuffer, dimensionsOutcome}
+use Rattle.definitions.specs.Sums.{plusSteps, brings, sums}
+use Rattle.definitions.proofs.SumsLaws.{no-sums}
+use Rattle.definitions.proofs.LetterRefusals.{drawn-blames}
 use Rattle.definitions.proofs.OpenedLaws.{passes-font}
 use Rattle.definitions.proofs.ComesLaws.{Comes, comes-none, comes-off, comes-on, comes-passed, comes-stopped}
 use Rattle.definitions.proofs.RefusalLaws.{succeeded}
@@ -23,6 +29,8 @@ use Rattle.checks.proofs.OriginLaws.{tested, origin-is}
 use Rattle.layout.proofs.RangeLaws.{Small, in-range-small}
 use Rattle.layout.proofs.LoopLaws.{reached-start, reached-last, reached-next}
 use Rattle.layout.proofs.MeasureLaws.{Measured, measured-start, measured-next}
+use Rattle.layout.proofs.SumLaws.{Summed, summed-next, summed-stops, step-goes-on, step-stops}
+use Rattle.lookup_sums.specs.Reports.{refusedReport}
 
 -- ---- a letter
 
@@ -78,12 +86,41 @@ module _ (width : ℕ) (color : FontColor) (pixelsOf : GlyphReader → List ℕ)
         unfolding drawFrom
         drawn-stops p s = s ∙ sym (here ∙ rw p)
 
+-- ---- .. with the sums
+
+module _ {font : List ℕ} (skip : Bool) {text : List ℕ} {sum : LookupSteps} {at : ℕ} (s : Summed font (drawnAnswer (u8g2 font) skip) text sum at)
+    {c n : ℕ} (first : firstCharacter (drop at text) ≡ character c n) {q : LookupSteps} (brought : q ≡ brings (u8g2 font .steps) c)
+    {sum′ : LookupSteps} (sums-up : sum′ ≡ plusSteps sum q) (lineHeight : ℕ) (origin : Point) (d : RenderedDimensions) where
+  pub sum-next : {d′ : RenderedDimensions} → step (drawnAnswer (u8g2 font) skip) lineHeight origin d c ≡ success d′ → Summed font (drawnAnswer (u8g2 font) skip) text sum′ (at + n)
+  sum-next e = summed-next s first brought sums-up (step-goes-on (drawnAnswer (u8g2 font) skip) lineHeight origin d c e)
+
+  pub sum-stops : {m k : ℕ} → step (drawnAnswer (u8g2 font) skip) lineHeight origin d c ≡ refused m k
+      → {o : Outcome RenderedDimensions} → o ≡ refused m k → pick (eqb m 7) sum′ noSteps ≡ sums (u8g2 font) text o
+  sum-stops e f =
+      let stop = step-stops (drawnAnswer (u8g2 font) skip) lineHeight origin d c e in
+      summed-stops s first brought sums-up f stop (drawn-blames font skip c (stop .1))
+
 -- ---- the call
 
 module _ (font : List ℕ) (r : Request) (color : FontColor) (p : Framebuffer) (buffer : List ℕ) where
   -- the answer and the bytes are those of the definitions
   abbrev pub Defined : Outcome RenderedDimensions → List ℕ → Type 0
   Defined answer bytes = (answer ≡ draw (u8g2 font) r color p buffer) × (bytes ≡ drawBuffer (u8g2 font) r color p buffer)
+
+  -- .. and so are the sums
+  abbrev Reported : DimensionsReport → List ℕ → Type 0
+  Reported report bytes =
+      (dimensionsOutcome (report .result) ≡ draw (u8g2 font) r color p buffer)
+      × ((bytes ≡ drawBuffer (u8g2 font) r color p buffer)
+      × (report .steps ≡ sums (u8g2 font) (r .text) (draw (u8g2 font) r color p buffer)))
+
+  pub reported : (report : DimensionsReport) {bytes : List ℕ} → Defined (dimensionsOutcome (report .result)) bytes
+      → report .steps ≡ sums (u8g2 font) (r .text) (dimensionsOutcome (report .result)) → Reported report bytes
+  reported report k s = (k .0, (k .1, s ∙ ap (sums (u8g2 font) (r .text)) (k .0)))
+
+  pub reported-refused : {e : Error} {report : DimensionsReport} {bytes : List ℕ} → report ≡ refusedReport e → Defined (refusal e) bytes
+      → eqb (errorNumber e) 7 ≡ false → Reported report bytes
+  reported-refused is k h = rw is (k .0, (k .1, no-sums (u8g2 font) (r .text) (k .0) h))
 
   abbrev laid : Outcome RenderedDimensions
   laid = dimensions (drawnText (u8g2 font) r)

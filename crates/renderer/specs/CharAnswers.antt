@@ -3,11 +3,13 @@ use mathlib.Core.Path.{_≡_}
 use mathlib.Core.List.{List}
 use Prim.Native.Nat.{ℕ, _≤_}
 use Rattle.definitions.specs.Vocabulary.{Point, FontReader, RenderedDimensions, Framebuffer}
-use Rattle.definitions.specs.Refusals.{Outcome}
+use Rattle.types.specs.declared.results.DimensionsReport.{DimensionsReport}
 use Rattle.definitions.specs.Header.{Opened}
 use Rattle.definitions.specs.Text.{Answer}
 use Rattle.definitions.specs.TextSteps.{step, stepShown}
 use Rattle.definitions.specs.Font.{u8g2, drawnAnswer, pixelsOf}
+use Rattle.definitions.specs.Calls.{dimensionsOutcome}
+use Rattle.definitions.specs.Sums.{brings}
 use Rattle.checks.specs.declared.origin.Pen.{Pen}
 use Rattle.answers.specs.Answers.{RunsChecked}
 use Rattle.framebuffer.specs.Areas.{BufferFits}
@@ -31,8 +33,9 @@ pub record DrawableChar (font : List ℕ) (head : FontReader) (pen : Pen) (d : R
   pub line : pen .«line_height» ≤ 65535
   pub fits : Fits bytes framebuffer
 
--- The character is counted, and shown.
-pub record CharDrawn (font : List ℕ) (ch : ℕ) (d : RenderedDimensions) (pen : Pen) (context : Context) (before after : List ℕ) (o : Outcome RenderedDimensions) : Type 0 where
-  pub counted : o ≡ step (drawnAnswer (u8g2 font) (pen .«ignore_unknown_chars»)) (pen .«line_height») (pen .origin) d ch
+-- The character is counted, and shown; and it brings its steps.
+pub record CharDrawn (font : List ℕ) (ch : ℕ) (d : RenderedDimensions) (pen : Pen) (context : Context) (before after : List ℕ) (r : DimensionsReport) : Type 0 where
+  pub counted : dimensionsOutcome (r .result) ≡ step (drawnAnswer (u8g2 font) (pen .«ignore_unknown_chars»)) (pen .«line_height») (pen .origin) d ch
   pub shown : after ≡ stepShown (context .framebuffer .width) (context .color) (pixelsOf (u8g2 font))
       (drawnAnswer (u8g2 font) (pen .«ignore_unknown_chars»)) (pen .origin) d ch before
+  pub brought : r .steps ≡ brings (u8g2 font .steps) ch

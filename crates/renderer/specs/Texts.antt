@@ -1,4 +1,4 @@
--- When a text may be drawn, and what it comes to: what is answered, and what the framebuffer then holds.
+-- When a text may be drawn, and what it comes to: what is answered, with which sums, and what the framebuffer then holds.
 use mathlib.Core.Path.{_≡_}
 use mathlib.Core.List.{List}
 use Prim.Native.Nat.{ℕ}
@@ -7,7 +7,9 @@ use Rattle.definitions.specs.Refusals.{Outcome}
 use Rattle.definitions.specs.Header.{Opened}
 use Rattle.definitions.specs.TextSteps.{measureFrom, drawFrom, start}
 use Rattle.definitions.specs.Font.{u8g2, drawnAnswer, pixelsOf}
-use Rattle.definitions.specs.Calls.{codePointsOf}
+use Rattle.definitions.specs.Calls.{codePointsOf, dimensionsOutcome}
+use Rattle.definitions.specs.Sums.{sums}
+use Rattle.types.specs.declared.results.DimensionsReport.{DimensionsReport}
 use Rattle.checks.specs.declared.origin.Pen.{Pen}
 use Rattle.checks.specs.Origins.{Checked}
 use Rattle.renderer.specs.declared.render.Context.{Context}
@@ -28,7 +30,12 @@ drawnWith font text pen context buffer =
     drawFrom (context .framebuffer .width) (context .color) (pixelsOf (u8g2 font)) (drawnAnswer (u8g2 font) (pen .«ignore_unknown_chars»))
     (pen .«line_height») (pen .origin) start buffer (codePointsOf text)
 
--- The text is counted, and shown.
-pub record TextDrawn (font text : List ℕ) (pen : Pen) (context : Context) (before after : List ℕ) (o : Outcome RenderedDimensions) : Type 0 where
-  pub counted : o ≡ countedWith font text pen
+-- The text is counted, and its steps are added up ..
+pub record TextCounted (font text : List ℕ) (pen : Pen) (r : DimensionsReport) : Type 0 where
+  pub counted : dimensionsOutcome (r .result) ≡ countedWith font text pen
+  pub summed : r .steps ≡ sums (u8g2 font) text (dimensionsOutcome (r .result))
+
+-- .. and it is shown.
+pub record TextDrawn (font text : List ℕ) (pen : Pen) (context : Context) (before after : List ℕ) (r : DimensionsReport) : Type 0 where
+  pub told : TextCounted font text pen r
   pub shown : after ≡ drawnWith font text pen context before

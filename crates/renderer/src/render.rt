@@ -6,7 +6,8 @@ ghost use Rattle.definitions.specs.Font.{u8g2, pixelsOf};
 ghost use Rattle.definitions.specs.Calls.{plain, draw, drawBuffer, dimensionsOutcome};
 ghost use Rattle.answers.specs.Answers.{asAnswer};
 ghost use Rattle.renderer.specs.CharAnswers.{DrawableAnswer, DrawableChar, CharDrawn};
-ghost use Rattle.renderer.specs.Texts.{DrawableText, countedWith, TextDrawn};
+ghost use Rattle.definitions.specs.Sums.{sums};
+ghost use Rattle.renderer.specs.Texts.{DrawableText, TextCounted, TextDrawn};
 ghost use Rattle.checks.specs.Origins.{CheckedText};
 use answers::Answer;
 use answers::retrieve_answer;
@@ -21,12 +22,17 @@ use layout::steps::NEWLINE;
 use layout::steps::add_answer;
 use layout::steps::add_newline;
 use layout::steps::get_next_bounding_box;
+use lookup_sums::add_steps;
+use lookup_sums::no_steps;
+use lookup_sums::refused;
+use lookup_sums::sum_with;
 use types::error::Error;
 use types::font_reader::FontReader;
 use types::framebuffer::Framebuffer;
 use types::geometry::BoundingBox;
 use types::geometry::Point;
 use types::geometry::RenderedDimensions;
+use types::results::DimensionsReport;
 use types::results::DimensionsResult;
 use types::results::FontReaderResult;
 use types::style::FontColor;
@@ -85,16 +91,21 @@ fn draw_char(
     pen: Pen,
     context: Context,
     buffer: &mut [u8],
-) -> DimensionsResult
+) -> DimensionsReport
     requires { ⌜ DrawableChar (now font) head pen dimensions (context .framebuffer) (length (now buffer)) ⌝ }
-    ensures { λ r. ⌜ CharDrawn (now (font .entry)) ch dimensions pen context (now (buffer .entry)) (now (buffer .exit))
-        (dimensionsOutcome r) ⌝ }
+    ensures { λ r. ⌜ CharDrawn (now (font .entry)) ch dimensions pen context (now (buffer .entry)) (now (buffer .exit)) r ⌝ }
 {
     if ch == NEWLINE {
-        return DimensionsResult::Ok(add_newline(dimensions, pen.line_height));
+        let result = DimensionsResult::Ok(add_newline(dimensions, pen.line_height));
+        return DimensionsReport {
+            result,
+            steps: no_steps(),
+        };
     }
     let origin = pen.origin;
-    let answer = retrieve_answer(font, head, ch, pen.ignore_unknown_chars);
+    let found = retrieve_answer(font, head, ch, pen.ignore_unknown_chars);
+    let answer = found.answer;
+    let steps = found.steps;
     draw_answer(
         font,
         head,
@@ -104,10 +115,14 @@ fn draw_char(
         context,
         &mut buffer[..],
     );
-    add_answer(dimensions, origin, answer)
+    DimensionsReport {
+        result: add_answer(dimensions, origin, answer),
+        steps,
+    }
 }
 
-// The letters of a checked text, one after the other. The first that stops the text is the answer, and those before it stay.
+// The letters of a checked text, one after the other, and their steps added up. The first that stops the text is the answer, and
+// those before it stay.
 pub fn draw_text(
     font: &[u8],
     head: FontReader,
@@ -115,29 +130,44 @@ pub fn draw_text(
     pen: Pen,
     context: Context,
     buffer: &mut [u8],
-) -> DimensionsResult
+) -> DimensionsReport
     requires { ⌜ DrawableText (now font) head (now text) pen (context .framebuffer) (length (now buffer)) ⌝ }
     ensures { λ r. ⌜ TextDrawn (now (font .entry)) (now (text .entry)) pen context (now (buffer .entry)) (now (buffer .exit))
-        (dimensionsOutcome r) ⌝ }
+        r ⌝ }
 {
     let mut dimensions = RenderedDimensions {
         advance: Point { x: 0, y: 0 },
         bounding_box: BoundingBox::None,
     };
+    let mut steps = no_steps();
     let mut at: usize = 0;
     while at < text.len() {
         let next = next_char(text, at);
         let NextChar::Char(ch, len) = next else {
-            return DimensionsResult::Err(Error::TextEncoding);
+            return refused(Error::TextEncoding);
         };
         let drawn = draw_char(font, head, ch, dimensions, pen, context, &mut buffer[..]);
-        let DimensionsResult::Ok(sum) = drawn else {
-            return drawn;
-        };
-        dimensions = sum;
+        let char_steps = drawn.steps;
+        let sum = add_steps(steps, char_steps);
+        let result = drawn.result;
+        match result {
+            DimensionsResult::Err(error) => {
+                return DimensionsReport {
+                    result,
+                    steps: sum_with(error, sum),
+                };
+            }
+            DimensionsResult::Ok(longer) => {
+                dimensions = longer;
+                steps = sum;
+            }
+        }
         at += len;
     }
-    DimensionsResult::Ok(dimensions)
+    DimensionsReport {
+        result: DimensionsResult::Ok(dimensions),
+        steps,
+    }
 }
 
 // What drawing a checked text answers: it is drawn on a framebuffer without rows, which shows nothing of it.
@@ -146,9 +176,9 @@ pub fn get_drawn_dimensions(
     head: FontReader,
     text: &[u8],
     pen: Pen,
-) -> DimensionsResult
+) -> DimensionsReport
     requires { ⌜ CheckedText (now font) head (now text) pen ⌝ }
-    ensures { λ r. ⌜ dimensionsOutcome r ≡ countedWith (now (font .entry)) (now (text .entry)) pen ⌝ }
+    ensures { λ r. ⌜ TextCounted (now (font .entry)) (now (text .entry)) pen r ⌝ }
 {
     let mut pixels = [0u8; 1];
     let context = Context {
@@ -161,8 +191,8 @@ pub fn get_drawn_dimensions(
     draw_text(font, head, text, pen, context, &mut pixels[..0])
 }
 
-// Draws the text where it is placed on a framebuffer of that size, or refuses to. A call that is refused before the first letter
-// leaves the framebuffer as it was.
+// Draws the text where it is placed on a framebuffer of that size, or refuses to; the steps of its lookups come with either. A call
+// that is refused before the first letter leaves the framebuffer as it was.
 pub fn render(
     font: &[u8],
     text: &[u8],
@@ -170,25 +200,27 @@ pub fn render(
     style: FontStyle,
     framebuffer: Framebuffer,
     buffer: &mut [u8],
-) -> DimensionsResult
-    ensures answered { λ r. ⌜ dimensionsOutcome r ≡ draw (u8g2 (now (font .entry)))
+) -> DimensionsReport
+    ensures answered { λ r. ⌜ dimensionsOutcome (r .result) ≡ draw (u8g2 (now (font .entry)))
         (plain (now (text .entry)) placement (style .«vertical_pos»)) (style .color) framebuffer (now (buffer .entry)) ⌝ }
     ensures shown { λ r. ⌜ now (buffer .exit) ≡ drawBuffer (u8g2 (now (font .entry)))
         (plain (now (text .entry)) placement (style .«vertical_pos»)) (style .color) framebuffer (now (buffer .entry)) ⌝ }
+    ensures summed { λ r. ⌜ r .steps ≡ sums (u8g2 (now (font .entry))) (now (text .entry)) (draw (u8g2 (now (font .entry)))
+        (plain (now (text .entry)) placement (style .«vertical_pos»)) (style .color) framebuffer (now (buffer .entry))) ⌝ }
 {
     match new_from_raw_data(font) {
-        FontReaderResult::Err(error) => DimensionsResult::Err(error),
+        FontReaderResult::Err(error) => refused(error),
         FontReaderResult::Ok(head) => {
             if has_bad_size(framebuffer, &buffer[..]) {
-                return DimensionsResult::Err(Error::FramebufferSize);
+                return refused(Error::FramebufferSize);
             }
             let vertical_pos = style.vertical_pos;
             match checked_origin(head.ascent, head.descent, text, placement, vertical_pos) {
-                OriginResult::Err(error) => DimensionsResult::Err(error),
+                OriginResult::Err(error) => refused(error),
                 OriginResult::Ok(origin) => {
                     let color = style.color;
                     if has_bad_color(color, head.supports_background_color) {
-                        return DimensionsResult::Err(Error::BackgroundColorNotSupported);
+                        return refused(Error::BackgroundColorNotSupported);
                     }
                     let pen = Pen {
                         origin,

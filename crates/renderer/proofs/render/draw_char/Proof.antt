@@ -5,25 +5,33 @@ use Rattle.renderer.proofs.render.draw_char.Statement.{statement}
 use Rattle.renderer.proofs.render.draw_char.Tie as tie
 
 returns : tie.Need-returns
-returns c = record { counted = simp (c .add-newline .ensures, eq-eqb _ _ (c .before .if1 .taken)); shown = simp (eq-eqb _ _ (c .before .if1 .taken)) }
+returns c =
+    let newline = eq-eqb _ _ (c .before .before .if1 .taken) in
+    record { counted = simp (c .before .add-newline .ensures, newline); shown = simp newline; brought = simp (c .no-steps .ensures, newline) }
 
 draw-answer-requires : tie.Need-draw-answer-requires
 draw-answer-requires c κs =
-    let s = c .before .before .before .before .before .before in
+    let s = c .before .before .before .before .before .before .before in
+    let looked = c .before .before .retrieve-answer .ensures .is in
     record {
-      runs = λ g e. runs-checked (s .pre .opened) (s .args .pen .«ignore_unknown_chars») (s .args .ch) g (sym (c .before .retrieve-answer .ensures) ∙ e);
+      runs = λ g e. runs-checked (s .pre .opened) (s .args .pen .«ignore_unknown_chars») (s .args .ch) g (sym looked ∙ e);
       room = s .pre .room;
       fits = s .pre .fits;
     }
 
 returns-2 : tie.Need-returns-2
 returns-2 c =
-    let looked = c .before .before .before .before .before .retrieve-answer .ensures in
-    let other = ne-eqb _ _ (c .before .before .before .before .before .before .before .if1 .left) in
-    record { counted = simp (c .add-answer .ensures, looked, other); shown = c .before .before .before .draw-answer .ensures ∙ simp (looked, other) }
+    let k = c .before .before .before .before .before .before in
+    let looked = k .retrieve-answer .ensures in
+    let other = ne-eqb _ _ (k .before .before .if1 .left) in
+    record {
+      counted = simp (c .add-answer .ensures, looked .is, other);
+      shown = c .before .before .before .draw-answer .ensures ∙ simp (looked .is, other);
+      brought = looked .counted ∙ simp other;
+    }
 
 pub draw-char-spec : {M : Type 1} → statement M
 draw-char-spec =
     tie.close
-    (tie.spec (λ c κs. search needs) returns (λ c κs. search needs) draw-answer-requires (λ c κs. search needs)
-    (λ c. search needs) returns-2)
+    (tie.spec (λ c κs. search needs) (λ c κs. search needs) returns (λ c κs. search needs) draw-answer-requires
+    (λ c κs. search needs) (λ c. search needs) returns-2)

@@ -1,5 +1,5 @@
 -- The causes are tested in the definition's order; where none applies, the text is drawn. RenderLaws says what is left of a call.
-use Rattle.integers.proofs.Prelude.{_≡_, sym, ap, _∙_, false, arith, w8, SFits, toZ-ofZ, needs}
+use Rattle.integers.proofs.Prelude.{_≡_, refl, sym, ap, _∙_, false, arith, w8, SFits, toZ-ofZ, needs}
 use Rattle.definitions.specs.Vocabulary.{FontReader}
 use Rattle.definitions.specs.Refusals.{success}
 use Rattle.definitions.specs.Header.{Opened}
@@ -8,11 +8,12 @@ use Rattle.definitions.specs.Framebuffer.{framebufferCause}
 use Rattle.definitions.specs.Limits.{backgroundOff, backgroundCause}
 use Rattle.definitions.specs.Calls.{openFont, Request, plain, fontReaderOutcome}
 use Rattle.definitions.proofs.OpenedLaws.{opened, heights-fit}
+use Rattle.definitions.proofs.SumsLaws.{open-early}
 use Rattle.checks.specs.Origins.{originOutcome}
-use Rattle.checks.proofs.OriginLaws.{tested, request-checked}
+use Rattle.checks.proofs.OriginLaws.{tested, request-checked, tested-early}
 use Rattle.checks.proofs.LimitLaws.{color-is}
 use Rattle.checks.proofs.SizeLaws.{size-fits}
-use Rattle.renderer.proofs.RenderLaws.{font-refused, size-refused, position-refused, color-refused, drawn-whole}
+use Rattle.renderer.proofs.RenderLaws.{reported, reported-refused, font-refused, size-refused, position-refused, color-refused, drawn-whole}
 use Rattle.renderer.proofs.render.render.Statement.{statement}
 use Rattle.renderer.proofs.render.render.Tie as tie
 
@@ -59,17 +60,23 @@ module _ (c : tie.After-known-told4) where
 
 returns : tie.Need-returns
 returns c =
-    let k = c .before .before .before in
+    let t = c .before in
+    let k = t .before .before .before in
     let a = entry k .args in
-    size-refused (a .font .now) (asked k) (a .style .color) (a .framebuffer) (a .buffer .now) (opens k) (sym (c .before .has-bad-size .ensures) ∙ c .if1 .taken)
+    reported-refused (a .font .now) (asked k) (a .style .color) (a .framebuffer) (a .buffer .now) (c .refused2 .ensures)
+    (size-refused (a .font .now) (asked k) (a .style .color) (a .framebuffer) (a .buffer .now) (opens k) (sym (t .before .has-bad-size .ensures) ∙ t .if1 .taken))
+    refl
 
 returns-2 : tie.Need-returns-2
 returns-2 c =
-    let p = c .before .before in
+    let t = c .before in
+    let p = t .before .before in
     let k = font-known p in
     let a = entry k .args in
-    color-refused (a .font .now) (asked k) (a .style .color) (a .framebuffer) (a .buffer .now) (opens k) (size-in (sized-at p)) (passes p)
-    (color-tested p ∙ sym (c .before .has-bad-color .ensures) ∙ c .if2 .taken)
+    reported-refused (a .font .now) (asked k) (a .style .color) (a .framebuffer) (a .buffer .now) (c .refused4 .ensures)
+    (color-refused (a .font .now) (asked k) (a .style .color) (a .framebuffer) (a .buffer .now) (opens k) (size-in (sized-at p)) (passes p)
+    (color-tested p ∙ sym (t .before .has-bad-color .ensures) ∙ t .if2 .taken))
+    refl
 
 draw-text-requires : tie.Need-draw-text-requires
 draw-text-requires c κs =
@@ -84,30 +91,39 @@ draw-text-requires c κs =
 
 returns-3 : tie.Need-returns-3
 returns-3 c =
-    let a = c .before .before .before .before .before .before .before .args in
-    font-refused (a .font .now) (plain (a .text .now) (a .placement) (a .style .«vertical_pos»)) (a .style .color) (a .framebuffer) (a .buffer .now)
-    (sym (c .before .before .before .new-from-raw-data .ensures) ∙ ap fontReaderOutcome (c .before .error .given .1))
+    let t = c .before in
+    let a = t .before .before .before .before .before .before .before .args in
+    let r = plain (a .text .now) (a .placement) (a .style .«vertical_pos») in
+    let off = sym (t .before .before .before .new-from-raw-data .ensures) ∙ ap fontReaderOutcome (t .before .error .given .1) in
+    reported-refused (a .font .now) r (a .style .color) (a .framebuffer) (a .buffer .now) (c .refused .ensures)
+    (font-refused (a .font .now) r (a .style .color) (a .framebuffer) (a .buffer .now) off) (open-early (a .font .now) off)
 
 returns-4 : tie.Need-returns-4
 returns-4 c =
-    let e = c .before .before .before .before .before .before in
+    let t = c .before in
+    let e = t .before .before .before .before .before .before in
     let k = e .before .before .before in
     let a = entry k .args in
-    position-refused (a .font .now) (asked k) (a .style .color) (a .framebuffer) (a .buffer .now) (opens k) (size-in e)
-    (sym (simp (toZ-ofZ, heights k .0, heights k .1) at (c .before .before .before .checked-origin .ensures)) ∙ ap originOutcome (c .before .error2 .given .1))
+    let off = sym (simp (toZ-ofZ, heights k .0, heights k .1) at (t .before .before .before .checked-origin .ensures)) ∙ ap originOutcome (t .before .error2 .given .1) in
+    reported-refused (a .font .now) (asked k) (a .style .color) (a .framebuffer) (a .buffer .now) (c .refused3 .ensures)
+    (position-refused (a .font .now) (asked k) (a .style .color) (a .framebuffer) (a .buffer .now) (opens k) (size-in e) off)
+    (tested-early (a .font .now) (opens k) (asked k) off)
 
 returns-5 : tie.Need-returns-5
 returns-5 c =
     let p = c .before .before .before .before .before .before in
     let k = font-known p in
     let a = entry k .args in
+    let d = c .before .before .draw-text .ensures in
     let whole = drawn-whole (a .font .now) (asked k) (a .style .color) (a .framebuffer) (a .buffer .now) (opens k)
     (size-in (sized-at p)) (passes p) (color-tested p ∙ sym (c .before .before .before .before .before .has-bad-color .ensures) ∙ c .before .before .before .before .if2 .left) in
-    (c .before .before .draw-text .ensures .counted ∙ whole .0, c .before .before .draw-text .ensures .shown ∙ whole .1)
+    reported (a .font .now) (asked k) (a .style .color) (a .framebuffer) (a .buffer .now) (c .before .before .draw-text .result)
+    (d .told .counted ∙ whole .0, d .shown ∙ whole .1) (d .told .summed)
 
 pub render-spec : {M : Type 1} → statement M
 render-spec =
     tie.close
-    (tie.spec (λ c κs. search needs) (λ c. search needs) (λ c. search needs) (λ c κs. search needs) (λ c. search needs) returns
-    (λ c κs. search needs) (λ c. search needs) (λ c. search needs) (λ c κs. search needs) (λ c. search needs) returns-2
-    draw-text-requires returns-3 (λ c. search needs) returns-4 (λ c. search needs) returns-5)
+    (tie.spec (λ c κs. search needs) (λ c. search needs) (λ c κs. search needs) (λ c. search needs) (λ c κs. search needs)
+    (λ c κs. search needs) (λ c. search needs) returns (λ c κs. search needs) (λ c. search needs) (λ c κs. search needs)
+    (λ c. search needs) (λ c κs. search needs) (λ c κs. search needs) (λ c. search needs) returns-2 draw-text-requires returns-3
+    (λ c. search needs) returns-4 (λ c. search needs) returns-5)
