@@ -249,8 +249,8 @@ table-ends c total n (a ∷ b ∷ d ∷ e ∷ s) h = absurd (omega arith)
 pub table-at : (c total n : ℕ) (font : List ℕ) (at : ℕ) → at + 4 ≤ length font
     → jumpTable c total n (drop at font)
     ≡ pick (ltb (bigEndian16 font (at + 2)) c)
-    (jumpTable c (total + bigEndian16 font at) (suc n) (drop (at + 4) font))
-    (sum (total + bigEndian16 font at) (suc n))
+    (jumpTable c (total + bigEndian16 font at) (n + 1) (drop (at + 4) font))
+    (sum (total + bigEndian16 font at) (n + 1))
 unfolding jumpTable
 table-at c total n font at h =
     let h₀ : at < length font = omega arith in
@@ -270,7 +270,7 @@ table-longer c total n (a ∷ []) more d m e = not-none e
 table-longer c total n (a ∷ b ∷ []) more d m e = not-none e
 table-longer c total n (a ∷ b ∷ f ∷ []) more d m e = not-none e
 table-longer c total n (a ∷ b ∷ f ∷ g ∷ s) more d m e =
-    of-pick (ltb (f * 256 + g) c) (λ t q. rw t (table-longer c (total + (a * 256 + b)) (suc n) s more d m q)) (λ t q. rw t q) e
+    of-pick (ltb (f * 256 + g) c) (λ t q. rw t (table-longer c (total + (a * 256 + b)) (n + 1) s more d m q)) (λ t q. rw t q) e
 
 -- ---- the whole lookup
 

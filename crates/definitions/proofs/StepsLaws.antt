@@ -62,13 +62,13 @@ table-entries c total n [] = omega arith
 table-entries c total n (a ∷ []) = omega arith
 table-entries c total n (a ∷ b ∷ []) = omega arith
 table-entries c total n (a ∷ b ∷ d ∷ []) = omega arith
-table-entries c total n (a ∷ b ∷ d ∷ e ∷ s) = by (table-entries c (total + (a * 256 + b)) (suc n) s) (ltb (d * 256 + e) c)
+table-entries c total n (a ∷ b ∷ d ∷ e ∷ s) = by (table-entries c (total + (a * 256 + b)) (n + 1) s) (ltb (d * 256 + e) c)
   where
     rest : Distance
-    rest = jumpTable c (total + (a * 256 + b)) (suc n) s
+    rest = jumpTable c (total + (a * 256 + b)) (n + 1) s
 
-    by : 4 * entriesOf rest ≤ 4 * suc n + length s → (t : Bool)
-        → 4 * entriesOf (pick t rest (sum (total + (a * 256 + b)) (suc n))) ≤ 4 * n + length (a ∷ b ∷ d ∷ e ∷ s)
+    by : 4 * entriesOf rest ≤ 4 * (n + 1) + length s → (t : Bool)
+        → 4 * entriesOf (pick t rest (sum (total + (a * 256 + b)) (n + 1))) ≤ 4 * n + length (a ∷ b ∷ d ∷ e ∷ s)
     by h true = omega arith
     by h false = omega arith
 

@@ -75,7 +75,7 @@ jumpTable c total n (a ∷ []) = none n
 jumpTable c total n (a ∷ b ∷ []) = none n
 jumpTable c total n (a ∷ b ∷ d ∷ []) = none n
 jumpTable c total n (a ∷ b ∷ d ∷ e ∷ s) =
-    pick (ltb (d * 256 + e) c) (jumpTable c (total + (a * 256 + b)) (suc n) s) (sum (total + (a * 256 + b)) (suc n))
+    pick (ltb (d * 256 + e) c) (jumpTable c (total + (a * 256 + b)) (n + 1) s) (sum (total + (a * 256 + b)) (n + 1))
 
 -- ---- the lookup
 

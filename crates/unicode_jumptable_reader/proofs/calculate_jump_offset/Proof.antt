@@ -1,8 +1,7 @@
--- The loop's invariant: the rest of the table, with the sum so far, answers as the whole table does. The sum grows by less
--- than 65536 an entry, so it stays far below 2 to the power 64. Assumes nothing.
-use Rattle.integers.proofs.Prelude.{_≡_, refl, sym, ap, _∙_, ℕ, suc, _+_, _-_, _/_, _≤_, arith, length, needs}
+-- The loop's invariant: the rest of the table, with the sum and the entries so far, answers as the whole table does. The sum grows
+-- by less than 65536 an entry, so it stays far below 2 to the power 64. Assumes nothing.
+use Rattle.integers.proofs.Prelude.{refl, sym, _∙_, _+_, _-_, _≤_, arith, length, needs}
 use Rattle.definitions.specs.Header.{bigEndian16}
-use Rattle.definitions.specs.Lookup.{sum, none}
 use Rattle.unicode_jumptable_reader.proofs.TableLaws.{SummedTo, table-end, table-found, table-next}
 use Rattle.unicode_jumptable_reader.proofs.calculate_jump_offset.Statement.{
   statement,
@@ -10,55 +9,46 @@ use Rattle.unicode_jumptable_reader.proofs.calculate_jump_offset.Statem
 use Rattle.unicode_jumptable_reader.proofs.calculate_jump_offset.Tie as tie
 
 abbrev Inv-loop : tie.InvT-loop
-Inv-loop font start encoding jump-offset₀ at₀ jump-offset at = SummedTo font start encoding jump-offset at
+Inv-loop font start encoding jump-offset₀ entries₀ at₀ jump-offset entries at =
+    SummedTo font start encoding jump-offset entries at
 
 abbrev μ-loop : tie.MeasureT-loop
-μ-loop font start encoding jump-offset₀ at₀ jump-offset at = length font - at
-
-loop-holds : tie.Need-loop-holds Inv-loop μ-loop
-loop-holds c =
-    let a = c .before .args in
-    record { within = search needs; small = omega arith; entries = 0; read = omega arith; same = refl }
+μ-loop font start encoding jump-offset₀ entries₀ at₀ jump-offset entries at = length font - at
 
 returns : tie.Need-returns Inv-loop μ-loop
 returns c =
-    let l = c .before .before .before .before .before in
+    let l = c .before .before .before .before in
     let a = l .before .before .args in
-    let i = l .loop .inv in
-    let limit : a .encoding ≤ bigEndian16 (a .font .now) (l .loop .at + 2) = omega arith in
-    let n : (l .loop .at + 4 - a .start) / 4 ≡ suc (i .entries) = omega arith in
-    rw (c .before .before .before .u16-at .ensures)
-    (ap (sum (l .loop .jump-offset + bigEndian16 (a .font .now) (l .loop .at))) (c .entries-between .ensures ∙ n)
-    ∙ sym (i .same ∙ table-found (a .encoding) (l .loop .jump-offset) (i .entries) (a .font .now) (l .loop .at) (omega arith) limit))
+    let i = l .loop in
+    let limit : a .encoding ≤ bigEndian16 (a .font .now) (i .at + 2) = omega arith in
+    rw (c .before .before .u16-at .ensures)
+    (sym (i .inv .same ∙ table-found (a .encoding) (i .jump-offset) (i .entries) (a .font .now) (i .at) (omega arith) limit))
 
 loop-again : tie.Need-loop-again Inv-loop μ-loop
 loop-again c =
     let l = c .before .before .before .before in
     let a = l .before .before .args in
-    let i = l .loop .inv in
+    let i = l .loop in
     let whole = c .before .before .before .loop-test .taken in
     let limit = rw (c .before .u16-at2 .ensures) at (c .if1 .left) in
     record {
       within = search needs;
       small = search needs;
-      entries = suc (i .entries);
-      read = omega arith;
+      few = search needs;
       same = rw (c .before .before .u16-at .ensures)
-          (i .same ∙ table-next (a .encoding) (l .loop .jump-offset) (i .entries) (a .font .now) (l .loop .at) (omega arith) limit);
+          (i .inv .same ∙ table-next (a .encoding) (i .jump-offset) (i .entries) (a .font .now) (i .at) (omega arith) limit);
     }
 
 returns-2 : tie.Need-returns-2 Inv-loop μ-loop
 returns-2 c =
-    let l = c .before .before in
+    let l = c .before in
     let a = l .before .before .args in
-    let i = l .loop .inv in
-    let n : (l .loop .at - a .start) / 4 ≡ i .entries = omega arith in
-    ap none (c .entries-between2 .ensures ∙ n)
-    ∙ sym (i .same ∙ table-end (a .encoding) (l .loop .jump-offset) (i .entries) (a .font .now) (l .loop .at) (omega arith))
+    let i = l .loop in
+    sym (i .inv .same ∙ table-end (a .encoding) (i .jump-offset) (i .entries) (a .font .now) (i .at) (omega arith))
 
 pub calculate-jump-offset-spec : {M : Type 1} → statement M
 calculate-jump-offset-spec =
     tie.close
-    (tie.spec Inv-loop μ-loop loop-holds (λ c. search needs) (λ c κs. search needs) (λ c. search needs) (λ c. search needs)
-    (λ c. search needs) (λ c κs. search needs) (λ c. search needs) (λ c κs. search needs) returns (λ c. search needs)
-    (λ c. search needs) loop-again (λ c κs. search needs) returns-2)
+    (tie.spec Inv-loop μ-loop (λ c. record { within = search needs; small = search needs; few = search needs; same = refl })
+    (λ c. search needs) (λ c κs. search needs) (λ c. search needs) (λ c. search needs) (λ c. search needs) (λ c. search needs)
+    (λ c κs. search needs) returns (λ c. search needs) (λ c. search needs) loop-again returns-2)
