@@ -14,7 +14,9 @@ use types::framebuffer::Framebuffer;
 use types::geometry::BoundingBox;
 use types::geometry::Point;
 use types::place::Place;
+use types::results::BoundingBoxReport;
 use types::results::BoundingBoxResult;
+use types::results::DimensionsReport;
 use types::results::DimensionsResult;
 use types::results::FontReaderResult;
 use types::results::RectangleResult;
@@ -85,7 +87,8 @@ fn print_box(bounding_box: BoundingBox) {
     }
 }
 
-fn print_dimensions(result: DimensionsResult) {
+fn print_dimensions(report: DimensionsReport) {
+    let result = report.result;
     match result {
         DimensionsResult::Ok(d) => {
             printing::text(b"ok");
@@ -98,7 +101,8 @@ fn print_dimensions(result: DimensionsResult) {
     }
 }
 
-fn print_aligned(result: BoundingBoxResult) {
+fn print_aligned(report: BoundingBoxReport) {
+    let result = report.result;
     match result {
         BoundingBoxResult::Ok(b) => {
             printing::text(b"ok");
@@ -122,7 +126,7 @@ fn draw_or_redraw(
     placement: Placement,
     style: FontStyle,
     buffer: &mut [u8],
-) -> DimensionsResult
+) -> DimensionsReport
     requires { ⌜ at ≤ 1048576 ⌝ }
 {
     let framebuffer = Framebuffer {
@@ -167,8 +171,8 @@ fn answer_draw(
     let height = number(file, at + 44) as usize;
     let fill = byte(file, at + 48);
     framebuffers::fill(&mut buffer[..], fill);
-    let result = draw_or_redraw(file, at, font, text, placement, style, &mut buffer[..]);
-    print_dimensions(result);
+    let report = draw_or_redraw(file, at, font, text, placement, style, &mut buffer[..]);
+    print_dimensions(report);
     framebuffers::print(&buffer[..], fill, width, height);
 }
 
