@@ -345,7 +345,8 @@ static void screens(void) {
     screen.buffer_len = sizeof panel;
     memset(panel, 9, sizeof panel);
     memset(alone, 9, sizeof alone);
-    CHECK(papayahelm_draw(T, sizeof T, (const uint8_t *)"4", 1, 2, 5, 0, 4, 0, 0, 1, 0, WIDTH, HEIGHT, alone, CELLS, out, 10) == 0);
+    CHECK(papayahelm_draw(T, sizeof T, (const uint8_t *)"4", 1, 2, 5, 0, 4, 0, 0, 1, 0, WIDTH, HEIGHT, alone, CELLS, out,
+                          PAPAYAHELM_OUT_LEN) == PAPAYAHELM_OK);
     CHECK(papayahelm_show(&screen, "", "-4-", answer) == PAPAYAHELM_OK && answer[PAPAYAHELM_ADVANCE_X] == 9);
     CHECK(answer[PAPAYAHELM_RECORDS] == 4 && answer[PAPAYAHELM_ENTRIES] == 0);
     CHECK(memcmp(panel, alone, CELLS) != 0);

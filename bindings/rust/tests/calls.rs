@@ -375,7 +375,7 @@ fn reported(call: Call, input: &Input) -> (Report<()>, Vec<u8>) {
     (report, pixels)
 }
 
-/// The refusal alone.
+/// The refusal, and what the framebuffer holds afterwards.
 fn refusal(call: Call, input: &Input) -> (Option<Error>, Vec<u8>) {
     let (report, pixels) = reported(call, input);
     (report.result.err(), pixels)
