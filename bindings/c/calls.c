@@ -74,23 +74,33 @@ static int buffer_is(uint8_t value) {
     return 1;
 }
 
+/* The answer but for the sums. */
 static int out_is(int64_t a, int64_t b, int64_t c, int64_t d, int64_t e, int64_t f, int64_t g, int64_t h) {
-    const int64_t expected[PAPAYAHELM_OUT_LEN] = {a, b, c, d, e, f, g, h};
+    const int64_t expected[PAPAYAHELM_RECORDS] = {a, b, c, d, e, f, g, h};
     return memcmp(out, expected, sizeof expected) == 0;
 }
 
-/* Each of the calls in `which` answers with this status, and after 1 to 6 has changed no pixel. */
-static void refuses(const struct input *in, int which, uint32_t status, int64_t code_point) {
+static int sums_are(int64_t records, int64_t entries) {
+    return out[PAPAYAHELM_RECORDS] == records && out[PAPAYAHELM_ENTRIES] == entries;
+}
+
+/* Each of the calls in `which` answers with this status and these sums, and after 1 to 6 has changed no pixel. */
+static void refuses_after(const struct input *in, int which, uint32_t status, int64_t code_point, int64_t records,
+                          int64_t entries) {
     for (int one = 1; one < TEXTS; one *= 2) {
         if ((which & one) == 0) continue;
         memset(buffer, 9, sizeof buffer);
         memset(out, 255, sizeof out);
         CHECK(call(one, in) == status);
-        CHECK(out_is(code_point, 0, 0, 0, 0, 0, 0, 0) && out[PAPAYAHELM_OUT_LEN] == -1);
+        CHECK(out_is(code_point, 0, 0, 0, 0, 0, 0, 0) && sums_are(records, entries) && out[PAPAYAHELM_OUT_LEN] == -1);
         CHECK(status > 6 || buffer_is(9));
         CHECK(strlen(papayahelm_words(status)) > 10);
         CHECK(papayahelm_is_taken(status) == (status > 6));
     }
+}
+
+static void refuses(const struct input *in, int which, uint32_t status, int64_t code_point) {
+    refuses_after(in, which, status, code_point, 0, 0);
 }
 
 static void headers(void) {
@@ -119,7 +129,7 @@ static void headers(void) {
     CHECK(papayahelm_open(T, sizeof T, out, PAPAYAHELM_HEADER_LEN - 1) == PAPAYAHELM_BAD_ARGUMENT);
     CHECK(out[0] == -1 && out[20] == -1);
     CHECK(papayahelm_font_box(T, 22, PAPAYAHELM_ANCHOR_TOP, out, PAPAYAHELM_OUT_LEN) == PAPAYAHELM_FONT_LENGTH);
-    CHECK(out_is(0, 0, 0, 0, 0, 0, 0, 0));
+    CHECK(out_is(0, 0, 0, 0, 0, 0, 0, 0) && sums_are(0, 0) && out[PAPAYAHELM_OUT_LEN] == -1);
     CHECK(papayahelm_font_box(font, 23, PAPAYAHELM_ANCHOR_TOP, out, PAPAYAHELM_OUT_LEN) == PAPAYAHELM_FONT_HEADER);
     CHECK(papayahelm_font_box(T, sizeof T, 4, out, PAPAYAHELM_OUT_LEN) == PAPAYAHELM_BAD_ARGUMENT);
 }
@@ -127,8 +137,9 @@ static void headers(void) {
 static void boxes(void) {
     const int64_t tops[4] = {-3, 1, -1, -3};
     for (uint32_t anchor = 0; anchor < 4; anchor++) {
+        memset(out, 255, sizeof out);
         CHECK(papayahelm_font_box(T, sizeof T, anchor, out, PAPAYAHELM_OUT_LEN) == PAPAYAHELM_OK);
-        CHECK(out_is(0, 0, 0, 1, 0, tops[anchor], 2, 3));
+        CHECK(out_is(0, 0, 0, 1, 0, tops[anchor], 2, 3) && sums_are(0, 0));
     }
 }
 
@@ -221,9 +232,9 @@ static void refusals(void) {
     refuses(&in, DRAWS, PAPAYAHELM_BACKGROUND_COLOR_NOT_SUPPORTED, 0);
 
     in = input_of("-A");
-    refuses(&in, TEXTS & ~REDRAW_OLD, PAPAYAHELM_GLYPH_NOT_FOUND, 'A');
+    refuses_after(&in, TEXTS & ~REDRAW_OLD, PAPAYAHELM_GLYPH_NOT_FOUND, 'A', 2, 0);
     in = input_of("-\xF4\x8F\xBF\xBF");
-    refuses(&in, TEXTS & ~REDRAW_OLD, PAPAYAHELM_GLYPH_NOT_FOUND, 0x10FFFF);
+    refuses_after(&in, TEXTS & ~REDRAW_OLD, PAPAYAHELM_GLYPH_NOT_FOUND, 0x10FFFF, 1, 0);
 
     /* without its last two bytes T has no end of its list, without three "4" can be measured but not drawn */
     in = input_of("A");
@@ -240,6 +251,79 @@ static void refusals(void) {
     CHECK(buffer[2 * WIDTH + 2] == 3); /* the old text is cleared */
     buffer[2 * WIDTH + 2] = buffer[2 * WIDTH + 3] = 9;
     CHECK(buffer_is(9)); /* and nothing else has changed */
+}
+
+/* What a text brings in the lookups (docs/SPECIFICATION.md, Lookup), by each call on it and with each alignment. */
+struct brought {
+    const uint8_t *font;
+    size_t font_len;
+    const char *text;
+    uint32_t skip, status;
+    int64_t code_point, records, entries;
+};
+
+static void brings(const struct brought *b) {
+    struct input in = input_of(b->text);
+    in.font = b->font;
+    in.font_len = b->font_len;
+    in.skip = b->skip;
+    for (int one = 1; one < TEXTS; one *= 2) {
+        if (one == REDRAW_OLD || (one == REDRAW_NEW && b->skip)) continue; /* the step skips nothing */
+        for (in.align = 0; in.align < 3; in.align++) {
+            memset(out, 255, sizeof out);
+            CHECK(call(one, &in) == b->status && out[PAPAYAHELM_CODE_POINT] == b->code_point);
+            CHECK(sums_are(b->records, b->entries) && out[PAPAYAHELM_OUT_LEN] == -1);
+        }
+    }
+    /* the old text of a step is not counted: "-" is the first record */
+    if (b->status == PAPAYAHELM_TEXT_ENCODING) return;
+    CHECK(call(REDRAW_OLD, &in) == PAPAYAHELM_OK && sums_are(1, 0));
+}
+
+static void sums(void) {
+    /* T with a jump table: two entries with limits below U+0100; one that leads to a record 0; one that leads to U+0100 */
+    uint8_t below[sizeof T + 9] = {0}, zero[sizeof T + 7], found[sizeof T + 10];
+    const uint8_t to_zero[7] = {0, 4, 255, 255, 0, 0, 0}, to_found[10] = {0, 4, 255, 255, 1, 0, 6, 138, 62, 2};
+    memcpy(below, T, sizeof T);
+    memcpy(zero, T, sizeof T);
+    memcpy(zero + sizeof T, to_zero, sizeof to_zero);
+    memcpy(found, T, sizeof T);
+    memcpy(found + sizeof T, to_found, sizeof to_found);
+    const struct brought all[] = {
+        {T, sizeof T, "", 0, 0, 0, 0, 0},
+        {T, sizeof T, "-4", 0, 0, 0, 3, 0},
+        {T, sizeof T, "-\n4\n", 0, 0, 0, 3, 0},
+        {T, sizeof T, "444", 0, 0, 0, 6, 0},
+        {T, sizeof T, "A", 0, 7, 'A', 1, 0},
+        {T, sizeof T, "5", 0, 7, '5', 3, 0},
+        {T, sizeof T, "-A", 0, 7, 'A', 2, 0},
+        {T, sizeof T, "-A4", 0, 7, 'A', 2, 0},
+        {T, sizeof T, "-A4", 1, 0, 0, 4, 0},
+        {T, sizeof T, "-A4A", 1, 0, 0, 5, 0},
+        {T, 33, "-A", 0, 8, 'A', 0, 0},
+        {T, 33, "-A", 1, 8, 'A', 0, 0},
+        {T, sizeof T, "\xF0\x90\x80\x80", 0, 7, 0x10000, 0, 0},
+        {T, sizeof T, "-\xFF", 0, 4, 0, 0, 0},
+        {below, sizeof below, "\xC4\x80", 0, 7, 0x100, 0, 2},
+        {zero, sizeof zero, "\xC4\x80", 0, 7, 0x100, 1, 1},
+        {found, sizeof found, "\xC4\x80", 0, 0, 0, 1, 1},
+        {found, sizeof found, "4\xC4\x80-\xC4\x80", 0, 0, 0, 5, 2},
+        {found, sizeof found, "\xC4\x80\xC4\x81", 0, 8, 0x101, 0, 0},
+    };
+    for (size_t i = 0; i < sizeof all / sizeof all[0]; i++) brings(&all[i]);
+
+    /* "4" that can be measured and not drawn: with 8 nothing is counted */
+    struct input in = input_of("4");
+    in.font_len = 32;
+    CHECK(call(MEASURE, &in) == PAPAYAHELM_OK && sums_are(2, 0));
+    CHECK(call(ALIGNED, &in) == PAPAYAHELM_OK && sums_are(2, 0));
+    refuses(&in, DRAW | REDRAW_NEW, PAPAYAHELM_FONT_ENDS, '4');
+
+    /* with room for nine numbers none is stored */
+    memset(out, 255, sizeof out);
+    CHECK(papayahelm_font_box(T, sizeof T, 0, out, PAPAYAHELM_OUT_LEN - 1) == PAPAYAHELM_BAD_ARGUMENT);
+    CHECK(papayahelm_measure(T, sizeof T, in.text, 1, 2, 5, 0, 4, 0, out, PAPAYAHELM_OUT_LEN - 1) == PAPAYAHELM_BAD_ARGUMENT);
+    CHECK(out_is(-1, -1, -1, -1, -1, -1, -1, -1) && sums_are(-1, -1));
 }
 
 static void screens(void) {
@@ -261,8 +345,10 @@ static void screens(void) {
     screen.buffer_len = sizeof panel;
     memset(panel, 9, sizeof panel);
     memset(alone, 9, sizeof alone);
-    CHECK(papayahelm_draw(T, sizeof T, (const uint8_t *)"4", 1, 2, 5, 0, 4, 0, 0, 1, 0, WIDTH, HEIGHT, alone, CELLS, out, 8) == 0);
+    CHECK(papayahelm_draw(T, sizeof T, (const uint8_t *)"4", 1, 2, 5, 0, 4, 0, 0, 1, 0, WIDTH, HEIGHT, alone, CELLS, out,
+                          PAPAYAHELM_OUT_LEN) == PAPAYAHELM_OK);
     CHECK(papayahelm_show(&screen, "", "-4-", answer) == PAPAYAHELM_OK && answer[PAPAYAHELM_ADVANCE_X] == 9);
+    CHECK(answer[PAPAYAHELM_RECORDS] == 4 && answer[PAPAYAHELM_ENTRIES] == 0);
     CHECK(memcmp(panel, alone, CELLS) != 0);
     CHECK(papayahelm_show(&screen, "-4-", "4", answer) == PAPAYAHELM_OK && answer[PAPAYAHELM_HAS_BOX] == 1);
     CHECK(memcmp(panel, alone, CELLS) == 0);
@@ -293,6 +379,7 @@ int main(void) {
     texts();
     drawings();
     refusals();
+    sums();
     screens();
     words();
     printf("%d checks, %d failed\n", checks, failures);

@@ -31,7 +31,7 @@
  * anything else that is lent. No other argument can do harm: every number, code, font, text and buffer length is tested.
  *
  * THE ANSWER. All calls but papayahelm_open store PAPAYAHELM_OUT_LEN numbers in `out`, at the places of enum papayahelm_out; room
- * beyond them stays as it was. After a refusal they are 0 but for the code point.
+ * beyond them stays as it was. After a refusal they are 0 but for the code point (7 and 8) and the two sums (7).
  */
 #ifndef PAPAYAHELM_H
 #define PAPAYAHELM_H
@@ -92,8 +92,14 @@ enum papayahelm_out {
     PAPAYAHELM_BOX_TOP = 5,
     PAPAYAHELM_BOX_WIDTH = 6,
     PAPAYAHELM_BOX_HEIGHT = 7,
+    /* the steps of the text's lookups, added up: how many glyph records had their code looked at, and how many entries of the jump
+     * table were read. With status 0 over all characters, skipped ones too, and a newline brings nothing; with 7 over those up to
+     * and including the refused one; with every other refusal, and for a font box, both are 0. They fit uint32_t, and depend on
+     * the font, the text and the outcome alone */
+    PAPAYAHELM_RECORDS = 8,
+    PAPAYAHELM_ENTRIES = 9,
     /* how many numbers these are */
-    PAPAYAHELM_OUT_LEN = 8
+    PAPAYAHELM_OUT_LEN = 10
 };
 
 /* Places in the answer of papayahelm_open. */
@@ -158,8 +164,8 @@ uint32_t papayahelm_draw(const uint8_t *font, size_t font_len, const uint8_t *te
 
 /* The redraw step: the next reading in place of the one that stands, whole or not at all. It tests both texts for the causes 1 to
  * 6; fills the old text's bounding box with `clear_color`, if the old text is one that draws; and draws the new text if each of its
- * characters can be drawn. No character is skipped. The answer is the new text's. The status says which text the next step takes
- * as its old one (papayahelm_is_taken):
+ * characters can be drawn. No character is skipped. The answer is the new text's; its sums count each of its characters once, and
+ * none of the old text. The status says which text the next step takes as its old one (papayahelm_is_taken):
  *   0              the new text, which stands now
  *   7, 8           the new text too: the old one is cleared, and nothing of the new one is drawn
  *   1 .. 6, 255    the same old text as before, which still stands: nothing has changed

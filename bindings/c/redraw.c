@@ -59,9 +59,10 @@ int main(int argc, char **argv) {
         int64_t out[PAPAYAHELM_OUT_LEN];
         status = papayahelm_show(&screen, shown, readings[i], out);
         if (status == PAPAYAHELM_OK)
-            printf("%s: drawn, advance %d\n", readings[i], (int)out[PAPAYAHELM_ADVANCE_X]);
+            printf("%s: drawn, advance %d", readings[i], (int)out[PAPAYAHELM_ADVANCE_X]);
         else
-            printf("%s: %s (U+%04X)\n", readings[i], papayahelm_words(status), (unsigned)out[PAPAYAHELM_CODE_POINT]);
+            printf("%s: %s (U+%04X)", readings[i], papayahelm_words(status), (unsigned)out[PAPAYAHELM_CODE_POINT]);
+        printf("; %u records looked at\n", (unsigned)out[PAPAYAHELM_RECORDS]);
         print_panel();
         if (papayahelm_is_taken(status)) shown = readings[i];
     }

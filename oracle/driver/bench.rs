@@ -136,14 +136,14 @@ fn ours(input: &Input, buffer: &mut [u8]) -> i32 {
     let anchor = ours::VerticalPosition::Baseline;
     let draw = |color, pixels| {
         let mut framebuffer = ours::Framebuffer { width: WIDTH, height: HEIGHT, pixels };
-        seen(&font.render(text, position, anchor, color, &mut framebuffer)).as_ref().map_or(-1, |d| d.advance.x)
+        seen(&font.render(text, position, anchor, color, &mut framebuffer)).result.map_or(-1, |d| d.advance.x)
     };
     match input.call {
         Call::Open => seen(&font.header()).as_ref().map_or(-1, |h| h.line_height as i32),
-        Call::Measure => seen(&font.get_rendered_dimensions(text, position, anchor)).as_ref().map_or(-1, |d| d.advance.x),
+        Call::Measure => seen(&font.get_rendered_dimensions(text, position, anchor)).result.map_or(-1, |d| d.advance.x),
         Call::Aligned => {
             seen(&font.get_rendered_dimensions_aligned(text, position, anchor, ours::HorizontalAlignment::Center))
-                .as_ref()
+                .result
                 .map_or(-1, |b| b.map_or(0, |b| b.top_left.x))
         }
         Call::Transparent => draw(ours::FontColor::Transparent(1), buffer),

@@ -117,10 +117,20 @@ pub enum Answer {
 
 /// An answer, and what the framebuffer holds afterwards (empty where the call has none). After a panic of the Rust it is
 /// what the framebuffer held before the letter at which it panicked.
-#[derive(Clone, PartialEq, Eq)]
+#[derive(Clone)]
 pub struct Outcome {
     pub answer: Answer,
     pub buffer: Vec<u8>,
+    /// The sums of the lookups, records and entries, of a call on a text; `None` from a side that has none.
+    pub steps: Option<(u32, u32)>,
+}
+
+impl Outcome {
+    /// The sums count where both sides have them.
+    pub fn same(&self, other: &Outcome) -> bool {
+        let steps = self.steps.zip(other.steps).is_none_or(|(a, b)| a == b);
+        self.answer == other.answer && self.buffer == other.buffer && steps
+    }
 }
 
 impl Case {

@@ -6,6 +6,7 @@ use crate::case::{Answer, Call, Case, Outcome};
 use crate::rust_side;
 use crate::shrink::shrink;
 use crate::step;
+use crate::sums;
 
 /// The panics of the Rust for which our answer need not be 8: docs/DIFFERENCES.md lists them.
 const LISTED: &[&str] = &["font_reader/glyph_renderer.rs:56: attempt to subtract with overflow"];
@@ -51,7 +52,11 @@ fn without_numbers(site: &str) -> String {
     out
 }
 
-pub fn verdict(case: &Case, call: Call, ours: &Outcome) -> Verdict {
+/// `measured` is our answer to measuring the same case, for the sums.
+pub fn verdict(case: &Case, call: Call, ours: &Outcome, measured: &Outcome) -> Verdict {
+    if let Some(what) = sums::wrong(case, call, ours, measured) {
+        return Verdict::Different(what.to_string());
+    }
     if let Some(number) = case.off_limits(call) {
         let expected = Answer::Refused { number, code_point: 0 };
         if ours.answer != expected {
@@ -78,7 +83,7 @@ pub fn verdict(case: &Case, call: Call, ours: &Outcome) -> Verdict {
         }
         _ => rust_side::call(case, call),
     };
-    let same = rust == *ours;
+    let same = rust.same(ours);
     if case.has_width_8() && !matches!(call, Call::Open | Call::FontBox(_)) {
         return Verdict::NotCompared(if same { "8 bits wide, and the same" } else { "8 bits wide, and different or a panic" });
     }
@@ -162,9 +167,9 @@ pub fn explain(tally: &Tally, mut ours: impl FnMut(&Case, Call) -> Outcome) {
     for ((name, what), (n, case)) in &tally.different {
         let mut shown = |c: &Case| {
             Call::ALL.into_iter().filter(|call| call.name() == *name).find_map(|call| {
-                let answer = ours(c, call);
-                let same = matches!(verdict(c, call, &answer), Verdict::Different(w) if w == *what);
-                same.then(|| format!("{call:?}, ours {:?}", answer.answer))
+                let (answer, measured) = (ours(c, call), ours(c, Call::Measure));
+                let same = matches!(verdict(c, call, &answer, &measured), Verdict::Different(w) if w == *what);
+                same.then(|| format!("{call:?}, ours {:?}, sums {:?}, measuring {:?}", answer.answer, answer.steps, measured.steps))
             })
         };
         println!("{}: {what} ({n} times); the smallest case found:", Call::NAMES[*name]);
@@ -173,7 +178,9 @@ pub fn explain(tally: &Tally, mut ours: impl FnMut(&Case, Call) -> Outcome) {
     }
     if let Some(case) = &tally.listed {
         let mut shows = |c: &Case| {
-            Call::ALL.iter().any(|call| matches!(verdict(c, *call, &ours(c, *call)), Verdict::NotCompared("a listed panic")))
+            let measured = ours(c, Call::Measure);
+            let mut verdict = |call| verdict(c, call, &ours(c, call), &measured);
+            Call::ALL.into_iter().any(|call| matches!(verdict(call), Verdict::NotCompared("a listed panic")))
         };
         println!("the listed panic; the smallest case found:");
         print!("{}", shrink(case.clone(), &mut shows));

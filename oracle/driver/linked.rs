@@ -1,6 +1,8 @@
 //! Our answers: the static library, through the package bindings/rust.
 
-use papayahelm::{Error, FontColor, FontHeader, FontRenderer, Framebuffer, HorizontalAlignment, Place, Point, VerticalPosition};
+use papayahelm::{
+    Error, FontColor, FontHeader, FontRenderer, Framebuffer, HorizontalAlignment, Place, Point, Report, VerticalPosition,
+};
 
 use crate::case::{Answer, Area, Call, Case, Ink, Outcome};
 
@@ -14,6 +16,12 @@ fn area(r: papayahelm::Rectangle) -> Area {
 
 fn text_answer(d: papayahelm::RenderedDimensions) -> Answer {
     Answer::Text { advance: (d.advance.x, d.advance.y), bounds: d.bounding_box.map(area) }
+}
+
+type Reported = (Result<Answer, Error>, Option<(u32, u32)>);
+
+fn reported<T>(report: Report<T>, answer: impl FnOnce(T) -> Answer) -> Reported {
+    (report.result.map(answer), Some((report.steps.records, report.steps.entries)))
 }
 
 fn refused(error: Error) -> Answer {
@@ -55,21 +63,23 @@ pub fn call(case: &Case, call: Call) -> Outcome {
     };
     let mut buffer = if call.ink().is_some() { case.buffer.clone() } else { Vec::new() };
     let mut framebuffer = Framebuffer { width: case.width, height: case.height, pixels: &mut buffer };
-    let answer = match call {
-        Call::Open => font.header().map(header),
-        Call::FontBox(anchor) => font.get_font_bounding_box(ANCHORS[anchor]).map(|r| Answer::FontBox(area(r))),
-        Call::Measure => font.get_rendered_dimensions(&case.text, position, anchor).map(text_answer),
-        Call::Aligned(align) => font
-            .get_rendered_dimensions_aligned(&case.text, position, anchor, ALIGNS[align])
-            .map(|b| Answer::Bounds(b.map(area))),
-        Call::Draw(ink) => font.render(&case.text, position, anchor, color_of(ink), &mut framebuffer).map(text_answer),
-        Call::DrawAligned(ink) => font
-            .render(&case.text, position, anchor, color_of(ink), &mut framebuffer)
-            .map(|d| Answer::Bounds(d.bounding_box.map(area))),
+    let (answer, steps) = match call {
+        Call::Open => (font.header().map(header), None),
+        Call::FontBox(anchor) => (font.get_font_bounding_box(ANCHORS[anchor]).map(|r| Answer::FontBox(area(r))), None),
+        Call::Measure => reported(font.get_rendered_dimensions(&case.text, position, anchor), text_answer),
+        Call::Aligned(align) => {
+            let report = font.get_rendered_dimensions_aligned(&case.text, position, anchor, ALIGNS[align]);
+            reported(report, |b| Answer::Bounds(b.map(area)))
+        }
+        Call::Draw(ink) => reported(font.render(&case.text, position, anchor, color_of(ink), &mut framebuffer), text_answer),
+        Call::DrawAligned(ink) => {
+            let report = font.render(&case.text, position, anchor, color_of(ink), &mut framebuffer);
+            reported(report, |d| Answer::Bounds(d.bounding_box.map(area)))
+        }
         Call::Redraw(ink) => {
             let place = Place { position, vertical_pos: anchor, color: color_of(ink), background: case.clear_color };
-            font.redraw(&case.old_text, &case.text, place, &mut framebuffer).map(text_answer)
+            reported(font.redraw(&case.old_text, &case.text, place, &mut framebuffer), text_answer)
         }
     };
-    Outcome { answer: answer.unwrap_or_else(refused), buffer }
+    Outcome { answer: answer.unwrap_or_else(refused), buffer, steps }
 }

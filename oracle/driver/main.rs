@@ -17,6 +17,7 @@ mod rust_side;
 mod sequences;
 mod shrink;
 mod step;
+mod sums;
 
 use case::{Call, Case, Outcome};
 
@@ -25,9 +26,10 @@ fn run(seed: u64, count: u64, mut ours: impl FnMut(&Case, Call) -> Outcome) -> b
     let mut tally = compare::Tally::default();
     for _ in 0..count {
         let case = cases.next();
+        let measured = ours(&case, Call::Measure);
         for call in Call::ALL {
             let answer = ours(&case, call);
-            tally.add(&case, call, compare::verdict(&case, call, &answer));
+            tally.add(&case, call, compare::verdict(&case, call, &answer, &measured));
         }
     }
     println!("seed {seed}, {count} cases");
@@ -42,8 +44,10 @@ fn own(seed: u64, count: u64, mut model: model_side::Model) -> bool {
     let mut different = 0;
     for _ in 0..count {
         let case = cases.next();
+        let measured = linked::call(&case, Call::Measure);
         for call in Call::ALL {
-            if linked::call(&case, call) != model.call(&case, call) {
+            let ours = linked::call(&case, call);
+            if !ours.same(&model.call(&case, call)) || sums::wrong(&case, call, &ours, &measured).is_some() {
                 different += 1;
                 println!("{call:?}\n{case}");
             }

@@ -81,6 +81,6 @@ impl Model {
             Call::Aligned(_) => Answer::Bounds(area(0)),
             Call::DrawAligned(_) => Answer::Bounds(area(2)),
         };
-        Outcome { answer, buffer: bytes }
+        Outcome { answer, buffer: bytes, steps: None }
     }
 }

@@ -176,5 +176,5 @@ pub fn call(case: &Case, call: Call) -> Outcome {
         display.take_back();
         Answer::Panicked { code_point: letter.get(), site: SITE.with(|s| s.borrow().clone()) }
     });
-    Outcome { answer, buffer }
+    Outcome { answer, buffer, steps: None }
 }

@@ -26,14 +26,16 @@ fn fill(buffer: &mut [u8], width: usize, area: Area, color: u8) {
 }
 
 /// Both texts are drawn for their causes 1 to 6, the lower of which refuses the step. Then the box of the old text is filled
-/// if that drawing succeeded, and the new text is drawn on a copy, which counts if it succeeds. No letter is skipped.
+/// if that drawing succeeded, and the new text is drawn on a copy, which counts if it succeeds. No letter is skipped. The sums
+/// are those of that one drawing.
 pub fn of_drawings(case: &Case, ink: Ink, mut draw: impl FnMut(&Case, Call) -> Outcome) -> Step {
     let mut new = Case { skip: false, ..case.clone() };
     let old = draw(&Case { text: case.old_text.clone(), ..new.clone() }, Call::Draw(ink)).answer;
-    let first = draw(&new, Call::Draw(ink)).answer;
-    if let Some(number) = [cause(&old), cause(&first)].into_iter().flatten().min() {
+    let first = draw(&new, Call::Draw(ink));
+    if let Some(number) = [cause(&old), cause(&first.answer)].into_iter().flatten().min() {
         let answer = Answer::Refused { number, code_point: 0 };
-        return Step { outcome: Outcome { answer, buffer: new.buffer }, old };
+        let steps = first.steps.map(|_| (0, 0));
+        return Step { outcome: Outcome { answer, buffer: new.buffer, steps }, old };
     }
     if let Answer::Text { bounds: Some(area), .. } = old {
         fill(&mut new.buffer, case.width, area, case.clear_color);

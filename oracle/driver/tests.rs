@@ -1,4 +1,5 @@
-//! Tests of the driver's own parts: the sequences in the texts, the step made of drawings, and shrinking.
+//! Tests of the driver's own parts: the sequences in the texts, the step made of drawings, what must hold of the sums, and
+//! shrinking.
 
 mod case;
 mod fonts;
@@ -7,6 +8,7 @@ mod random;
 mod sequences;
 mod shrink;
 mod step;
+mod sums;
 
 use case::{Answer, Area, Call, Case, Ink, Outcome};
 use generate::Cases;
@@ -90,21 +92,22 @@ fn some_case(font: Vec<u8>, text: &[u8]) -> Case {
     }
 }
 
-/// Draws a letter as a pixel. A digit refuses with its number: 1 to 6 before anything is drawn, 7 and 8 where it stands.
+/// Draws a letter as a pixel, and counts a record. A digit refuses with its number: 1 to 6 before anything is drawn, 7 and 8
+/// where it stands.
 fn toy_draw(case: &Case, _: Call) -> Outcome {
     let mut buffer = case.buffer.clone();
     for (i, b) in case.text.iter().enumerate() {
+        let refused = |code_point| Answer::Refused { number: u32::from(b - b'0'), code_point };
         match b {
-            b'1'..=b'6' => {
-                return Outcome { answer: Answer::Refused { number: u32::from(b - b'0'), code_point: 0 }, buffer: case.buffer.clone() }
-            }
-            b'7' | b'8' => return Outcome { answer: Answer::Refused { number: u32::from(b - b'0'), code_point: 99 }, buffer },
+            b'1'..=b'6' => return Outcome { answer: refused(0), buffer: case.buffer.clone(), steps: Some((0, 0)) },
+            b'7' => return Outcome { answer: refused(99), buffer, steps: Some((i as u32 + 1, 0)) },
+            b'8' => return Outcome { answer: refused(99), buffer, steps: Some((0, 0)) },
             _ => buffer[i] = case.fg,
         }
     }
     let width = case.text.len() as u32;
     let bounds = (width > 0).then_some(Area { left: 0, top: 0, width, height: 1 });
-    Outcome { answer: Answer::Text { advance: (width as i32, 0), bounds }, buffer }
+    Outcome { answer: Answer::Text { advance: (width as i32, 0), bounds }, buffer, steps: Some((width, 0)) }
 }
 
 #[test]
@@ -114,19 +117,59 @@ fn a_step_is_made_of_drawings() {
         let outcome = step::of_drawings(&case, Ink::Transparent, toy_draw).outcome;
         let number = if let Answer::Refused { number, .. } = outcome.answer { number } else { 0 };
         assert_eq!(outcome.buffer[3..], [6; 12]);
-        (number, [outcome.buffer[0], outcome.buffer[1], outcome.buffer[2]])
+        (number, [outcome.buffer[0], outcome.buffer[1], outcome.buffer[2]], outcome.steps.expect("sums").0)
     };
-    // the ground is 6, the colour to clear with 5, the ink 9
-    assert_eq!(after(b"abc", b"d"), (0, [9, 5, 5]));
-    assert_eq!(after(b"", b"de"), (0, [9, 9, 6]));
-    assert_eq!(after(b"ab", b""), (0, [5, 5, 6]));
-    assert_eq!(after(b"ab", b"d7"), (7, [5, 5, 6]));
-    assert_eq!(after(b"ab", b"d8e"), (8, [5, 5, 6]));
-    assert_eq!(after(b"a7", b"d"), (0, [9, 6, 6]));
-    assert_eq!(after(b"a8", b"7"), (7, [6, 6, 6]));
-    assert_eq!(after(b"4", b"d"), (4, [6, 6, 6]));
-    assert_eq!(after(b"ab", b"6"), (6, [6, 6, 6]));
-    assert_eq!(after(b"5", b"4"), (4, [6, 6, 6]));
+    // the ground is 6, the colour to clear with 5, the ink 9; the last number counts the new text's letters
+    assert_eq!(after(b"abc", b"d"), (0, [9, 5, 5], 1));
+    assert_eq!(after(b"", b"de"), (0, [9, 9, 6], 2));
+    assert_eq!(after(b"ab", b""), (0, [5, 5, 6], 0));
+    assert_eq!(after(b"ab", b"d7"), (7, [5, 5, 6], 2));
+    assert_eq!(after(b"ab", b"d8e"), (8, [5, 5, 6], 0));
+    assert_eq!(after(b"a7", b"d"), (0, [9, 6, 6], 1));
+    assert_eq!(after(b"a8", b"7"), (7, [6, 6, 6], 1));
+    assert_eq!(after(b"4", b"d"), (4, [6, 6, 6], 0));
+    assert_eq!(after(b"ab", b"6"), (6, [6, 6, 6], 0));
+    assert_eq!(after(b"5", b"4"), (4, [6, 6, 6], 0));
+}
+
+fn outcome(answer: Answer, steps: Option<(u32, u32)>) -> Outcome {
+    Outcome { answer, buffer: vec![], steps }
+}
+
+/// A font with room for eight records or two entries, and a text of two letters.
+#[test]
+fn sums_that_cannot_be() {
+    let case = Case { skip: false, ..some_case(vec![0; 31], b"a\nb") };
+    let refused = |number, code_point| Answer::Refused { number, code_point };
+    let found = |ours: &Outcome, measured: &Outcome| sums::wrong(&case, Call::Redraw(Ink::Transparent), ours, measured);
+    let success = outcome(Answer::Bounds(None), Some((16, 4)));
+    assert_eq!(found(&success, &success), None);
+    // the answers of two calls are alike in kind, and the sums must be equal
+    let drawn = |steps| outcome(Answer::Text { advance: (1, 0), bounds: None }, Some(steps));
+    assert_eq!(found(&drawn((16, 4)), &success), None);
+    assert_eq!(found(&drawn((15, 4)), &success), Some("other sums than measuring has"));
+    assert_eq!(found(&drawn((16, 3)), &success), Some("other sums than measuring has"));
+    let missing = |code_point, steps| outcome(refused(7, code_point), Some(steps));
+    assert_eq!(found(&missing(97, (1, 0)), &success), None);
+    assert_eq!(found(&missing(97, (1, 0)), &missing(98, (2, 0))), None);
+    assert_eq!(found(&missing(97, (1, 0)), &missing(97, (2, 0))), Some("other sums than measuring has"));
+    // a step of a case that skips has another input
+    let skips = Case { skip: true, ..case.clone() };
+    assert_eq!(sums::wrong(&skips, Call::Redraw(Ink::Transparent), &drawn((15, 4)), &success), None);
+    assert!(sums::wrong(&skips, Call::Draw(Ink::Transparent), &drawn((15, 4)), &success).is_some());
+    // only 7 has sums among the refusals
+    for number in [1, 2, 3, 4, 5, 6, 8] {
+        assert_eq!(found(&outcome(refused(number, 0), Some((0, 0))), &success), None);
+        for steps in [(1, 0), (0, 1)] {
+            assert_eq!(found(&outcome(refused(number, 0), Some(steps)), &success), Some("sums with a refusal other than 7"));
+        }
+    }
+    for steps in [(17, 0), (0, 5)] {
+        assert_eq!(found(&drawn(steps), &drawn(steps)), Some("sums above what the font has room for"));
+    }
+    // a side without sums
+    assert_eq!(found(&outcome(Answer::Bounds(None), None), &success), None);
+    assert!(success.same(&outcome(Answer::Bounds(None), None)) && !success.same(&outcome(Answer::Bounds(None), Some((16, 5)))));
 }
 
 #[test]

@@ -37,10 +37,11 @@ fn main() -> ExitCode {
     let mut shown = ""; // the text that stands: at first none
     for text in READINGS {
         let answer = font.redraw(shown, text, place, &mut panel);
-        match &answer {
-            Ok(drawn) => println!("{text}: drawn, advance {}", drawn.advance.x),
-            Err(refusal) => println!("{text}: {refusal}"),
+        match &answer.result {
+            Ok(drawn) => print!("{text}: drawn, advance {}", drawn.advance.x),
+            Err(refusal) => print!("{text}: {refusal}"),
         }
+        println!("; {} records looked at", answer.steps.records);
         print(&panel);
         shown = standing(&answer, shown, text);
     }

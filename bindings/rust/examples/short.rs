@@ -7,7 +7,7 @@ fn main() -> Result<(), papayahelm::Error> {
     let mut shown = ""; // the text that stands: at first none
     for text in ["-12.5°", "7.0°", "7.?"] {
         let answer = font.redraw(shown, text, place, &mut panel);
-        if let Err(refusal) = &answer {
+        if let Err(refusal) = &answer.result {
             println!("{text}: {refusal}"); // "the font has no glyph for '?' (U+003F)"
         }
         shown = standing(&answer, shown, text);

@@ -22,10 +22,10 @@ fn readings() -> Result<(), Error> {
     let mut shown = "";
     for text in ["-12.5°", "7.0°"] {
         let answer = font.redraw(shown, text, place, &mut panel);
-        answer?;
+        answer.into_result()?;
         shown = standing(&answer, shown, text);
     }
-    font.redraw(shown, "7.?", place, &mut panel).map(|_| ())
+    font.redraw(shown, "7.?", place, &mut panel).result.map(|_| ())
 }
 
 // SAFETY: no other function of this program has this name.

@@ -28,17 +28,48 @@
 //! let mut shown = ""; // the text that stands: at first none
 //! for text in ["-4", "4-4", "45"] {
 //!     let answer = font.redraw(shown, text, place, &mut panel);
-//!     match &answer {
+//!     match &answer.result {
 //!         Ok(drawn) => println!("{text}: drawn, advance {}", drawn.advance.x),
 //!         // the old text is cleared, and nothing of the new one is drawn
 //!         Err(refusal) => println!("{text}: {refusal}"),
 //!     }
 //!     shown = standing(&answer, shown, text);
 //! }
-//! # let refusal = font.redraw(shown, "45", place, &mut panel).unwrap_err();
+//! # let refusal = font.redraw(shown, "45", place, &mut panel).into_result().unwrap_err();
 //! # assert_eq!(refusal.to_string(), "the font has no glyph for '5' (U+0035)");
 //! # assert_eq!(shown, "45");
 //! # assert!(panel.pixels.iter().all(|pixel| *pixel == 0));
+//! # Ok(())
+//! # }
+//! ```
+//!
+//! # Records looked at
+//!
+//! Each call on a text answers with a [`Report`]: its result, and beside it how many glyph records
+//! had their code looked at in the lookups, and how many jump table entries were read. The refusal
+//! of a missing glyph has them too:
+//!
+//! ```
+//! use papayahelm::{Error, FontRenderer, LookupSteps, Point, VerticalPosition};
+//!
+//! # // Font T of the tests: "-" and "4".
+//! # const BYTES: [u8; 35] = [
+//! #     2, 0, 2, 2, 3, 3, 2, 3, 3, 2, 3, 0, 0, 3, 0, 3, 0, 0, 10, 0, 10, 0, 12,
+//! #     45, 5, 138, 62, 2, 52, 5, 146, 60, 73, 0, 0,
+//! # ];
+//! # fn main() -> Result<(), papayahelm::Error> {
+//! # let bytes = &BYTES;
+//! let font = FontRenderer::new_from_raw_data(bytes)?; // it has "-" first, then "4"
+//! let measure =
+//!     |text| font.get_rendered_dimensions(text, Point::new(0, 0), VerticalPosition::Baseline);
+//!
+//! let four = measure("4");
+//! assert_eq!(four.steps, LookupSteps { records: 2, entries: 0 });
+//! assert_eq!(four.into_result()?.advance.x, 3);
+//!
+//! let five = measure("5"); // both, and the record that ends the list
+//! assert_eq!(five.result, Err(Error::GlyphNotFound('5')));
+//! assert_eq!(five.steps, LookupSteps { records: 3, entries: 0 });
 //! # Ok(())
 //! # }
 //! ```
@@ -64,6 +95,7 @@ mod geometry;
 mod header;
 mod raw;
 mod renderer;
+mod report;
 mod style;
 
 pub use error::Error;
@@ -71,4 +103,5 @@ pub use framebuffer::Framebuffer;
 pub use geometry::{Point, Rectangle, RenderedDimensions, Size};
 pub use header::FontHeader;
 pub use renderer::{is_taken, standing, FontRenderer};
+pub use report::{LookupSteps, Report};
 pub use style::{FontColor, HorizontalAlignment, Place, VerticalPosition};

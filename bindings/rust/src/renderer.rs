@@ -3,13 +3,16 @@
 use core::fmt;
 
 use crate::{
-    header, raw, Error, FontColor, FontHeader, Framebuffer, HorizontalAlignment, Place, Point,
-    Rectangle, RenderedDimensions, Size, VerticalPosition,
+    header, raw, Error, FontColor, FontHeader, Framebuffer, HorizontalAlignment, LookupSteps,
+    Place, Point, Rectangle, RenderedDimensions, Report, Size, VerticalPosition,
 };
 
 /// The numbers that the library stores of an answer: the refused code point, the advance's x and y,
-/// whether there is a bounding box, and its left, top, width and height.
-type Reply = [i64; 8];
+/// whether there is a bounding box, its left, top, width and height, and the steps of the lookups:
+/// records and entries.
+type Reply = [i64; LEN];
+
+const LEN: usize = 10;
 
 #[inline]
 fn checked(status: u32, reply: &Reply) -> Result<(), Error> {
@@ -34,20 +37,29 @@ fn bounding_box(reply: &Reply) -> Option<Rectangle> {
 }
 
 #[inline]
-fn dimensions(status: u32, reply: &Reply) -> Result<RenderedDimensions, Error> {
-    checked(status, reply)?;
-    Ok(RenderedDimensions {
+fn dimensions(reply: &Reply) -> RenderedDimensions {
+    RenderedDimensions {
         advance: Point::new(reply[1] as i32, reply[2] as i32),
         bounding_box: bounding_box(reply),
-    })
+    }
+}
+
+/// The steps are stored with a refusal too. Both fit a `u32`.
+#[inline]
+fn report<T>(status: u32, reply: &Reply, value: fn(&Reply) -> T) -> Report<T> {
+    Report {
+        result: checked(status, reply).map(|()| value(reply)),
+        steps: LookupSteps { records: reply[8] as u32, entries: reply[9] as u32 },
+    }
 }
 
 /// A font, and how texts are set in it: the line height, and whether unknown characters are
 /// skipped.
 ///
 /// The calls have the names and arguments of `FontRenderer` in u8g2-fonts, with a framebuffer in
-/// place of a display. They take a text as a `&str`, or as bytes that should be UTF-8. Each of them
-/// reads the font's bytes and checks all that it is handed; none panics, whatever that is.
+/// place of a display. They take a text as a `&str`, or as bytes that should be UTF-8, and answer
+/// to it with a [`Report`]. Each of them reads the font's bytes and checks all that it is handed;
+/// none panics, whatever that is.
 #[derive(Clone, Copy, PartialEq, Eq)]
 pub struct FontRenderer<'a> {
     data: &'a [u8],
@@ -97,7 +109,8 @@ impl<'a> FontRenderer<'a> {
     /// First the causes 1 to 6 are tested for both texts. If one applies, nothing changes. Then the
     /// bounding box of the old text, if that is one that draws, is filled with
     /// [`place.background`](Place::background). Then the new text is drawn if every one of its
-    /// characters draws; if not, nothing of it is drawn, and its refusal is the answer.
+    /// characters draws; if not, nothing of it is drawn, and its refusal is the answer. The steps in
+    /// the report count each character of the new text once, and none of the old text.
     ///
     /// The old text is the one that the framebuffer shows or that was refused by number 7 or 8: at
     /// first the empty text, then what [`standing`] says. The font, the place and the framebuffer's
@@ -112,10 +125,10 @@ impl<'a> FontRenderer<'a> {
         new_text: impl AsRef<[u8]>,
         place: Place,
         framebuffer: &mut Framebuffer<'_>,
-    ) -> Result<RenderedDimensions, Error> {
+    ) -> Report<RenderedDimensions> {
         let (old_text, new_text) = (old_text.as_ref(), new_text.as_ref());
         let (background, fg, bg) = place.color.parts();
-        let mut out: Reply = [0; 8];
+        let mut out: Reply = [0; LEN];
         // SAFETY: each pointer comes from a slice and stands beside that slice's length. The pixels
         // and `out` are borrowed mutably, so that nothing else overlaps them. The library tests all
         // other arguments.
@@ -143,7 +156,7 @@ impl<'a> FontRenderer<'a> {
                 out.len(),
             )
         };
-        dimensions(status, &out)
+        report(status, &out, dimensions)
     }
 
     /// Draws a text.
@@ -163,10 +176,10 @@ impl<'a> FontRenderer<'a> {
         vertical_pos: VerticalPosition,
         color: FontColor,
         framebuffer: &mut Framebuffer<'_>,
-    ) -> Result<RenderedDimensions, Error> {
+    ) -> Report<RenderedDimensions> {
         let text = text.as_ref();
         let (background, fg, bg) = color.parts();
-        let mut out: Reply = [0; 8];
+        let mut out: Reply = [0; LEN];
         // SAFETY: each pointer comes from a slice and stands beside that slice's length. The pixels
         // and `out` are borrowed mutably, so that nothing else overlaps them. The library tests all
         // other arguments.
@@ -192,7 +205,7 @@ impl<'a> FontRenderer<'a> {
                 out.len(),
             )
         };
-        dimensions(status, &out)
+        report(status, &out, dimensions)
     }
 
     /// What [`render`](Self::render) would answer.
@@ -209,9 +222,9 @@ impl<'a> FontRenderer<'a> {
         text: impl AsRef<[u8]>,
         position: Point,
         vertical_pos: VerticalPosition,
-    ) -> Result<RenderedDimensions, Error> {
+    ) -> Report<RenderedDimensions> {
         let text = text.as_ref();
-        let mut out: Reply = [0; 8];
+        let mut out: Reply = [0; LEN];
         // SAFETY: each pointer comes from a slice and stands beside that slice's length. `out` is
         // borrowed mutably, so that nothing else overlaps it. The library tests all other
         // arguments.
@@ -230,7 +243,7 @@ impl<'a> FontRenderer<'a> {
                 out.len(),
             )
         };
-        dimensions(status, &out)
+        report(status, &out, dimensions)
     }
 
     /// The bounding box of a text whose lines are aligned, each for itself, or `None` where it has
@@ -245,9 +258,9 @@ impl<'a> FontRenderer<'a> {
         position: Point,
         vertical_pos: VerticalPosition,
         horizontal_align: HorizontalAlignment,
-    ) -> Result<Option<Rectangle>, Error> {
+    ) -> Report<Option<Rectangle>> {
         let text = text.as_ref();
-        let mut out: Reply = [0; 8];
+        let mut out: Reply = [0; LEN];
         // SAFETY: each pointer comes from a slice and stands beside that slice's length. `out` is
         // borrowed mutably, so that nothing else overlaps it. The library tests all other
         // arguments.
@@ -267,8 +280,7 @@ impl<'a> FontRenderer<'a> {
                 out.len(),
             )
         };
-        checked(status, &out)?;
-        Ok(bounding_box(&out))
+        report(status, &out, bounding_box)
     }
 
     /// The area that holds every glyph of the font, drawn at (0, 0).
@@ -281,7 +293,7 @@ impl<'a> FontRenderer<'a> {
         &self,
         vertical_pos: VerticalPosition,
     ) -> Result<Rectangle, Error> {
-        let mut out: Reply = [0; 8];
+        let mut out: Reply = [0; LEN];
         // SAFETY: each pointer comes from a slice and stands beside that slice's length. `out` is
         // borrowed mutably, so that nothing else overlaps it. The library tests the anchor.
         let status = unsafe {
@@ -360,14 +372,14 @@ impl fmt::Debug for FontRenderer<'_> {
 /// text is cleared and nothing of the new one is drawn. After any other refusal the old text still
 /// stands.
 #[must_use]
-pub const fn is_taken(answer: &Result<RenderedDimensions, Error>) -> bool {
-    matches!(answer, Ok(_) | Err(Error::GlyphNotFound(_) | Error::FontEnds(_)))
+pub const fn is_taken(answer: &Report<RenderedDimensions>) -> bool {
+    matches!(answer.result, Ok(_) | Err(Error::GlyphNotFound(_) | Error::FontEnds(_)))
 }
 
 /// Of the two texts that were handed to [`FontRenderer::redraw`], the one to hand to the next step
 /// as its old text.
 #[must_use]
-pub fn standing<T>(answer: &Result<RenderedDimensions, Error>, old_text: T, new_text: T) -> T {
+pub fn standing<T>(answer: &Report<RenderedDimensions>, old_text: T, new_text: T) -> T {
     if is_taken(answer) {
         new_text
     } else {

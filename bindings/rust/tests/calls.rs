@@ -2,7 +2,8 @@
 
 use papayahelm::{
     is_taken, standing, Error, FontColor, FontHeader, FontRenderer, Framebuffer,
-    HorizontalAlignment, Place, Point, Rectangle, RenderedDimensions, Size, VerticalPosition,
+    HorizontalAlignment, LookupSteps, Place, Point, Rectangle, RenderedDimensions, Report, Size,
+    VerticalPosition,
 };
 
 /// "-" (2 × 1 pixels) and "4" (2 × 2), line height 4, no background colour.
@@ -133,13 +134,13 @@ fn font_box_from_each_anchor() {
 #[test]
 fn measures() {
     let measure =
-        |text: &str| font(T).get_rendered_dimensions(text, HERE, VerticalPosition::Baseline);
+        |text: &str| font(T).get_rendered_dimensions(text, HERE, VerticalPosition::Baseline).result;
     assert_eq!(measure("-"), Ok(dimensions((3, 0), Some(area(10, 17, 2, 1)))));
     assert_eq!(measure("4"), Ok(dimensions((3, 0), Some(area(10, 18, 2, 2)))));
     assert_eq!(measure("-4"), Ok(dimensions((6, 0), Some(area(10, 17, 5, 3)))));
     assert_eq!(measure("-\n4"), Ok(dimensions((3, 4), Some(area(10, 17, 2, 7)))));
     assert_eq!(measure(""), Ok(RenderedDimensions::default()));
-    let anchored = |anchor| font(T).get_rendered_dimensions("-", HERE, anchor).unwrap();
+    let anchored = |anchor| font(T).get_rendered_dimensions("-", HERE, anchor).result.unwrap();
     let tops = ANCHORS.map(|anchor| anchored(anchor).bounding_box.unwrap().top_left.y);
     assert_eq!(tops, [17, 21, 19, 17]);
 }
@@ -147,14 +148,18 @@ fn measures() {
 #[test]
 fn measures_aligned() {
     let aligned = |text: &str, align| {
-        font(T).get_rendered_dimensions_aligned(text, HERE, VerticalPosition::Baseline, align)
+        font(T)
+            .get_rendered_dimensions_aligned(text, HERE, VerticalPosition::Baseline, align)
+            .result
     };
     assert_eq!(aligned("-4", HorizontalAlignment::Left), Ok(Some(area(10, 17, 5, 3))));
     assert_eq!(aligned("-4", HorizontalAlignment::Center), Ok(Some(area(8, 17, 5, 3))));
     assert_eq!(aligned("-4", HorizontalAlignment::Right), Ok(Some(area(5, 17, 5, 3))));
     assert_eq!(aligned("", HorizontalAlignment::Right), Ok(None));
     let anchored = |anchor| {
-        font(T).get_rendered_dimensions_aligned("-", HERE, anchor, HorizontalAlignment::Left)
+        font(T)
+            .get_rendered_dimensions_aligned("-", HERE, anchor, HorizontalAlignment::Left)
+            .into_result()
     };
     assert_eq!(ANCHORS.map(anchored), [17, 21, 19, 17].map(|top| Ok(Some(area(10, top, 2, 1)))));
 }
@@ -162,7 +167,7 @@ fn measures_aligned() {
 #[test]
 fn line_height_and_skipping_are_settings() {
     let measure = |font: FontRenderer, text: &str| {
-        font.get_rendered_dimensions(text, HERE, VerticalPosition::Baseline)
+        font.get_rendered_dimensions(text, HERE, VerticalPosition::Baseline).result
     };
     let tall = font(T).with_line_height(9);
     assert_eq!(measure(tall, "-\n4"), Ok(dimensions((3, 9), Some(area(10, 17, 2, 12)))));
@@ -171,14 +176,15 @@ fn line_height_and_skipping_are_settings() {
     let left = HorizontalAlignment::Left;
     let aligned =
         skipping.get_rendered_dimensions_aligned("-A4", HERE, VerticalPosition::Baseline, left);
-    assert_eq!(aligned, Ok(Some(area(10, 17, 5, 3))));
+    assert_eq!(aligned.result, Ok(Some(area(10, 17, 5, 3))));
     let mut panel = Framebuffer { width: 8, height: 8, pixels: &mut [0; 64] };
     let drawn =
         skipping.render("-A4", Point::new(0, 7), VerticalPosition::Baseline, INK, &mut panel);
-    assert_eq!(drawn, Ok(dimensions((6, 0), Some(area(0, 4, 5, 3)))));
+    assert_eq!(drawn.result, Ok(dimensions((6, 0), Some(area(0, 4, 5, 3)))));
     // the redraw step skips nothing
     let place = Place::new(Point::new(0, 7), INK);
-    assert_eq!(skipping.redraw("", "-A4", place, &mut panel), Err(Error::GlyphNotFound('A')));
+    let refused = skipping.redraw("", "-A4", place, &mut panel);
+    assert_eq!(refused.result, Err(Error::GlyphNotFound('A')));
     assert_eq!(skipping.with_ignore_unknown_chars(false), font(T));
 }
 
@@ -197,7 +203,7 @@ fn renders() {
     let mut panel = Framebuffer { width: 6, height: 5, pixels: &mut [0; 30] };
     let answer =
         font(T).render("-4", Point::new(0, 4), VerticalPosition::Baseline, INK, &mut panel);
-    assert_eq!(answer, Ok(dimensions((6, 0), Some(area(0, 1, 5, 3)))));
+    assert_eq!(answer.result, Ok(dimensions((6, 0), Some(area(0, 1, 5, 3)))));
     assert_eq!(picture(&panel), ["000000", "110000", "000100", "000110", "000000"]);
 
     let background = changed(1, 1);
@@ -208,7 +214,7 @@ fn renders() {
         INK_ON_PAPER,
         &mut panel,
     );
-    assert_eq!(answer, Ok(dimensions((3, 0), Some(area(1, 2, 2, 2)))));
+    assert_eq!(answer.result, Ok(dimensions((3, 0), Some(area(1, 2, 2, 2)))));
     assert_eq!(picture(&panel), ["000000", "110000", "012100", "011110", "000000"]);
 
     // a part that is seen, and none
@@ -216,11 +222,11 @@ fn renders() {
     let answer =
         font(T).render("4", Point::new(-1, 1), VerticalPosition::Baseline, INK, &mut panel);
     assert_eq!(
-        (answer.unwrap().bounding_box, picture(&panel)),
+        (answer.result.unwrap().bounding_box, picture(&panel)),
         (Some(area(-1, -1, 2, 2)), vec!["100".into(), "000".into()])
     );
     let answer = font(T).render("4", Point::new(0, 9), VerticalPosition::Baseline, INK, &mut panel);
-    assert!(answer.is_ok() && picture(&panel) == ["100", "000"]);
+    assert!(answer.result.is_ok() && picture(&panel) == ["100", "000"]);
 }
 
 #[test]
@@ -231,11 +237,11 @@ fn text_is_a_string_or_bytes() {
     let string = String::from("-12.5°");
     assert_eq!(measure(&string), measure(&"-12.5°"));
     assert_eq!(measure(&string.as_bytes()), measure(&b"-12.5\xC2\xB0"));
-    assert_eq!(measure(&b"-12.5\xC2"), Err(Error::TextEncoding));
+    assert_eq!(measure(&b"-12.5\xC2").result, Err(Error::TextEncoding));
     let place = Place::new(HERE, INK);
     let mut panel = Framebuffer { width: 64, height: 32, pixels: &mut [0; 64 * 32] };
-    assert!(font(GAUGE).redraw(b"", &string, place, &mut panel).is_ok());
-    assert!(font(GAUGE).redraw(string, vec![b'7'], place, &mut panel).is_ok());
+    assert!(font(GAUGE).redraw(b"", &string, place, &mut panel).result.is_ok());
+    assert!(font(GAUGE).redraw(string, vec![b'7'], place, &mut panel).result.is_ok());
 }
 
 /// Each reading over the one before shows what it shows alone, or nothing.
@@ -259,8 +265,8 @@ fn redraws() {
         let answer = font(T).redraw(shown, text, place, &mut panel);
         let (expected, mut pixels) = alone(text);
         assert_eq!(answer, expected);
-        if answer.is_err() {
-            assert_eq!(answer, Err(Error::GlyphNotFound('5')));
+        if answer.result.is_err() {
+            assert_eq!(answer.result, Err(Error::GlyphNotFound('5')));
             pixels = [3; 12 * 8];
         }
         assert_eq!(panel.pixels, pixels, "{text}");
@@ -272,7 +278,7 @@ fn redraws() {
     for wrong in [&b"\xFF"[..], &[b'-'; 4097]] {
         let before = panel.pixels.to_vec();
         let answer = font(T).redraw(shown, wrong, place, &mut panel);
-        assert_eq!((answer, is_taken(&answer)), (Err(Error::TextEncoding), false));
+        assert_eq!((answer.result, is_taken(&answer)), (Err(Error::TextEncoding), false));
         assert_eq!(panel.pixels, before);
         assert_eq!(standing(&answer, shown.as_bytes(), wrong), b"44");
     }
@@ -283,9 +289,9 @@ fn redraws_with_a_background_colour() {
     let mut panel = Framebuffer { width: 4, height: 4, pixels: &mut [0; 16] };
     let bytes = changed(1, 1);
     let place = Place::new(Point::new(0, 3), INK_ON_PAPER);
-    assert!(font(&bytes).redraw("", "4", place, &mut panel).is_ok());
+    assert!(font(&bytes).redraw("", "4", place, &mut panel).result.is_ok());
     assert_eq!(picture(&panel), ["0000", "1200", "1100", "0000"]);
-    assert!(font(&bytes).redraw("4", "-", place, &mut panel).is_ok());
+    assert!(font(&bytes).redraw("4", "-", place, &mut panel).result.is_ok());
     assert_eq!(picture(&panel), ["1100", "0000", "0000", "0000"]);
 }
 
@@ -334,48 +340,55 @@ const PLAIN: Input = Input {
 #[derive(Clone, Copy, PartialEq, Debug)]
 enum Call {
     Measure,
-    Aligned,
+    Aligned(HorizontalAlignment),
     Render,
     RedrawOld,
     RedrawNew,
 }
 
-const ON_TEXTS: &[Call] =
-    &[Call::Measure, Call::Aligned, Call::Render, Call::RedrawOld, Call::RedrawNew];
+const ALIGNED: Call = Call::Aligned(HorizontalAlignment::Right);
+const ON_TEXTS: &[Call] = &[Call::Measure, ALIGNED, Call::Render, Call::RedrawOld, Call::RedrawNew];
 const DRAWING: &[Call] = &[Call::Render, Call::RedrawOld, Call::RedrawNew];
-const LETTERS: &[Call] = &[Call::Measure, Call::Aligned, Call::Render, Call::RedrawNew];
+const LETTERS: &[Call] = &[Call::Measure, ALIGNED, Call::Render, Call::RedrawNew];
 
-/// The refusal, and what the framebuffer holds afterwards; it was filled with 9.
-fn refusal(call: Call, input: &Input) -> (Option<Error>, Vec<u8>) {
+/// What a call reports, success being all alike, and what the framebuffer holds afterwards; it was
+/// filled with 9.
+fn reported(call: Call, input: &Input) -> (Report<()>, Vec<u8>) {
+    fn plain<T>(report: Report<T>) -> Report<()> {
+        Report { result: report.result.map(|_| ()), steps: report.steps }
+    }
     let font = FontRenderer::new_unread(input.font, input.line_height)
         .with_ignore_unknown_chars(input.skip);
     let anchor = VerticalPosition::Baseline;
     let place = Place { background: 3, ..Place::new(input.at, input.color) };
     let mut pixels = vec![9; input.bytes];
     let mut panel = Framebuffer { width: input.size.0, height: input.size.1, pixels: &mut pixels };
-    let error = match call {
-        Call::Measure => font.get_rendered_dimensions(input.text, input.at, anchor).err(),
-        Call::Aligned => font
-            .get_rendered_dimensions_aligned(
-                input.text,
-                input.at,
-                anchor,
-                HorizontalAlignment::Right,
-            )
-            .err(),
-        Call::Render => font.render(input.text, input.at, anchor, input.color, &mut panel).err(),
-        Call::RedrawOld => font.redraw(input.text, "-", place, &mut panel).err(),
-        Call::RedrawNew => font.redraw("-", input.text, place, &mut panel).err(),
+    let report = match call {
+        Call::Measure => plain(font.get_rendered_dimensions(input.text, input.at, anchor)),
+        Call::Aligned(align) => {
+            plain(font.get_rendered_dimensions_aligned(input.text, input.at, anchor, align))
+        }
+        Call::Render => plain(font.render(input.text, input.at, anchor, input.color, &mut panel)),
+        Call::RedrawOld => plain(font.redraw(input.text, "-", place, &mut panel)),
+        Call::RedrawNew => plain(font.redraw("-", input.text, place, &mut panel)),
     };
-    (error, pixels)
+    (report, pixels)
 }
 
-/// Each of the calls is refused so, and after the first six numbers no pixel has changed.
+/// The refusal, and what the framebuffer holds afterwards.
+fn refusal(call: Call, input: &Input) -> (Option<Error>, Vec<u8>) {
+    let (report, pixels) = reported(call, input);
+    (report.result.err(), pixels)
+}
+
+/// Each of the calls is refused so. After the first six numbers no pixel has changed; only with 7
+/// are the lookups counted.
 fn refused(calls: &[Call], input: &Input, error: Error) {
     for call in calls {
-        let (found, pixels) = refusal(*call, input);
-        assert_eq!(found, Some(error), "{call:?}");
+        let (found, pixels) = reported(*call, input);
+        assert_eq!(found.result, Err(error), "{call:?}");
         assert!(error.number() > 6 || pixels.iter().all(|pixel| *pixel == 9), "{call:?}");
+        assert!(error.number() == 7 || found.steps == LookupSteps::default(), "{call:?}");
     }
 }
 
@@ -469,6 +482,56 @@ fn refuses_8_font_ends() {
     refused(&[Call::Render, Call::RedrawNew], &runs, Error::FontEnds('4'));
     assert!(!refusal(Call::RedrawNew, &runs).1.contains(&1));
     assert_eq!(refusal(Call::RedrawOld, &runs).0, None);
+}
+
+/// What a text brings in the lookups, by each call on it and with each alignment.
+#[test]
+fn steps_are_handed_up() {
+    // a jump table: two entries with limits below U+0100; one that leads to a record 0; one that
+    // leads to U+0100
+    let below = [&T[..], &[0; 9]].concat();
+    let zero = [&T[..], &[0, 4, 255, 255, 0, 0, 0]].concat();
+    let found = [&T[..], &[0, 4, 255, 255, 1, 0, 6, 138, 62, 2]].concat();
+    let missing = |ch| Err(Error::GlyphNotFound(ch));
+    let brings = |font, skip, text: &str, result, records, entries| {
+        let input = Input { font, skip, text: text.as_bytes(), ..PLAIN };
+        let steps = LookupSteps { records, entries };
+        let aligns =
+            [HorizontalAlignment::Left, HorizontalAlignment::Center, HorizontalAlignment::Right];
+        let mut calls = aligns.map(Call::Aligned).to_vec();
+        calls.extend([Call::Measure, Call::Render]);
+        // the step skips nothing
+        calls.extend((!skip).then_some(Call::RedrawNew));
+        for call in calls {
+            assert_eq!(reported(call, &input).0, Report { result, steps }, "{text:?} {call:?}");
+        }
+        // the old text of a step is not counted: "-" is the first record
+        let minus = Report { result: Ok(()), steps: LookupSteps { records: 1, entries: 0 } };
+        assert_eq!(reported(Call::RedrawOld, &input).0, minus, "{text:?}");
+    };
+    brings(T, false, "", Ok(()), 0, 0);
+    brings(T, false, "-4", Ok(()), 3, 0);
+    brings(T, false, "-\n4\n", Ok(()), 3, 0);
+    brings(T, false, "444", Ok(()), 6, 0);
+    brings(T, false, "A", missing('A'), 1, 0);
+    brings(T, false, "5", missing('5'), 3, 0);
+    brings(T, false, "-A", missing('A'), 2, 0);
+    brings(T, false, "-A4", missing('A'), 2, 0);
+    brings(T, true, "-A4", Ok(()), 4, 0);
+    brings(T, true, "-A4A", Ok(()), 5, 0);
+    brings(&T[..33], false, "-A", Err(Error::FontEnds('A')), 0, 0);
+    brings(&T[..33], true, "-A", Err(Error::FontEnds('A')), 0, 0);
+    brings(T, false, "\u{10000}", missing('\u{10000}'), 0, 0);
+    brings(&below, false, "\u{100}", missing('\u{100}'), 0, 2);
+    brings(&zero, false, "\u{100}", missing('\u{100}'), 1, 1);
+    brings(&found, false, "\u{100}", Ok(()), 1, 1);
+    brings(&found, false, "4\u{100}-\u{100}", Ok(()), 5, 2);
+    brings(&found, false, "\u{100}\u{101}", Err(Error::FontEnds('\u{101}')), 0, 0);
+    // "4" can be measured, but not drawn
+    let runs = Input { font: &T[..32], text: b"4", ..PLAIN };
+    let four = Report { result: Ok(()), steps: LookupSteps { records: 2, entries: 0 } };
+    assert_eq!([Call::Measure, ALIGNED].map(|call| reported(call, &runs).0), [four; 2]);
+    refused(&[Call::Render, Call::RedrawNew], &runs, Error::FontEnds('4'));
 }
 
 /// The causes are tested in the order of their numbers.

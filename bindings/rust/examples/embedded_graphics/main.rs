@@ -87,7 +87,7 @@ fn main() -> Result<(), Box<dyn std::error::Error>> {
     assert_eq!(screen.display().picture(), ["................"; HEIGHT]);
     assert_eq!(screen.display().count, WIDTH * HEIGHT);
 
-    let drawn = screen.show("7.4", color_of)??;
+    let drawn = screen.show("7.4", color_of)?.into_result()?;
     println!("7.4: advance {}", drawn.advance.x);
     let seven_four = [
         "................",
@@ -104,19 +104,19 @@ fn main() -> Result<(), Box<dyn std::error::Error>> {
 
     // Only the boxes of both readings are handed over: 13 and 4 visible columns.
     let before = screen.display().count;
-    screen.show("-", color_of)??;
+    screen.show("-", color_of)?.into_result()?;
     let mut minus = ["................"; HEIGHT];
     minus[4] = "####............";
     assert_eq!(screen.display().picture(), minus);
     assert_eq!(screen.display().count - before, 13 * 7 + 4);
 
     // Refused: the old reading is cleared, and nothing of the new one is shown.
-    let refusal = screen.show("7?", color_of)?.unwrap_err();
+    let refusal = screen.show("7?", color_of)?.into_result().unwrap_err();
     println!("7?: {refusal}");
     assert_eq!(refusal, Error::GlyphNotFound('?'));
     assert_eq!(screen.display().picture(), ["................"; HEIGHT]);
 
-    screen.show("7.4", color_of)??;
+    screen.show("7.4", color_of)?.into_result()?;
     assert_eq!(screen.display().picture(), seven_four);
     println!("{}", screen.display().picture().join("\n"));
     Ok(())

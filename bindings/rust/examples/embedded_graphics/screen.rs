@@ -3,7 +3,7 @@
 
 use embedded_graphics_core::draw_target::DrawTarget;
 use papayahelm::{
-    standing, Error, FontRenderer, Framebuffer, Place, Rectangle, RenderedDimensions,
+    standing, FontRenderer, Framebuffer, Place, Rectangle, RenderedDimensions, Report,
 };
 
 use crate::hand_over::hand_over;
@@ -33,16 +33,16 @@ impl<'a, D: DrawTarget> Screen<'a, D> {
         Ok(screen)
     }
 
-    /// Shows a reading in place of the one before, whole or not at all. The outer error is the
-    /// display's, the inner one the refusal of the reading.
+    /// Shows a reading in place of the one before, whole or not at all. The error is the display's;
+    /// a refusal of the reading is in the report.
     pub fn show(
         &mut self,
         text: &'a str,
         color_of: impl Fn(u8) -> D::Color,
-    ) -> Result<Result<RenderedDimensions, Error>, D::Error> {
+    ) -> Result<Report<RenderedDimensions>, D::Error> {
         let (old_text, old_box) = self.shown;
         let answer = self.font.redraw(old_text, text, self.place, &mut self.framebuffer);
-        let new_box = answer.ok().and_then(|drawn| drawn.bounding_box);
+        let new_box = answer.result.ok().and_then(|drawn| drawn.bounding_box);
         // No pixel outside the two boxes has changed.
         for area in [old_box, new_box].into_iter().flatten() {
             hand_over(&self.framebuffer, area, &color_of, &mut self.display)?;
