@@ -7,10 +7,10 @@ use Rattle.agreement.specs.declared.Answers.{Answers}
 
 abbrev pub asResults : Answers → List ℕ → List ℕ → Results
 asResults answers first second = record {
-  first = dimensionsOutcome (answers .first);
-  second = dimensionsOutcome (answers .second);
-  first-measured = dimensionsOutcome (answers .«first_measured»);
-  second-measured = dimensionsOutcome (answers .«second_measured»);
+  first = dimensionsOutcome (answers .first .result);
+  second = dimensionsOutcome (answers .second .result);
+  first-measured = dimensionsOutcome (answers .«first_measured» .result);
+  second-measured = dimensionsOutcome (answers .«second_measured» .result);
   first-after = first;
   second-after = second;
 }

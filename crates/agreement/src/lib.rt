@@ -7,16 +7,16 @@ ghost use Rattle.agreement.specs.Calls.{asResults};
 use measuring::rendered_dimensions::get_rendered_dimensions;
 use renderer::render::render;
 use types::framebuffer::Framebuffer;
-use types::results::DimensionsResult;
+use types::results::DimensionsReport;
 use types::style::FontStyle;
 use types::style::Placement;
 
 // What each of the four calls answered.
 pub struct Answers {
-    pub first: DimensionsResult,
-    pub second: DimensionsResult,
-    pub first_measured: DimensionsResult,
-    pub second_measured: DimensionsResult,
+    pub first: DimensionsReport,
+    pub second: DimensionsReport,
+    pub first_measured: DimensionsReport,
+    pub second_measured: DimensionsReport,
 }
 
 // Draws one text on two framebuffers, on each with a font of its own, and measures it with both fonts. Whatever the input, the four

@@ -11,7 +11,7 @@ ghost use Rattle.definitions.specs.Calls.{openFont, fontBoundingBox, request, p
 ghost use Rattle.redraw_checks.specs.Drawing.{asked, groundOf};
 ghost use Rattle.redraw.specs.Redraw.{redrawn, redrawnBuffer};
 ghost use Rattle.c_codes.specs.Codes.{meaningOf, inkOf, placedBy};
-ghost use Rattle.c_values.specs.Replies.{Answers, drawnBy, boxReply, textReply, alignedReply};
+ghost use Rattle.c_values.specs.Replies.{Answers, drawnBy, boxReply, textReply, alignedReply, withSums, withoutSteps};
 ghost use Rattle.c_values.specs.Headers.{Opens};
 ghost use Rattle.c_api.specs.Places.{placeBy};
 use c_codes::Codes;
@@ -23,6 +23,7 @@ use c_values::reply::of_dimensions;
 use c_values::reply::of_rectangle;
 use c_values::reply::store;
 use font_reader::new_from_raw_data;
+use lookup_sums::no_steps;
 use measuring::font_bounding_box::get_font_bounding_box;
 use measuring::rendered_dimensions::get_rendered_dimensions;
 use measuring::rendered_dimensions_aligned::get_rendered_dimensions_aligned;
@@ -58,13 +59,14 @@ pub extern "C" fn papayahelm_open(font: &[u8], out: &mut [i64]) -> u32
 #[no_mangle]
 pub extern "C" fn papayahelm_font_box(font: &[u8], anchor: u32, out: &mut [i64]) -> u32
     ensures { λ r. ⌜ Answers (meaningOf anchor 0 0 0 (length (now (out .entry))))
-        (λ m. boxReply (fontBoundingBox (now (font .entry)) (m .«vertical_pos»))) r (now (out .entry)) (now (out .exit)) ⌝ }
+        (λ m. withoutSteps (boxReply (fontBoundingBox (now (font .entry)) (m .«vertical_pos»)))) r (now (out .entry)) (now (out .exit)) ⌝ }
 {
     let Codes::Known(m) = known_codes(anchor, 0, 0, 0, out.len()) else {
         return BAD_ARGUMENT;
     };
     let vertical_pos = m.vertical_pos;
-    store(out, of_rectangle(get_font_bounding_box(font, vertical_pos)))
+    let result = get_font_bounding_box(font, vertical_pos);
+    store(out, of_rectangle(result), no_steps())
 }
 
 // The dimensions that a text has when it is drawn.
@@ -80,7 +82,7 @@ pub extern "C" fn papayahelm_measure(
     out: &mut [i64],
 ) -> u32
     ensures { λ r. ⌜ Answers (meaningOf anchor 0 skip 0 (length (now (out .entry))))
-        (λ m. textReply (measure (u8g2 (now (font .entry))) (plain (now (text .entry)) (placedBy m x y «line_height»)
+        (λ m. withSums (now (font .entry)) (now (text .entry)) textReply (measure (u8g2 (now (font .entry))) (plain (now (text .entry)) (placedBy m x y «line_height»)
         (m .«vertical_pos»)))) r (now (out .entry)) (now (out .exit)) ⌝ }
 {
     let Codes::Known(m) = known_codes(anchor, 0, skip, 0, out.len()) else {
@@ -92,8 +94,10 @@ pub extern "C" fn papayahelm_measure(
         line_height,
         ignore_unknown_chars: m.skip,
     };
-    let result = get_rendered_dimensions(font, text, placement, vertical_pos);
-    store(out, of_dimensions(result))
+    let report = get_rendered_dimensions(font, text, placement, vertical_pos);
+    let result = report.result;
+    let steps = report.steps;
+    store(out, of_dimensions(result), steps)
 }
 
 // The bounding box of a text whose lines are aligned.
@@ -110,7 +114,7 @@ pub extern "C" fn papayahelm_measure_aligned(
     out: &mut [i64],
 ) -> u32
     ensures { λ r. ⌜ Answers (meaningOf anchor align skip 0 (length (now (out .entry))))
-        (λ m. alignedReply (measureAligned (u8g2 (now (font .entry))) (request (now (text .entry))
+        (λ m. withSums (now (font .entry)) (now (text .entry)) alignedReply (measureAligned (u8g2 (now (font .entry))) (request (now (text .entry))
         (placedBy m x y «line_height») (m .«vertical_pos») (m .«horizontal_align»)))) r (now (out .entry)) (now (out .exit)) ⌝ }
 {
     let Codes::Known(m) = known_codes(anchor, align, skip, 0, out.len()) else {
@@ -123,14 +127,16 @@ pub extern "C" fn papayahelm_measure_aligned(
         line_height,
         ignore_unknown_chars: m.skip,
     };
-    let result = get_rendered_dimensions_aligned(
+    let report = get_rendered_dimensions_aligned(
         font,
         text,
         placement,
         vertical_pos,
         horizontal_align,
     );
-    store(out, of_bounding_box(result))
+    let result = report.result;
+    let steps = report.steps;
+    store(out, of_bounding_box(result), steps)
 }
 
 // Draws a text into the buffer, one byte a pixel.
@@ -152,7 +158,7 @@ pub extern "C" fn papayahelm_draw(
     out: &mut [i64],
 ) -> u32
     ensures answered { λ r. ⌜ Answers (meaningOf anchor 0 skip background (length (now (out .entry))))
-        (λ m. textReply (draw (u8g2 (now (font .entry))) (plain (now (text .entry)) (placedBy m x y «line_height»)
+        (λ m. withSums (now (font .entry)) (now (text .entry)) textReply (draw (u8g2 (now (font .entry))) (plain (now (text .entry)) (placedBy m x y «line_height»)
         (m .«vertical_pos»)) (inkOf (m .background) fg bg) (sized width height) (now (buffer .entry)))) r (now (out .entry))
         (now (out .exit)) ⌝ }
     ensures shown { λ r. ⌜ now (buffer .exit) ≡ drawnBy (meaningOf anchor 0 skip background (length (now (out .entry))))
@@ -169,8 +175,10 @@ pub extern "C" fn papayahelm_draw(
         ignore_unknown_chars: m.skip,
     };
     let framebuffer = Framebuffer { width, height };
-    let result = render(font, text, placement, style, framebuffer, buffer);
-    store(out, of_dimensions(result))
+    let report = render(font, text, placement, style, framebuffer, buffer);
+    let result = report.result;
+    let steps = report.steps;
+    store(out, of_dimensions(result), steps)
 }
 
 // Clears the old text's reading with one colour and draws the new text's, whole or not at all.
@@ -193,7 +201,7 @@ pub extern "C" fn papayahelm_redraw(
     out: &mut [i64],
 ) -> u32
     ensures answered { λ r. ⌜ Answers (meaningOf anchor 0 0 background (length (now (out .entry))))
-        (λ m. textReply (redrawn (now (font .entry)) (now («old_text» .entry))
+        (λ m. withSums (now (font .entry)) (now («new_text» .entry)) textReply (redrawn (now (font .entry)) (now («old_text» .entry))
         (asked (placeBy m x y «line_height» fg bg «clear_color» (sized width height)) (now («new_text» .entry)))
         (groundOf (placeBy m x y «line_height» fg bg «clear_color» (sized width height)) (now (buffer .entry))))) r
         (now (out .entry)) (now (out .exit)) ⌝ }
@@ -214,6 +222,8 @@ pub extern "C" fn papayahelm_redraw(
         background: clear_color,
         framebuffer: Framebuffer { width, height },
     };
-    let result = redraw(font, old_text, new_text, place, buffer);
-    store(out, of_dimensions(result))
+    let report = redraw(font, old_text, new_text, place, buffer);
+    let result = report.result;
+    let steps = report.steps;
+    store(out, of_dimensions(result), steps)
 }

@@ -24,8 +24,8 @@ wide (Anchor·Known v) Alignment·Unknown s b narrow m e = absurd (never m e)
 wide Anchor·Unknown h s b narrow m e = absurd (never m e)
 
 pub has-room : (anchor align skip background room : ℕ) {read : Codes} {m : Meaning}
-    → read ≡ meaningOf anchor align skip background room → read ≡ Known m → 8 ≤ room
+    → read ≡ meaningOf anchor align skip background room → read ≡ Known m → 10 ≤ room
 unfolding meaningOf
 has-room anchor align skip background room {m = m} is k =
-    let h = wide (anchorOf anchor) (alignmentOf align) (flagOf skip) (flagOf background) (ltb room 8) m (sym is ∙ k) in
-    omega (arith, ltb-false room 8 h)
+    let h = wide (anchorOf anchor) (alignmentOf align) (flagOf skip) (flagOf background) (ltb room 10) m (sym is ∙ k) in
+    omega (arith, ltb-false room 10 h)

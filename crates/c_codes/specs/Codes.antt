@@ -46,7 +46,7 @@ allKnown Anchor·Unknown h s b narrow = Unknown
 
 unfoldable pub meaningOf : ℕ → ℕ → ℕ → ℕ → ℕ → Codes
 meaningOf anchor align skip background room =
-    allKnown (anchorOf anchor) (alignmentOf align) (flagOf skip) (flagOf background) (ltb room 8)
+    allKnown (anchorOf anchor) (alignmentOf align) (flagOf skip) (flagOf background) (ltb room 10)
 
 -- The colour of a drawing: with a background colour or transparent.
 abbrev pub inkOf : Bool → ℕ → ℕ → FontColor

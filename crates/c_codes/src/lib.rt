@@ -82,7 +82,7 @@ pub fn known_codes(anchor_code: u32, align: u32, skip: u32, background: u32, roo
     let Flag::Known(fills) = known_flag(background) else {
         return Codes::Unknown;
     };
-    if room < 8 {
+    if room < 10 {
         return Codes::Unknown;
     }
     Codes::Known(Meaning {

@@ -1,12 +1,15 @@
--- How a call's outcome reaches a caller in C: a status, and eight numbers stored in the slice `out`.
+-- How a call's outcome reaches a caller in C: a status, and ten numbers stored in the slice `out`.
 use mathlib.Core.Path.{_≡_}
 use mathlib.Core.List.{List, [], _∷_}
 use Prim.Native.Nat.{ℕ, suc}
 use lib.IntN.{ℤ, pos}
 use lib.ListN.{set}
-use Rattle.definitions.specs.Vocabulary.{Error, BoundingBox, None, Some, Point, Rectangle, RenderedDimensions}
+use Rattle.definitions.specs.Vocabulary.{Error, BoundingBox, None, Some, Point, Rectangle, RenderedDimensions, LookupSteps}
 use Rattle.definitions.specs.Refusals.{Outcome, success, refused, errorNumber, codePoint}
+use Rattle.definitions.specs.Lookup.{noSteps}
 use Rattle.definitions.specs.Text.{point}
+use Rattle.definitions.specs.Font.{u8g2}
+use Rattle.definitions.specs.Sums.{sums}
 use Rattle.c_values.specs.declared.reply.Reply.{Reply}
 use Rattle.c_codes.specs.declared.Codes.{Codes}
 use Rattle.c_codes.specs.declared.Codes.the-variants.{Known, Unknown}
@@ -68,30 +71,49 @@ abbrev pub alignedReply : Outcome BoundingBox → Reply
 alignedReply (success b) = boundsReply (point (pos 0) (pos 0)) b
 alignedReply (refused n c) = refusedReply n c
 
--- The eight numbers of a reply.
+-- A reply, and the steps of the lookups that go with it ..
+pub record Counted : Type 0 where
+  pub reply : Reply
+  pub steps : LookupSteps
+
+abbrev pub counted : Reply → LookupSteps → Counted
+counted r steps = record { reply = r; steps = steps }
+
+-- .. of a call on a text
+abbrev pub withSums : {A : Type 0} → List ℕ → List ℕ → (Outcome A → Reply) → Outcome A → Counted
+withSums font text reply o = counted (reply o) (sums (u8g2 font) text o)
+
+-- .. and of a call that looks nothing up
+abbrev pub withoutSteps : Reply → Counted
+withoutSteps r = counted r noSteps
+
+-- The eight numbers of a reply, and the two of the steps.
 abbrev pub values : Reply → List ℤ
 values r =
     r .«code_point» ∷ r .x ∷ r .y ∷ r .boxed ∷ r .left ∷ r .top ∷ r .width ∷ r .height ∷ []
+
+abbrev pub stepValues : LookupSteps → List ℤ
+stepValues q = pos (q .records) ∷ pos (q .entries) ∷ []
 
 -- A list with other numbers from place i on.
 abbrev pub storedAt : ℕ → List ℤ → List ℤ → List ℤ
 storedAt i [] out = out
 storedAt i (v ∷ vs) out = storedAt (suc i) vs (set out i v)
 
-abbrev pub stored : Reply → List ℤ → List ℤ
-stored r out = storedAt 0 (values r) out
+abbrev pub stored : Counted → List ℤ → List ℤ
+stored a out = storedAt 0 (values (a .reply)) (storedAt 8 (stepValues (a .steps)) out)
 
 -- What a call comes to by its codes: status 255 and nothing stored where one has no meaning.
-abbrev pub status : Codes → (Meaning → Reply) → ℕ
-status Unknown reply = 255
-status (Known m) reply = reply m .status
+abbrev pub status : Codes → (Meaning → Counted) → ℕ
+status Unknown answer = 255
+status (Known m) answer = answer m .reply .status
 
-abbrev pub storedReply : Codes → (Meaning → Reply) → List ℤ → List ℤ
-storedReply Unknown reply out = out
-storedReply (Known m) reply out = stored (reply m) out
+abbrev pub storedReply : Codes → (Meaning → Counted) → List ℤ → List ℤ
+storedReply Unknown answer out = out
+storedReply (Known m) answer out = stored (answer m) out
 
-abbrev pub Answers : Codes → (Meaning → Reply) → ℕ → List ℤ → List ℤ → Type 0
-Answers codes reply r before after = (r ≡ status codes reply) × (after ≡ storedReply codes reply before)
+abbrev pub Answers : Codes → (Meaning → Counted) → ℕ → List ℤ → List ℤ → Type 0
+Answers codes answer r before after = (r ≡ status codes answer) × (after ≡ storedReply codes answer before)
 
 -- What the framebuffer holds after drawing: as it was where a code has no meaning.
 abbrev pub drawnBy : Codes → (Meaning → List ℕ) → List ℕ → List ℕ

@@ -4,7 +4,7 @@ ghost use Prim.Native.Nat.{_≤_};
 ghost use lib.IntN.{pos};
 ghost use lib.ListN.{length};
 ghost use Rattle.definitions.specs.Calls.{rectangleOutcome, dimensionsOutcome, boundingBoxOutcome};
-ghost use Rattle.c_values.specs.Replies.{refusedReply, errorReply, boxedReply, boundsReply, boxReply, textReply, alignedReply, stored};
+ghost use Rattle.c_values.specs.Replies.{refusedReply, errorReply, boxedReply, boundsReply, boxReply, textReply, alignedReply, counted, values, stepValues, storedAt, stored};
 use types::error::Error;
 use types::geometry::BoundingBox;
 use types::geometry::Point;
@@ -12,6 +12,7 @@ use types::geometry::Rectangle;
 use types::results::BoundingBoxResult;
 use types::results::DimensionsResult;
 use types::results::RectangleResult;
+use types::steps::LookupSteps;
 use utils::error::error_code_point;
 use utils::error::error_number;
 
@@ -131,9 +132,9 @@ pub fn of_bounding_box(result: BoundingBoxResult) -> Reply
 }
 
 // Stores the reply's eight numbers and answers with its status.
-pub fn store(out: &mut [i64], reply: Reply) -> u32
+fn store_reply(out: &mut [i64], reply: Reply) -> u32
     requires { ⌜ 8 ≤ length (now out) ⌝ }
-    ensures { λ r. ⌜ (r ≡ reply .status) × (now (out .exit) ≡ stored reply (now (out .entry))) ⌝ }
+    ensures { λ r. ⌜ (r ≡ reply .status) × (now (out .exit) ≡ storedAt 0 (values reply) (now (out .entry))) ⌝ }
 {
     let code_point = reply.code_point;
     let x = reply.x;
@@ -152,4 +153,24 @@ pub fn store(out: &mut [i64], reply: Reply) -> u32
     out[6] = width;
     out[7] = height;
     reply.status
+}
+
+// .. and the two of the steps behind them.
+fn store_steps(out: &mut [i64], steps: LookupSteps)
+    requires { ⌜ 10 ≤ length (now out) ⌝ }
+    ensures { λ _. ⌜ now (out .exit) ≡ storedAt 8 (stepValues steps) (now (out .entry)) ⌝ }
+{
+    let records = unsigned(steps.records);
+    let entries = unsigned(steps.entries);
+    out[8] = records;
+    out[9] = entries;
+}
+
+// Stores the ten numbers and answers with the reply's status.
+pub fn store(out: &mut [i64], reply: Reply, steps: LookupSteps) -> u32
+    requires { ⌜ 10 ≤ length (now out) ⌝ }
+    ensures { λ r. ⌜ (r ≡ reply .status) × (now (out .exit) ≡ stored (counted reply steps) (now (out .entry))) ⌝ }
+{
+    store_steps(out, steps);
+    store_reply(out, reply)
 }

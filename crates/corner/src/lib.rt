@@ -48,5 +48,6 @@ pub fn draw_at_corner(
         color,
         vertical_pos: VerticalPosition::Baseline,
     };
-    render(font, text, placement, style, framebuffer, pixels)
+    let report = render(font, text, placement, style, framebuffer, pixels);
+    report.result
 }

@@ -63,7 +63,8 @@ fn clear_narrow(
         (toFill true (countedWith (now (font .entry)) (now (text .entry)) pen)) (now (screen .entry)) ⌝ }
 {
     let drawn = get_drawn_dimensions(font, head, text, pen);
-    let DimensionsResult::Ok(dimensions) = drawn else {
+    let result = drawn.result;
+    let DimensionsResult::Ok(dimensions) = result else {
         return;
     };
     let old_box = dimensions.bounding_box;
@@ -92,7 +93,8 @@ fn redraw_narrow(
             let old_pen = step.old_pen;
             let new_pen = step.new_pen;
             clear_narrow(font, head, old_text, old_pen, place, &mut screen[..]);
-            draw_reading(font, head, new_text, new_pen, place, screen)
+            let report = draw_reading(font, head, new_text, new_pen, place, screen);
+            report.result
         }
     }
 }
@@ -115,5 +117,6 @@ pub fn redraw_on(
     if trial.narrow {
         return redraw_narrow(font, old_text, new_text, place, screen);
     }
-    redraw(font, old_text, new_text, place, screen)
+    let report = redraw(font, old_text, new_text, place, screen);
+    report.result
 }

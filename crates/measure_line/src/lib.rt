@@ -31,7 +31,8 @@ fn measured(font: &[u8], text: &[u8]) -> DimensionsResult
                 line_height: head.line_height,
                 ignore_unknown_chars: false,
             };
-            get_rendered_dimensions(font, text, placement, VerticalPosition::Baseline)
+            let report = get_rendered_dimensions(font, text, placement, VerticalPosition::Baseline);
+            report.result
         }
     }
 }

@@ -85,7 +85,9 @@ fn draw_measured(
         line_height,
         ignore_unknown_chars: false,
     };
-    match get_rendered_dimensions(font, text, placement, VerticalPosition::Baseline) {
+    let measured = get_rendered_dimensions(font, text, placement, VerticalPosition::Baseline);
+    let result = measured.result;
+    match result {
         DimensionsResult::Err(error) => DrawResult::Refused(error),
         DimensionsResult::Ok(dimensions) => {
             let bounding_box = dimensions.bounding_box;

@@ -25,7 +25,8 @@ pub fn draw_alone(font: &[u8], text: &[u8], place: Place, ground: &[u8], alone: 
         ignore_unknown_chars: false,
     };
     let drawn = render(font, text, placement, style, framebuffer, &mut alone[..]);
-    match drawn {
+    let result = drawn.result;
+    match result {
         DimensionsResult::Ok(_) => {}
         DimensionsResult::Err(_) => {
             copy(ground, alone);

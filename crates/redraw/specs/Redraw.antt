@@ -13,7 +13,8 @@ use Rattle.definitions.specs.Framebuffer.{shown}
 use Rattle.definitions.specs.Agreement.{Ground, on, pixel, width, height}
 use Rattle.checks.specs.declared.origin.Pen.{Pen}
 use Rattle.framebuffer.specs.Areas.{fillPicture}
-use Rattle.renderer.specs.Texts.{countedWith, drawnWith}
+use Rattle.types.specs.declared.results.DimensionsReport.{DimensionsReport}
+use Rattle.renderer.specs.Texts.{countedWith, drawnWith, TextCounted}
 use Rattle.redraw_checks.specs.Drawing.{Drawing, withText, drawn, after}
 use Rattle.redraw_checks.specs.Checks.{redrawCauses}
 use Rattle.redraw.specs.Contexts.{contextOf}
@@ -26,8 +27,8 @@ wholeOr (success d) drawing ground = drawing
 wholeOr (refused n c) drawing ground = ground
 
 -- A checked text is counted, and shown whole or not at all.
-pub record ReadingDrawn (font text : List ℕ) (pen : Pen) (place : Place) (before after : List ℕ) (o : Outcome RenderedDimensions) : Type 0 where
-  pub counted : o ≡ countedWith font text pen
+pub record ReadingDrawn (font text : List ℕ) (pen : Pen) (place : Place) (before after : List ℕ) (r : DimensionsReport) : Type 0 where
+  pub told : TextCounted font text pen r
   pub shown : after ≡ wholeOr (countedWith font text pen) (drawnWith font text pen (contextOf place) before) before
 
 -- What a reading shows on a ground: the ground with the text drawn on it if drawing the text succeeds, and the ground as it was if

@@ -1,5 +1,5 @@
 -- The step's tests: what each of them leaves of the step, and what a step that passes all of them may count on. Assumes nothing.
-use Rattle.integers.proofs.Prelude.{_≡_, sym, ap, subst, _∙_, true, false, List, [], _∷_, ℕ, _<_, length, getD}
+use Rattle.integers.proofs.Prelude.{_≡_, refl, sym, ap, subst, _∙_, true, false, List, [], _∷_, ℕ, _<_, eqb, length, getD}
 use Rattle.integers.proofs.Laws.{signed8-fits}
 use Rattle.definitions.specs.Vocabulary.{FontReader, Point}
 use Rattle.definitions.specs.Refusals.{Outcome, success, refused, Cause, anyApplies}
@@ -13,6 +13,7 @@ use Rattle.redraw_checks.specs.Drawing.{Drawing, asks, withText}
 use Rattle.definitions.proofs.OpenedLaws.{passes-font, opened, opened-limits}
 use Rattle.definitions.proofs.RefusalLaws.{succeeded, NoneApplies, each-off}
 use Rattle.definitions.proofs.CausesLaws.{DrawPasses}
+use Rattle.definitions.proofs.SumsLaws.{refused-early}
 use Rattle.definitions.proofs.ComesLaws.{Comes, comes-none, comes-off, comes-on, comes-passed, comes-stopped}
 use Rattle.framebuffer.specs.Areas.{BufferFits}
 use Rattle.checks.specs.declared.origin.Pen.{Pen}
@@ -146,3 +147,8 @@ ready font old new p s e small =
           (origin-checked _ _ (asks new) up down (text-limits (new .text) (l .text-in)) place);
       fits = size-fits (p .framebuffer) (p .before) (l .size-in);
     }
+
+-- A step that a test refuses is refused before its first character.
+pub checks-early : (font old : List ℕ) (new : Drawing) (p : Ground) {n c : ℕ} → checkedStep font old new p ≡ refused n c → eqb n 7 ≡ false
+checks-early font old new p e =
+    refused-early (stepOf font old new) (redrawCauses font old new p) (refl, (refl, (refl, (refl, (refl, (refl, (refl, tt))))))) e

@@ -34,5 +34,6 @@ pub fn measure_reading(
 {
     let mut text = [0u8; 6];
     let start = write_reading(k, &mut text);
-    get_rendered_dimensions(font, &text[start..], placement, vertical_pos)
+    let report = get_rendered_dimensions(font, &text[start..], placement, vertical_pos);
+    report.result
 }

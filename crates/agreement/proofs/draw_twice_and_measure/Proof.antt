@@ -9,8 +9,8 @@ returns c =
     let drawn = c .before .before .before .before .before .before .before .before .render .ensures in
     let drawn-second = c .before .before .before .before .render2 .ensures in
     let calls =
-    one-by-one (drawn .0) (drawn-second .0) (c .before .get-rendered-dimensions .ensures) (c .get-rendered-dimensions2 .ensures)
-    (drawn .1) (drawn-second .1)
+    one-by-one (drawn .0) (drawn-second .0) (c .before .get-rendered-dimensions .ensures .0) (c .get-rendered-dimensions2 .ensures .0)
+    (drawn .1 .0) (drawn-second .1 .0)
     in
     (calls, measured-as-drawn _ _ _ _ _ _ _ calls)
 

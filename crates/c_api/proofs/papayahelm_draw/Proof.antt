@@ -11,12 +11,12 @@ returns c = not-drawn (c .before .before .known-codes .ensures) _ _ _ _ (c .enum
 
 store-requires : tie.Need-store-requires
 store-requires c κs =
-    let known = c .before .before .before .before .before .before .before .before in
+    let known = c .before .before .before .before .before .before .before .before .before in
     has-room _ _ _ _ _ (known .before .before .known-codes .ensures) (known .m .given .1)
 
 returns-2 : tie.Need-returns-2
 returns-2 c =
-    let called = c .before .before .before .before .before .before in
+    let called = c .before .before .before .before .before .before .before in
     let styled = called .before .before in
     let known = styled .before .before in
     let read = known .before .before in
@@ -24,8 +24,9 @@ returns-2 c =
     let style = styled .style-of .ensures in
     drawn (read .known-codes .ensures) _ _ _ _ (known .m .given .1)
     (c .before .before .of-dimensions .ensures ∙ ap textReply (simp (toZ-ofZ, start .fits .x, start .fits .y, style) at (called .render .ensures .0)))
+    (simp (toZ-ofZ, start .fits .x, start .fits .y, style) at (called .render .ensures .1 .1))
     (c .before .store .ensures)
-    (simp (toZ-ofZ, start .fits .x, start .fits .y, style) at (called .render .ensures .1))
+    (simp (toZ-ofZ, start .fits .x, start .fits .y, style) at (called .render .ensures .1 .0))
 
 pub papayahelm-draw-spec : {M : Type 1} → statement M
 papayahelm-draw-spec =

@@ -39,7 +39,7 @@ returns c =
     c .before .before .render .ensures .0
     ∙ call-answers (a .font .now) (a .text .now) (a .line-height) (a .color) (a .rectangle) _ _ (a .framebuffer) (a .pixels .now) x y (s .pre .measured) (s .pre .framed) in
     let shows =
-    c .before .before .render .ensures .1
+    c .before .before .render .ensures .1 .0
     ∙ call-shows (a .font .now) (a .text .now) (a .line-height) (a .color) (a .rectangle) _ _ (a .framebuffer) (a .pixels .now) x y (s .pre .measured) (s .pre .framed) in
     record {
       answered = answer;

@@ -11,14 +11,14 @@ enum-told : tie.Need-enum-told
 enum-told c = search needs
 
 returns : tie.Need-returns
-returns c = let e = sym (c .before .before .get-drawn-dimensions .ensures) ∙ ap dimensionsOutcome (c .enum-told .given .1) in rw e
+returns c = let e = sym (c .before .before .get-drawn-dimensions .ensures .counted) ∙ ap dimensionsOutcome (c .enum-told .given .1) in rw e
 
 returns-2 : tie.Need-returns-2
 returns-2 c =
     let n = c .before .before .before .before .before in
     let k = n .before .before in
     let a = k .before .before .before .before .before .before .args in
-    let e = sym (k .before .before .get-drawn-dimensions .ensures) ∙ ap dimensionsOutcome (k .drawn .given .1) in
+    let e = sym (k .before .before .get-drawn-dimensions .ensures .counted) ∙ ap dimensionsOutcome (k .result .given .1) in
     let filled : BoundingBox → List ℕ = λ b. shown (a .place .framebuffer .width) (fillPicture (a .place .background) b) (a .screen .now) in
     rw e (c .before .before .fill-box .ensures ∙ ap filled (n .narrowed .ensures))
 

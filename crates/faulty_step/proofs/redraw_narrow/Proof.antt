@@ -62,7 +62,7 @@ returns-2 c =
     let s = entry k in
     let a = s .args in
     let between = rw (r .old-at) at (c .before .before .before .before .before .before .clear-narrow .ensures) in (
-      answers (a .font .now) (a .old-text .now) (new s) (a .place .background) (screen s) (toFill true) (r .unrefused) (rw (r .new-at) at (d .counted)),
+      answers (a .font .now) (a .old-text .now) (new s) (a .place .background) (screen s) (toFill true) (r .unrefused) (rw (r .new-at) at (d .told .counted)),
       leaves (a .font .now) (a .old-text .now) (new s) (a .place .background) (screen s) (toFill true) (r .unrefused) between (rw (r .new-at) at (d .shown)),
     )
 

@@ -20,7 +20,7 @@ returns-2 c =
 returns-3 : tie.Need-returns-3
 returns-3 c =
     let a = c .before .before .before .before .before .before .before .before .args in
-    c .get-rendered-dimensions .ensures
+    c .get-rendered-dimensions .ensures .0
     ∙ sym
     (font-opens (a .font .now) (a .text .now) (omega arith) (c .before .before .head .given .0 .0)
     (sym (c .before .before .before .before .new-from-raw-data .ensures) ∙ ap fontReaderOutcome (c .before .before .head .given .1)))

@@ -1,34 +1,13 @@
--- Eight stores, within the room that is required.
-use Rattle.integers.proofs.Prelude.{arith, length-set, needs}
+-- One part after the other.
+use Rattle.integers.proofs.Prelude.{_∙_, needs}
 use Rattle.c_values.proofs.reply.store.Statement.{statement}
 use Rattle.c_values.proofs.reply.store.Tie as tie
 
-slice-set-from-x : tie.Need-slice-set-from-x
-slice-set-from-x c = simp length-set (omega arith)
-
-slice-set-from-y : tie.Need-slice-set-from-y
-slice-set-from-y c = simp length-set (omega arith)
-
-slice-set-from-boxed : tie.Need-slice-set-from-boxed
-slice-set-from-boxed c = simp length-set (omega arith)
-
-slice-set-from-left : tie.Need-slice-set-from-left
-slice-set-from-left c = simp length-set (omega arith)
-
-slice-set-from-top : tie.Need-slice-set-from-top
-slice-set-from-top c = simp length-set (omega arith)
-
-slice-set-from-width : tie.Need-slice-set-from-width
-slice-set-from-width c = simp length-set (omega arith)
-
-slice-set-from-height : tie.Need-slice-set-from-height
-slice-set-from-height c = simp length-set (omega arith)
-
-same-length : tie.Need-same-length
-same-length c = simp length-set
+returns : tie.Need-returns
+returns c =
+    let r = c .before .store-reply .ensures in
+    (r .0, r .1 ∙ simp (c .before .before .before .before .store-steps .ensures))
 
 pub store-spec : {M : Type 1} → statement M
 store-spec =
-    tie.close
-    (tie.spec (λ c. search needs) slice-set-from-x slice-set-from-y slice-set-from-boxed slice-set-from-left slice-set-from-top
-    slice-set-from-width slice-set-from-height same-length (λ c. search needs))
+    tie.close (tie.spec (λ c κs. search needs) (λ c κs. search needs) (λ c. search needs) returns)

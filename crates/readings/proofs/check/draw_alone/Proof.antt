@@ -16,7 +16,7 @@ returns c =
     let a = s .args in
     let r = c .before .before .before .before .render .ensures in
     let copied = c .before .before .before .before .before .before .before .before .before .before .before .copy .ensures .1 ∙ whole (a .ground .now) (a .alone .now) (s .pre) in
-    drawn-alone (a .font .now) (asked (a .place) (a .text .now)) (groundOf (a .place) (a .ground .now)) copied (r .0) (r .1)
+    drawn-alone (a .font .now) (asked (a .place) (a .text .now)) (groundOf (a .place) (a .ground .now)) copied (r .0) (r .1 .0)
     (ap dimensionsOutcome (c .enum-told .given .1))
 
 returns-2 : tie.Need-returns-2

@@ -8,12 +8,12 @@ enum-told : tie.Need-enum-told
 enum-told c = search needs
 
 returns : tie.Need-returns
-returns c = let e = sym (c .before .before .get-drawn-dimensions .ensures) ∙ ap dimensionsOutcome (c .enum-told .given .1) in rw e
+returns c = let e = sym (c .before .before .get-drawn-dimensions .ensures .counted) ∙ ap dimensionsOutcome (c .enum-told .given .1) in rw e
 
 returns-2 : tie.Need-returns-2
 returns-2 c =
     let k = c .before .before .before .before .before .before in
-    let e = sym (k .before .before .get-drawn-dimensions .ensures) ∙ ap dimensionsOutcome (k .drawn .given .1) in
+    let e = sym (k .before .before .get-drawn-dimensions .ensures .counted) ∙ ap dimensionsOutcome (k .result .given .1) in
     rw e (c .before .before .fill-box .ensures)
 
 pub clear-reading-spec : {M : Type 1} → statement M

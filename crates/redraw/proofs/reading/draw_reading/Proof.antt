@@ -10,16 +10,16 @@ enum-told c = search needs
 returns : tie.Need-returns
 returns c =
     let g = c .before .before .get-drawn-dimensions .ensures in
-    let e = sym g ∙ ap dimensionsOutcome (c .enum-told2 .given .1) in
-    record { counted = g; shown = rw e }
+    let e = sym (g .counted) ∙ ap dimensionsOutcome (c .enum-told2 .given .1) in
+    record { told = g; shown = rw e }
 
 returns-2 : tie.Need-returns-2
 returns-2 c =
     let k = c .before .before .before .before .before .before in
     let g = k .before .before .get-drawn-dimensions .ensures in
-    let e = sym g ∙ ap dimensionsOutcome (k .enum-told .given .1) in
+    let e = sym (g .counted) ∙ ap dimensionsOutcome (k .enum-told .given .1) in
     let drawn = c .before .before .draw-text .ensures in
-    record { counted = drawn .counted; shown = rw e (drawn .shown) }
+    record { told = drawn .told; shown = rw e (drawn .shown) }
 
 pub draw-reading-spec : {M : Type 1} → statement M
 draw-reading-spec =

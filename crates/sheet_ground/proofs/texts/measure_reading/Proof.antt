@@ -10,7 +10,7 @@ returns : tie.Need-returns
 returns c =
     let a = c .before .before .before .before .before .before .before .args in
     let w = c .before .before .before .before .write-reading in
-    c .get-rendered-dimensions .ensures
+    c .get-rendered-dimensions .ensures .0
     ∙ ap (λ (t : List ℕ). measure (u8g2 (a .font .now)) (plain t (a .placement) (a .vertical-pos)))
     (to-the-end (w .last .1 .0) (w .result) 6 (c .before .before .before .text2 .given) ∙ w .ensures .text)
 
