@@ -3,6 +3,7 @@
 Run it in the repository: python3 tools/cases.py. Where the rules or a decision give a case's answer in words, that answer
 stands beside it, and the script stops where model.py says otherwise.
 """
+import functools
 import struct
 import sys
 from pathlib import Path
@@ -13,6 +14,8 @@ import model as m
 import oracle_cases
 
 OPEN, FONT_BOX, MEASURE, ALIGNED, DRAW, REDRAW = range(6)
+# added to the kind of a case that prints the sums of the lookups' steps too
+SUMS = 16
 
 # ---- fonts
 
@@ -44,6 +47,7 @@ F9W = bytes([1, 0, 2, 2, 8, 3, 2, 3, 3]) + TAIL + bytes([45, 9, 2, 209, 71, 0])
 F10 = K + bytes([10, 5, 138, 62, 2, 13, 5, 138, 62, 2, 0, 0])
 F11 = K + bytes([33, 5, 24, 40, 0, 45, 5, 138, 62, 2, 0, 0])
 F12 = bytes([1, 0, 2, 2, 3, 3, 3, 3, 3]) + TAIL + bytes([45, 6, 74, 57, 4, 0, 52, 6, 75, 121, 6, 0, 0, 0])
+F14 = T + bytes([0, 4, 255, 255, 0, 0, 0])
 F15 = T + bytes([0, 4, 255, 255, 1, 0, 6, 138, 62, 2])
 
 CASES = []
@@ -82,7 +86,7 @@ def show_panel(panel, before, width, height):
 
 
 def case(label, kind, font, text=b'', x=0, y=0, anchor=0, align=0, line=4, skip=False, ink=(1,), size=(8, 8), fill=0,
-         length=None, want=None, old='', clear=0):
+         length=None, want=None, old='', clear=0, sums=False):
     text, old = (t.encode('utf-8') if isinstance(t, str) else t for t in (text, old))
     width, height = size
     length = width * height if length is None else length
@@ -103,9 +107,13 @@ def case(label, kind, font, text=b'', x=0, y=0, anchor=0, align=0, line=4, skip=
         else:
             answer = m.redraw(font, old, text, x, y, anchor, ink, line, clear, width, height, panel)
         lines = show_panel(panel, before, width, height)
-    if want is not None and not meets(say(answer), want):
-        sys.exit('%s: model says %s, wanted %s' % (label, say(answer), want))
-    out = [label + ': ' + say(answer)] + lines
+    said = say(answer)
+    if sums:
+        kind += SUMS
+        said += ' records %d entries %d' % m.sums(font, text, answer)
+    if want is not None and not meets(said, want):
+        sys.exit('%s: model says %s, wanted %s' % (label, said, want))
+    out = [label + ': ' + said] + lines
     step = (len(old), clear)
     CASES.append((label, kind, font, old + text, x, y, anchor, align, line, skip, ink, size, fill, length, step, out))
 
@@ -134,6 +142,7 @@ def segments(data):
     return out
 
 
+@functools.cache
 def packed(data):
     parts = segments(data)
     out = struct.pack('<I', len(parts))
@@ -405,6 +414,125 @@ redraw('4 of the old text', T, bytes([45, 255]), '-', 'no 4 0', x=1048577, ink=(
 redraw('4 of the new text', T, '-4', bytes([45, 255]), 'no 4 0', x=1048577, ink=(1, 2))
 redraw('5 before 6', T, '-4', 'A', 'no 5 0', line=65536, ink=(1, 2))
 redraw('6 before letters', T, '-4', 'A', 'no 6 0', ink=(1, 2))
+
+# ---- the sums of the lookups' steps
+
+
+def summed(label, font, text, outcome, records, entries, calls=(MEASURE,), **more):
+    """The outcome is 'ok', or the refusal's number and code point."""
+    want = ('ok ..' if outcome == 'ok' else 'no ' + outcome) + ' records %d entries %d' % (records, entries)
+    names = {MEASURE: 'sums', ALIGNED: 'sums aligned', DRAW: 'sums drawn', REDRAW: 'sums redrawn'}
+    settings = {'y': 3, 'size': (6, 4)}
+    settings.update(more)
+    for kind in calls:
+        case('%s, %s' % (names[kind], label), kind, font, text, want=want, sums=True, **settings)
+
+
+def summed_by_lines(label, font, text, *wanted, **more):
+    """Measured with each alignment, and drawn."""
+    for align, name in enumerate(('Left', 'Center', 'Right')):
+        summed('%s, %s' % (name, label), font, text, *wanted, calls=(ALIGNED,), align=align, **more)
+    summed(label, font, text, *wanted, calls=(DRAW,), **more)
+
+
+def chains(low, upper, lower, table=b''):
+    """A font of its records below "A", those from "A" and from "a" on, and its jump table."""
+    ends = len(low), len(low + upper), len(low + upper + lower)
+    return K[:17] + struct.pack('>HHH', *ends) + low + upper + lower + table
+
+
+def dash(*code):
+    return bytes([*code, len(code) + 4, 138, 62, 2])
+
+
+BOTH = MEASURE, DRAW
+END = bytes(2)
+LONG = chains(bytes([1, 2]) * 300 + dash(45) + END, bytes([1, 2]) * 310 + dash(65) + END, bytes([1, 2]) * 320 + dash(97) + END)
+TWO = K + bytes([0, 8, 1, 5, 0, 6, 255, 255]) + dash(1, 0) + dash(1, 6) + END
+# 40 entries, of which the last leads to the records behind them
+FORTY = K + bytes([0, 4, 0, 50]) * 39 + bytes([0, 4, 255, 255])
+LONG_16 = K + bytes([0, 4, 255, 255]) + bytes([1, 2, 3]) * 300
+
+summed('-4', T, '-4', 'ok', 3, 0, BOTH)
+summed('A', T, 'A', '7 65', 1, 0, BOTH)
+summed('5', T, '5', '7 53', 3, 0, BOTH)
+summed('U+10000', T, '\U00010000', '7 65536', 0, 0, BOTH)
+summed('F1, U+0100', F1, 'Ā', '7 256', 0, 1, BOTH)
+summed('F1 and 3 bytes, U+0100', F1 + bytes(3), 'Ā', '7 256', 0, 1, BOTH)
+summed('T and nine zeros, U+0100', T + bytes(9), 'Ā', '7 256', 0, 2, BOTH)
+summed('T and nine zeros, U+0000', T + bytes(9), '\0', 'ok', 3, 0)
+summed('F14, U+0100', F14, 'Ā', '7 256', 1, 1, BOTH)
+summed('F15, U+0100', F15, 'Ā', 'ok', 1, 1, BOTH)
+summed('-A', T, '-A', '7 65', 2, 0, BOTH)
+summed('T cut to 33, -A', T[:33], '-A', '8 65', 0, 0, BOTH)
+summed('-A4, skipping', T, '-A4', 'ok', 4, 0, BOTH, skip=True)
+summed('empty text', T, '', 'ok', 0, 0, BOTH)
+
+for text, outcome, records in (('-', 'ok', 301), ('5', '7 53', 302), ('A', 'ok', 311), ('B', '7 66', 312), ('a', 'ok', 321),
+                               ('b', '7 98', 322), ('-Aa', 'ok', 933)):
+    summed('long chains, ' + text, LONG, text, outcome, records, 0, BOTH if text == '-Aa' else (MEASURE,))
+summed('8 after long chains', LONG[:-2], '-Aab', '8 98', 0, 0, BOTH)
+summed('300 records with jump 1, then jump 0', K + bytes([1]) * 300 + bytes(1), '-', '7 45', 300, 0)
+summed('the sum of records passes 16 bits', LONG, '-' * 300, 'ok', 90300, 0)
+
+summed('two entries, U+0100 U+0106', TWO, 'ĀĆ', 'ok', 2, 3, BOTH)
+summed('two entries, U+0101', TWO, 'ā', '7 257', 3, 1)
+summed('two entries, U+0107', TWO, 'ć', '7 263', 2, 2)
+for n in range(4):
+    summed('40 entries and %d bytes, U+0100' % n, K + bytes([255, 255, 0, 50]) * 40 + bytes(n), 'Ā', '7 256', 0, 40)
+summed('40 entries, the last past the end', K + bytes([0, 4, 0, 50]) * 39 + bytes([255, 255, 1, 0]), 'Ā', '8 256', 0, 0)
+summed('40 entries, the first fits', K + bytes([0, 160, 1, 0]) + bytes([0, 4, 2, 0]) * 39 + dash(1, 0), 'Ā', 'ok', 1, 1)
+summed('40 entries, found', FORTY + dash(1, 0), 'Ā', 'ok', 1, 40, BOTH)
+summed('40 entries, found behind another', FORTY + dash(1, 1) + dash(1, 0), 'Ā', 'ok', 2, 40)
+summed('40 entries, code 0', FORTY + dash(1, 1) + END, 'Ā', '7 256', 2, 40)
+summed('40 entries, jump 0', FORTY + dash(1, 1) + bytes([1, 2, 0]), 'Ā', '7 256', 2, 40)
+summed('40 entries, then the end', FORTY + dash(1, 1), 'Ā', '8 256', 0, 0)
+summed('the records are the table', K + bytes([0, 0, 255, 255]), 'Ā', '7 256', 1, 1)
+summed('a long chain of two-byte codes, found', LONG_16 + dash(1, 0), 'Ā', 'ok', 301, 1)
+summed('a long chain of two-byte codes, code 0', LONG_16 + END, 'Ā', '7 256', 301, 1)
+summed('a long chain of two-byte codes, jump 0', LONG_16 + bytes([1, 0, 0]), 'ā', '7 257', 301, 1)
+summed('a long chain of two-byte codes, then the end', LONG_16, 'Ā', '8 256', 0, 0)
+summed('the sum of entries passes 16 bits', FORTY + dash(1, 0), 'Ā' * 2048, 'ok', 2048, 81920)
+
+summed_by_lines('lines with skipped letters', F15, '-A\n\n4Ā\n\U00010000', 'ok', 5, 1, skip=True)
+summed_by_lines('7 at the end of lines', T, '-\n4A', '7 65', 4, 0)
+summed_by_lines('8 behind lines', T[:33], '-\n4\nA', '8 65', 0, 0)
+summed('7 in the middle', F15, '4ĀA-', '7 65', 4, 1, BOTH)
+summed('the same letter missing twice', T, '-A-A', '7 65', 2, 0, BOTH)
+summed('the same letter skipped twice', T, '-A-A', 'ok', 4, 0, skip=True)
+summed('8 behind a found letter', F15, 'Āā', '8 257', 0, 0)
+summed('8 is not skipped', F15, '-Aā', '8 257', 0, 0, skip=True)
+summed('a newline brings nothing', F10, '\n\r\n', 'ok', 2, 0)
+summed('newlines alone', T, '\n\n', 'ok', 0, 0, (MEASURE, ALIGNED))
+summed('runs past the end', T[:32], '-4', 'ok', 3, 0)
+summed('runs past the end', T[:32], '-4', '8 52', 0, 0, (DRAW,))
+
+MEASURED = MEASURE, ALIGNED, DRAW
+summed('refused by 1', T[:22], '-4', '1 0', 0, 0, MEASURED)
+summed('refused by 2', but(T, (4, 9)), '-4', '2 0', 0, 0, MEASURED)
+summed('refused by 3', T, '-4', '3 0', 0, 0, (DRAW,), length=23)
+summed('refused by 4', T, b'-4\xff', '4 0', 0, 0, MEASURED)
+summed('refused by 5', T, '-4', '5 0', 0, 0, MEASURED, line=65536)
+summed('refused by 6', T, '-4', '6 0', 0, 0, (DRAW,), ink=(1, 2))
+
+
+def summed_step(label, font, old, new, *wanted, **more):
+    summed(label, font, new, *wanted, calls=(REDRAW,), old=old, fill=5, clear=9, **more)
+
+
+summed_step('-4 over 4-', T, '4-', '-4', 'ok', 3, 0)
+summed_step('the first reading', F15, '', '4Ā', 'ok', 3, 1)
+summed_step('no reading any more', T, '-4', '', 'ok', 0, 0)
+summed_step('7 in the new text', T, '4-4', '-A4', '7 65', 2, 0)
+summed_step('8 in the new text', T[:32], '--', '-4', '8 52', 0, 0)
+summed_step('over a text with 7', T, '-A', '-4', 'ok', 3, 0)
+summed_step('over a text with 8', T[:32], '4', '-', 'ok', 1, 0)
+summed_step('7 over a text with 7', T, '4A', 'B', '7 66', 1, 0)
+summed_step('refused by 4 of the old text', T, b'\xff', '-4', '4 0', 0, 0)
+summed_step('refused by 6', T, '-', '-4', '6 0', 0, 0, ink=(1, 2))
+
+summed('the longest jump table, U+0100', LONGEST, 'Ā', '7 256', 0, 262135)
+summed('the longest chain', K + bytes([1]) * 1048552 + bytes(1), '--', 'ok', 2097104, 0, skip=True)
 
 # ---- what the Rust answered
 

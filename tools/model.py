@@ -1,7 +1,8 @@
 """The rules of docs/SPECIFICATION.md, written a second time in Python, to work out what the program replay must print.
 
 It is written from the rules alone, but for `redraw`, our own step made of drawings, and shares nothing with the crates.
-cases.py beside it writes the stored outputs. A refusal is ('no', number, code point).
+cases.py beside it writes the stored outputs. A refusal is ('no', number, code point). The sums of the lookups' steps stand
+beside an answer and are worked out of it: `sums`.
 """
 
 BASELINE, TOP, CENTER, BOTTOM = range(4)
@@ -63,27 +64,32 @@ def byte(f, i, c):
     return f[i]
 
 
-def search(f, c):
-    """The byte at which the glyph of c begins."""
+def lookup(f, c):
+    """The byte at which the glyph of c begins, or None where the font has none, and the lookup's steps: how many records of the
+    chain had their code looked at, and how many entries of the jump table were read whole. Where the font ends there is neither."""
     def move(at):
         if at > len(f):
             raise Refused(8, c)
         return at
+    records = entries = 0
+    if c > 65535:
+        return None, (records, entries)
     if c <= 255:
         at = move(23 + (u16(f, 19) if c >= 97 else u16(f, 17) if c >= 65 else 0))
-        while byte(f, at, c) != c:
-            jump = byte(f, at + 1, c)
+        while True:
+            code, jump = byte(f, at, c), byte(f, at + 1, c)
+            records += 1
+            if code == c:
+                return move(at + 2), (records, entries)
             if jump == 0:
-                raise Refused(7, c)
+                return None, (records, entries)
             at = move(at + jump)
-        return move(at + 2)
-    if c > 65535:
-        raise Refused(7, c)
     table = move(23 + u16(f, 21))
     total, i = 0, table
     while True:
         if i + 4 > len(f):
-            raise Refused(7, c)
+            return None, (records, entries)
+        entries += 1
         total += u16(f, i)
         if u16(f, i + 2) >= c:
             break
@@ -91,14 +97,23 @@ def search(f, c):
     at = move(table + total)
     while True:
         code = byte(f, at, c) * 256 + byte(f, at + 1, c)
+        records += 1
         if code == 0:
-            raise Refused(7, c)
-        if code == c:
-            return move(at + 3)
+            return None, (records, entries)
         jump = byte(f, at + 2, c)
+        if code == c:
+            return move(at + 3), (records, entries)
         if jump == 0:
-            raise Refused(7, c)
+            return None, (records, entries)
         at = move(at + jump)
+
+
+def search(f, c):
+    """The byte at which the glyph of c begins."""
+    at, _ = lookup(f, c)
+    if at is None:
+        raise Refused(7, c)
+    return at
 
 
 class Bits:
@@ -284,3 +299,19 @@ def redraw(f, old, new, x, y, anchor, ink, line, clear, width, height, panel, mi
     if answer[0] == 'ok':
         panel[:] = after
     return answer
+
+
+def sums(f, text, answer):
+    """The steps of a text's lookups, added up: what `measure`, `measure_aligned` and `draw` hand up beside this answer, and
+    `redraw` for its new text. Font, text and answer decide them, and no alignment. They are those of all letters in a success,
+    of those up to the missing one with 7, and of none with another refusal. A newline brings nothing."""
+    records = entries = 0
+    if answer[0] == 'ok' or answer[1] == 7:
+        for c in map(ord, text.decode('utf-8')):
+            if c == 10:
+                continue
+            _, steps = lookup(f, c)
+            records, entries = records + steps[0], entries + steps[1]
+            if answer[0] == 'no' and c == answer[2]:
+                break
+    return records, entries

@@ -20,6 +20,7 @@ use types::results::DimensionsReport;
 use types::results::DimensionsResult;
 use types::results::FontReaderResult;
 use types::results::RectangleResult;
+use types::steps::LookupSteps;
 use types::style::FontColor;
 use types::style::FontStyle;
 use types::style::HorizontalAlignment;
@@ -29,6 +30,9 @@ ghost use Prim.Native.Nat.{_≤_};
 
 // How many bytes the numbers of a case take.
 pub const SIZE: usize = 64;
+
+// What a case's kind has on top if the sums of the lookups' steps are printed too.
+const SUMS: u32 = 16;
 
 fn vertical_pos(code: u32) -> VerticalPosition {
     if code == 0 {
@@ -87,7 +91,17 @@ fn print_box(bounding_box: BoundingBox) {
     }
 }
 
-fn print_dimensions(report: DimensionsReport) {
+fn print_sums(kind: u32, sums: LookupSteps) {
+    if kind < SUMS {
+        return;
+    }
+    printing::text(b" records");
+    printing::unsigned(sums.records);
+    printing::text(b" entries");
+    printing::unsigned(sums.entries);
+}
+
+fn print_dimensions(kind: u32, report: DimensionsReport) {
     let result = report.result;
     match result {
         DimensionsResult::Ok(d) => {
@@ -99,9 +113,11 @@ fn print_dimensions(report: DimensionsReport) {
         }
         DimensionsResult::Err(e) => printing::refusal(e),
     }
+    let sums = report.steps;
+    print_sums(kind, sums);
 }
 
-fn print_aligned(report: BoundingBoxReport) {
+fn print_aligned(kind: u32, report: BoundingBoxReport) {
     let result = report.result;
     match result {
         BoundingBoxResult::Ok(b) => {
@@ -110,6 +126,8 @@ fn print_aligned(report: BoundingBoxReport) {
         }
         BoundingBoxResult::Err(e) => printing::refusal(e),
     }
+    let sums = report.steps;
+    print_sums(kind, sums);
 }
 
 // A small number of the case.
@@ -133,7 +151,7 @@ fn draw_or_redraw(
         width: number(file, at + 40) as usize,
         height: number(file, at + 44) as usize,
     };
-    if number(file, at) == 4 {
+    if number(file, at) % SUMS == 4 {
         return render(font, text, placement, style, framebuffer, buffer);
     }
     let old_len = least(number(file, at + 56) as usize, text.len());
@@ -172,7 +190,7 @@ fn answer_draw(
     let fill = byte(file, at + 48);
     framebuffers::fill(&mut buffer[..], fill);
     let report = draw_or_redraw(file, at, font, text, placement, style, &mut buffer[..]);
-    print_dimensions(report);
+    print_dimensions(number(file, at), report);
     framebuffers::print(&buffer[..], fill, width, height);
 }
 
@@ -210,11 +228,14 @@ pub fn answer(file: &[u8], at: usize, font: &[u8], text: &[u8], buffer: &mut [u8
         line_height: number(file, at + 20),
         ignore_unknown_chars: number(file, at + 24) == 1,
     };
-    match kind {
+    match kind % SUMS {
         0 => answer_open(font),
         1 => answer_font_box(font, anchor),
-        2 => print_dimensions(get_rendered_dimensions(font, text, placement, anchor)),
-        3 => print_aligned(get_rendered_dimensions_aligned(font, text, placement, anchor, align)),
+        2 => print_dimensions(kind, get_rendered_dimensions(font, text, placement, anchor)),
+        3 => print_aligned(
+            kind,
+            get_rendered_dimensions_aligned(font, text, placement, anchor, align),
+        ),
         _ => answer_draw_on_part(file, at, font, text, placement, buffer),
     }
 }
