@@ -34,15 +34,10 @@ pub struct LineState {
     pub bounding_box: BoundingBox,
 }
 
+// What a character comes to, with the steps of its lookup either way.
 pub enum LineResult {
-    Ok(LineState),
-    Err(Error),
-}
-
-// .. with the steps of a character's lookup
-pub struct LineReport {
-    pub result: LineResult,
-    pub steps: LookupSteps,
+    Ok(LineState, LookupSteps),
+    Err(Error, LookupSteps),
 }
 
 fn empty_line() -> RenderedDimensions
@@ -110,17 +105,14 @@ fn add_char(
     state: LineState,
     horizontal_align: HorizontalAlignment,
     pen: Pen,
-) -> LineReport
+) -> LineResult
     requires { ⌜ CanAdd (now font) head state pen ⌝ }
     ensures { λ r. ⌜ CharAdded (now (font .entry)) ch «horizontal_align» pen state r ⌝ }
 {
     if ch == NEWLINE {
         let origin = pen.origin;
         let next = add_newline(state, horizontal_align, pen.line_height, origin);
-        return LineReport {
-            result: LineResult::Ok(next),
-            steps: no_steps(),
-        };
+        return LineResult::Ok(next, no_steps());
     }
     let found = try_retrieve_glyph_data(font, head, ch, pen.ignore_unknown_chars);
     let answer = found.answer;
@@ -128,18 +120,15 @@ fn add_char(
     let line_so_far = state.line;
     let bounding_box = state.bounding_box;
     match add_answer(line_so_far, Point { x: 0, y: 0 }, answer) {
-        DimensionsResult::Err(error) => LineReport {
-            result: LineResult::Err(error),
-            steps,
-        },
-        DimensionsResult::Ok(line) => LineReport {
-            result: LineResult::Ok(LineState {
+        DimensionsResult::Err(error) => LineResult::Err(error, steps),
+        DimensionsResult::Ok(line) => {
+            let longer = LineState {
                 line,
                 advance_y: state.advance_y,
                 bounding_box,
-            }),
-            steps,
-        },
+            };
+            LineResult::Ok(longer, steps)
+        }
     }
 }
 
@@ -189,20 +178,17 @@ pub fn measure_lines(
                 steps,
             };
         };
-        let added = add_char(font, head, ch, state, horizontal_align, pen);
-        let char_steps = added.steps;
-        let sum = add_steps(steps, char_steps);
-        let result = added.result;
-        match result {
-            LineResult::Err(error) => {
+        match add_char(font, head, ch, state, horizontal_align, pen) {
+            LineResult::Err(error, char_steps) => {
+                let sum = add_steps(steps, char_steps);
                 return DimensionsReport {
                     result: DimensionsResult::Err(error),
                     steps: sum_with(error, sum),
                 };
             }
-            LineResult::Ok(longer) => {
+            LineResult::Ok(longer, char_steps) => {
                 state = longer;
-                steps = sum;
+                steps = add_steps(steps, char_steps);
             }
         }
         at += len;

@@ -6,7 +6,10 @@ use Rattle.utf8_sequences.specs.Sequences.{asCharacter}
 use Rattle.definitions.specs.Refusals.{success}
 use Rattle.definitions.specs.Utf8.{character, firstCharacter}
 use Rattle.definitions.proofs.Utf8Laws.{Position, position, none-malformed}
-use Rattle.text_lines.specs.Lines.{asState, stateOutcome}
+use Rattle.definitions.specs.Vocabulary.{LookupSteps}
+use Rattle.definitions.specs.Font.{u8g2}
+use Rattle.definitions.specs.Sums.{plusSteps, brings, Fits32}
+use Rattle.text_lines.specs.Lines.{asState, stateOutcome, stepsBy, CharAdded}
 use Rattle.layout.proofs.MeasureLaws.{checked-characters}
 use Rattle.layout.proofs.SumLaws.{summed-start, summed-end, summed-fits}
 use Rattle.text_lines.proofs.LoopLaws.{aligned-start, aligned-room, aligned-end, aligned-stops, MeasuredTo, measured-next, sum-stops}
@@ -53,41 +56,56 @@ add-char-requires c κs =
     let s = entry c in
     record { opened = s .pre .opened; room = aligned-room (s .pre .checked) (turn c .loop .inv .aligned); line = s .pre .checked .line }
 
+-- .. was added
+module _ (c : tie.After-add-char Inv-loop μ-loop) where
+  abbrev read : tie.After-known-told Inv-loop μ-loop
+  read = c .before
+
+  abbrev added : CharAdded (entry read .args .font .now) (read .before .next .given .0 .0) (entry read .args .horizontal-align) (entry read .args .pen) (turn read .loop .state) (c .add-char .result)
+  added = c .add-char .ensures
+
+  brings-it : {q : LookupSteps} → stepsBy (c .add-char .result) ≡ q → q ≡ brings (u8g2 (entry read .args .font .now) .steps) (read .before .next .given .0 .0)
+  brings-it e = sym e ∙ added .brought
+
+  sum-fits : {q : LookupSteps} → stepsBy (c .add-char .result) ≡ q → Fits32 (plusSteps (turn read .loop .steps) q)
+  sum-fits e =
+      let s = entry read .pre in
+      summed-fits (turn read .loop .inv .summed) (first read) (brings-it e) (s .opened .least) (s .opened .most) (s .checked .short)
+
 add-steps-requires : tie.Need-add-steps-requires Inv-loop μ-loop
-add-steps-requires c κs =
-    let k = c .before .before in
-    let s = entry k in
-    summed-fits (turn k .loop .inv .summed) (first k) (c .before .add-char .ensures .brought) (s .pre .opened .least) (s .pre .opened .most) (s .pre .checked .short)
+add-steps-requires c κs = sum-fits (c .before .before .before) (ap stepsBy (c .before .error .given .1))
+
+add-steps-requires-2 : tie.Need-add-steps-requires-2 Inv-loop μ-loop
+add-steps-requires-2 c κs = sum-fits (c .before .before .before) (ap stepsBy (c .before .longer .given .1))
 
 returns-2 : tie.Need-returns-2 Inv-loop μ-loop
 returns-2 c =
-    let sum = c .before .before .before .before in
-    let k = sum .before .before .before in
-    let added = sum .before .before .add-char .ensures in
-    let stops = sym (added .added) ∙ ap stateOutcome (c .before .before .result .given .1) in
+    let is = c .before .before .before .error .given .1 in
+    let a = c .before .before .before .before .before in
+    let k = read a in
+    let stops = sym (added a .added) ∙ ap stateOutcome is in
     record {
       measured = aligned-stops (entry k .pre .checked) (turn k .loop .inv .aligned) (first k) stops;
       summed = c .sum-with .ensures
-          ∙ sum-stops (entry k .pre .checked) (turn k .loop .inv) (first k) (added .brought) (sum .add-steps .ensures) stops refl;
+          ∙ sum-stops (entry k .pre .checked) (turn k .loop .inv) (first k) (brings-it a (ap stepsBy is)) (c .before .add-steps .ensures) stops refl;
     }
 
 add-at : tie.Need-add-at Inv-loop μ-loop
 add-at c =
-    let k = c .before .before .before .before .before .before in
+    let k = c .before .before .before .before .before in
     let p = here k in
     omega (arith, entry k .pre .checked .short)
 
 loop-less : tie.Need-loop-less Inv-loop μ-loop
-loop-less c = let p = here (c .before .before .before .before .before .before) in omega arith
+loop-less c = let p = here (c .before .before .before .before .before) in omega arith
 
 loop-again : tie.Need-loop-again Inv-loop μ-loop
 loop-again c =
-    let sum = c .before .before .before in
-    let k = sum .before .before .before in
-    let s = entry k in
-    let added = sum .before .before .add-char .ensures in
-    let goes = sym (added .added) ∙ ap stateOutcome (c .before .result2 .given .1) in
-    measured-next (s .pre .checked) (turn k .loop .inv) (first k) (added .brought) (sum .add-steps .ensures) (s .pre .opened) goes
+    let is = c .before .before .longer .given .1 in
+    let a = c .before .before .before .before in
+    let k = read a in
+    measured-next (entry k .pre .checked) (turn k .loop .inv) (first k) (brings-it a (ap stepsBy is)) (c .add-steps2 .ensures) (entry k .pre .opened)
+    (sym (added a .added) ∙ ap stateOutcome is)
 
 end-text-requires : tie.Need-end-text-requires Inv-loop μ-loop
 end-text-requires c κs = let l = c .before .before in aligned-room (l .before .before .before .before .before .pre .checked) (l .loop .inv .aligned)
@@ -106,5 +124,5 @@ pub measure-lines-spec : {M : Type 1} → statement M
 measure-lines-spec =
     tie.close
     (tie.spec Inv-loop μ-loop (λ c κs. search needs) (λ c κs. search needs) loop-holds (λ c κs. search needs) (λ c. search needs)
-    (λ c. search needs) returns add-char-requires add-steps-requires (λ c. search needs) (λ c κs. search needs) returns-2
-    (λ c. search needs) add-at loop-less loop-again end-text-requires returns-3)
+    (λ c. search needs) returns add-char-requires (λ c. search needs) add-steps-requires (λ c κs. search needs) returns-2
+    (λ c. search needs) add-steps-requires-2 add-at loop-less loop-again end-text-requires returns-3)
