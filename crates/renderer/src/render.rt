@@ -35,6 +35,7 @@ use types::geometry::RenderedDimensions;
 use types::results::DimensionsReport;
 use types::results::DimensionsResult;
 use types::results::FontReaderResult;
+use types::steps::LookupSteps;
 use types::style::FontColor;
 use types::style::FontStyle;
 use types::style::Placement;
@@ -45,6 +46,12 @@ use utf8_sequences::NextChar;
 pub struct Context {
     pub color: FontColor,
     pub framebuffer: Framebuffer,
+}
+
+// What a character comes to, with the steps of its lookup either way.
+pub enum CharResult {
+    Ok(RenderedDimensions, LookupSteps),
+    Err(Error, LookupSteps),
 }
 
 // Draws the glyph that a character shows, at the advance so far. Other answers draw nothing.
@@ -91,16 +98,12 @@ fn draw_char(
     pen: Pen,
     context: Context,
     buffer: &mut [u8],
-) -> DimensionsReport
+) -> CharResult
     requires { ⌜ DrawableChar (now font) head pen dimensions (context .framebuffer) (length (now buffer)) ⌝ }
     ensures { λ r. ⌜ CharDrawn (now (font .entry)) ch dimensions pen context (now (buffer .entry)) (now (buffer .exit)) r ⌝ }
 {
     if ch == NEWLINE {
-        let result = DimensionsResult::Ok(add_newline(dimensions, pen.line_height));
-        return DimensionsReport {
-            result,
-            steps: no_steps(),
-        };
+        return CharResult::Ok(add_newline(dimensions, pen.line_height), no_steps());
     }
     let origin = pen.origin;
     let found = retrieve_answer(font, head, ch, pen.ignore_unknown_chars);
@@ -115,9 +118,9 @@ fn draw_char(
         context,
         &mut buffer[..],
     );
-    DimensionsReport {
-        result: add_answer(dimensions, origin, answer),
-        steps,
+    match add_answer(dimensions, origin, answer) {
+        DimensionsResult::Ok(longer) => CharResult::Ok(longer, steps),
+        DimensionsResult::Err(error) => CharResult::Err(error, steps),
     }
 }
 
@@ -147,19 +150,17 @@ pub fn draw_text(
             return refused(Error::TextEncoding);
         };
         let drawn = draw_char(font, head, ch, dimensions, pen, context, &mut buffer[..]);
-        let char_steps = drawn.steps;
-        let sum = add_steps(steps, char_steps);
-        let result = drawn.result;
-        match result {
-            DimensionsResult::Err(error) => {
+        match drawn {
+            CharResult::Err(error, char_steps) => {
+                let sum = add_steps(steps, char_steps);
                 return DimensionsReport {
-                    result,
+                    result: DimensionsResult::Err(error),
                     steps: sum_with(error, sum),
                 };
             }
-            DimensionsResult::Ok(longer) => {
+            CharResult::Ok(longer, char_steps) => {
                 dimensions = longer;
-                steps = sum;
+                steps = add_steps(steps, char_steps);
             }
         }
         at += len;

@@ -7,9 +7,9 @@ use Rattle.renderer.specs.declared.render.Context.{Context}
 use Rattle.utf8_sequences.specs.Sequences.{asCharacter}
 use Rattle.definitions.specs.Utf8.{character, firstCharacter}
 use Rattle.definitions.specs.Font.{u8g2, drawnAnswer, pixelsOf}
-use Rattle.definitions.specs.Calls.{dimensionsOutcome}
+use Rattle.definitions.specs.Sums.{plusSteps, brings, Fits32}
 use Rattle.definitions.proofs.Utf8Laws.{Position, position, none-malformed}
-use Rattle.renderer.specs.CharAnswers.{Fits}
+use Rattle.renderer.specs.CharAnswers.{Fits, charOutcome, stepsBy}
 use Rattle.layout.proofs.MeasureLaws.{checked-characters, measured-room, measured-end, measured-stops}
 use Rattle.layout.proofs.SumLaws.{Summed, summed-start, summed-end, summed-fits}
 use Rattle.renderer.proofs.RenderLaws.{drawn-small, DrawnTo, drawn-start, drawn-end, drawn-next, drawn-stops, sum-next, sum-stops}
@@ -70,56 +70,72 @@ draw-char-requires c κs =
       fits = subst (λ (n : ℕ). Fits n (s .args .context .framebuffer)) (sym (i .kept)) (s .pre .fits);
     }
 
+-- .. was drawn
+module _ (c : tie.After-draw-char Inv-loop μ-loop) where
+  abbrev read : tie.After-known-told Inv-loop μ-loop
+  read = c .before .before
+
+  brings-it : {q : LookupSteps} → stepsBy (c .draw-char .result) ≡ q → q ≡ brings (u8g2 (entry read .args .font .now) .steps) (read .before .next .given .0 .0)
+  brings-it e = sym e ∙ c .draw-char .ensures .brought
+
+  sum-fits : {q : LookupSteps} → stepsBy (c .draw-char .result) ≡ q → Fits32 (plusSteps (turn read .loop .steps) q)
+  sum-fits e =
+      let s = entry read .pre in
+      summed-fits (turn read .loop .inv .summed) (first read) (brings-it e) (s .opened .least) (s .opened .most) (s .checked .short)
+
 add-steps-requires : tie.Need-add-steps-requires Inv-loop μ-loop
-add-steps-requires c κs =
-    let k = c .before .before .before .before .before in
-    let s = entry k in
-    summed-fits (turn k .loop .inv .summed) (first k) (c .before .before .before .draw-char .ensures .brought) (s .pre .opened .least) (s .pre .opened .most) (s .pre .checked .short)
+add-steps-requires c κs = sum-fits (c .before .before .before .before .before) (ap stepsBy (c .before .drawn .given .1))
+
+add-steps-requires-2 : tie.Need-add-steps-requires-2 Inv-loop μ-loop
+add-steps-requires-2 c κs = sum-fits (c .before .before .before .before .before) (ap stepsBy (c .before .drawn2 .given .1))
 
 same-length-2 : tie.Need-same-length-2 Inv-loop μ-loop
 same-length-2 c =
-    let b = c .before .before .before .before .before .before .before in
-    b .buffer .given ∙ turn (b .before .before .before) .loop .inv .drawn .kept
+    let b = c .before .before .before .before .before .before in
+    b .buffer .given ∙ turn (read (b .before)) .loop .inv .drawn .kept
 
 returns-2 : tie.Need-returns-2 Inv-loop μ-loop
 returns-2 c =
-    let sum = c .before .before .before .before in
-    let char = sum .before .before .before .before in
-    let k = char .before .before in
+    let is = c .before .before .before .drawn .given .1 in
+    let char = c .before .before .before .before .before .before .before in
+    let k = read char in
     let i = turn k .loop .inv in
     let s = entry k in
-    let drawn = char .draw-char .ensures in
-    let stops = sym (drawn .counted) ∙ ap dimensionsOutcome (c .before .before .result .given .1) in
+    let d = char .draw-char .ensures in
+    let stops = sym (d .counted) ∙ ap charOutcome is in
     record {
       told = record {
         counted = sym (measured-stops (s .pre .checked) (i .drawn .reached) (first k) stops);
         summed = c .sum-with .ensures
-            ∙ sum-stops _ (i .summed) (first k) (drawn .brought) (sum .add-steps .ensures) (s .args .pen .«line_height») (s .args .pen .origin) (turn k .loop .dimensions) stops refl;
+            ∙ sum-stops _ (i .summed) (first k) (brings-it char (ap stepsBy is)) (c .before .add-steps .ensures) (s .args .pen .«line_height»)
+            (s .args .pen .origin) (turn k .loop .dimensions) stops refl;
       };
-      shown = drawn-stops _ _ _ _ _ _ _ _ (s .pre .checked) (i .drawn) (first k) stops (drawn .shown);
+      shown = drawn-stops _ _ _ _ _ _ _ _ (s .pre .checked) (i .drawn) (first k) stops (d .shown);
     }
 
 add-at : tie.Need-add-at Inv-loop μ-loop
 add-at c =
-    let k = c .before .before .before .before .before .before .before .before .before in
+    let k = read (c .before .before .before .before .before .before) in
     let p = here k in
     omega (arith, entry k .pre .checked .short)
 
 loop-less : tie.Need-loop-less Inv-loop μ-loop
-loop-less c = let p = here (c .before .before .before .before .before .before .before .before .before) in omega arith
+loop-less c = let p = here (read (c .before .before .before .before .before .before)) in omega arith
 
 loop-again : tie.Need-loop-again Inv-loop μ-loop
 loop-again c =
-    let sum = c .before .before .before in
-    let char = sum .before .before .before .before in
-    let k = char .before .before in
+    let is = c .before .before .drawn2 .given .1 in
+    let char = c .before .before .before .before .before .before in
+    let k = read char in
     let i = turn k .loop .inv in
     let s = entry k in
-    let drawn = char .draw-char .ensures in
-    let goes = sym (drawn .counted) ∙ ap dimensionsOutcome (c .before .result2 .given .1) in
+    let d = char .draw-char .ensures in
+    let goes = sym (d .counted) ∙ ap charOutcome is in
     record {
-      drawn = drawn-next _ _ _ _ _ _ _ _ (s .pre .checked) (i .drawn) (first k) (drawn-small (s .pre .opened) _) goes (drawn .shown) (sum .before .before .before .buffer .given);
-      summed = sum-next _ (i .summed) (first k) (drawn .brought) (sum .add-steps .ensures) (s .args .pen .«line_height») (s .args .pen .origin) (turn k .loop .dimensions) goes;
+      drawn = drawn-next _ _ _ _ _ _ _ _ (s .pre .checked) (i .drawn) (first k) (drawn-small (s .pre .opened) _) goes (d .shown)
+          (c .before .before .before .before .before .buffer .given);
+      summed = sum-next _ (i .summed) (first k) (brings-it char (ap stepsBy is)) (c .add-steps2 .ensures) (s .args .pen .«line_height») (s .args .pen .origin)
+          (turn k .loop .dimensions) goes;
     }
 
 same-length-3 : tie.Need-same-length-3 Inv-loop μ-loop
@@ -139,5 +155,5 @@ pub draw-text-spec : {M : Type 1} → statement M
 draw-text-spec =
     tie.close
     (tie.spec Inv-loop μ-loop (λ c κs. search needs) loop-holds (λ c κs. search needs) (λ c. search needs) (λ c. search needs)
-    (λ c κs. search needs) same-length returns draw-char-requires add-steps-requires (λ c. search needs) (λ c κs. search needs)
-    same-length-2 returns-2 (λ c. search needs) add-at loop-less loop-again same-length-3 returns-3)
+    (λ c κs. search needs) same-length returns draw-char-requires (λ c. search needs) add-steps-requires (λ c κs. search needs)
+    same-length-2 returns-2 (λ c. search needs) add-steps-requires-2 add-at loop-less loop-again same-length-3 returns-3)
