@@ -6,7 +6,7 @@ use Rattle.definitions.specs.Vocabulary.{FontReader, GlyphReader}
 use Rattle.definitions.specs.Refusals.{Outcome, success, refused}
 use Rattle.definitions.specs.Header.{header, Opened}
 use Rattle.definitions.specs.Glyph.{glyph}
-use Rattle.definitions.specs.Text.{shows, nothing, stops, answer}
+use Rattle.definitions.specs.Text.{Answer, shows, nothing, stops, answer}
 use Rattle.definitions.specs.Runs.{Pixels, pixels, cut, glyphPixels}
 use Rattle.definitions.specs.Font.{u8g2, withRuns, drawable, drawnAnswer}
 use Rattle.definitions.proofs.GlyphLaws.{glyph-range}
@@ -21,6 +21,11 @@ shown-glyph skip (refused n c) g e = by (skip && eqb n 7) e
     by : (t : Bool) → pick t nothing (stops n c) ≡ shows g → refused n c ≡ success g
     by true e = impossible cc
     by false e = impossible cc
+
+-- An 8 is not skipped, and no other number but 7.
+pub stays : (skip : Bool) (l : Answer) → l ≡ pick (skip && false) nothing l
+stays true l = refl
+stays false l = refl
 
 whole-runs : (c : ℕ) (g : GlyphReader) (p : Pixels) → isWhole p ≡ true → success g ≡ withRuns c g p
 whole-runs c g (pixels ps) e = refl

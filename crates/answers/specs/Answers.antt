@@ -2,7 +2,7 @@
 use mathlib.Core.Path.{_≡_}
 use mathlib.Core.List.{List}
 use Prim.Native.Nat.{ℕ}
-use Rattle.definitions.specs.Vocabulary.{FontReader, GlyphReader}
+use Rattle.definitions.specs.Vocabulary.{FontReader, GlyphReader, LookupSteps}
 use Rattle.definitions.specs.Refusals.{errorNumber, codePoint}
 use Rattle.definitions.specs.Text.{shows, nothing, stops}
 use Rattle.definitions.specs.Text as text
@@ -11,18 +11,22 @@ use Rattle.definitions.specs.Font.{u8g2, drawable}
 use Rattle.types.specs.declared.results.GlyphLookup.{GlyphLookup}
 use Rattle.runs.specs.Stands.{CheckedGlyph}
 use Rattle.answers.specs.declared.Answer.{Answer}
-use Rattle.answers.specs.declared.CharAnswer.{CharAnswer}
 use Rattle.answers.specs.declared.Answer.the-variants.{Shows, Nothing, Stops}
 
 abbrev pub asAnswer : Answer → text.Answer
-asAnswer (Shows g) = shows g
-asAnswer Nothing = nothing
-asAnswer (Stops e) = stops (errorNumber e) (codePoint e)
+asAnswer (Shows g q) = shows g
+asAnswer (Nothing q) = nothing
+asAnswer (Stops e q) = stops (errorNumber e) (codePoint e)
 
--- The answer to c is a, and the steps are those of its lookup.
-pub record Answered (font : List ℕ) (c : ℕ) (a : text.Answer) (r : CharAnswer) : Type 0 where
-  pub is : asAnswer (r .answer) ≡ a
-  pub counted : r .steps ≡ u8g2 font .steps c
+abbrev pub answerSteps : Answer → LookupSteps
+answerSteps (Shows g q) = q
+answerSteps (Nothing q) = q
+answerSteps (Stops e q) = q
+
+-- The code's answer is that one, with those steps.
+pub record Comes (a : text.Answer) (q : LookupSteps) (r : Answer) : Type 0 where
+  pub is : asAnswer r ≡ a
+  pub counted : answerSteps r ≡ q
 
 -- A lookup whose glyph has all its runs.
 pub record WholeLookedUp (font : List ℕ) (c : ℕ) (l : GlyphLookup) : Type 0 where

@@ -2,10 +2,9 @@
 ghost use mathlib.Core.Path.{_≡_};
 ghost use Rattle.definitions.specs.Refusals.{refusal};
 ghost use Rattle.definitions.specs.Header.{Opened};
-ghost use Rattle.definitions.specs.Glyph.{glyphOutcome};
 ghost use Rattle.definitions.specs.Text.{answer};
 ghost use Rattle.definitions.specs.Font.{u8g2, measuredAnswer, drawnAnswer};
-ghost use Rattle.answers.specs.Answers.{asAnswer, Answered, WholeLookedUp};
+ghost use Rattle.answers.specs.Answers.{Comes, WholeLookedUp};
 use font_reader::retrieve_glyph_data;
 use runs::check_runs;
 use types::error::Error;
@@ -15,40 +14,24 @@ use types::results::GlyphLookup;
 use types::results::GlyphResult;
 use types::steps::LookupSteps;
 
-// A character shows a glyph, or nothing where it is unknown and skipped, or stops the text.
+// A character shows a glyph, or nothing where it is unknown and skipped, or stops the text; with the steps of its lookup.
 pub enum Answer {
-    Shows(GlyphReader),
-    Nothing,
-    Stops(Error),
-}
-
-// The answer to a character, and the steps of its lookup.
-pub struct CharAnswer {
-    pub answer: Answer,
-    pub steps: LookupSteps,
+    Shows(GlyphReader, LookupSteps),
+    Nothing(LookupSteps),
+    Stops(Error, LookupSteps),
 }
 
 // Only an unknown character is skipped: the end of the font always stops the text.
-fn skip_unknown(error: Error, ignore_unknown_chars: bool) -> Answer
-    ensures { λ r. ⌜ asAnswer r ≡ answer «ignore_unknown_chars» (refusal error) ⌝ }
+fn skip_unknown(error: Error, steps: LookupSteps, ignore_unknown_chars: bool) -> Answer
+    ensures { λ r. ⌜ Comes (answer «ignore_unknown_chars» (refusal error)) steps r ⌝ }
 {
     let Error::GlyphNotFound(_) = error else {
-        return Answer::Stops(error);
+        return Answer::Stops(error, steps);
     };
     if ignore_unknown_chars {
-        return Answer::Nothing;
+        return Answer::Nothing(steps);
     }
-    Answer::Stops(error)
-}
-
-// What a lookup comes to in a text.
-pub fn answer_of(lookup: GlyphResult, ignore_unknown_chars: bool) -> Answer
-    ensures { λ r. ⌜ asAnswer r ≡ answer «ignore_unknown_chars» (glyphOutcome lookup) ⌝ }
-{
-    match lookup {
-        GlyphResult::Ok(glyph) => Answer::Shows(glyph),
-        GlyphResult::Err(error) => skip_unknown(error, ignore_unknown_chars),
-    }
+    Answer::Stops(error, steps)
 }
 
 // The answer to a code point in measuring, which reads no runs.
@@ -57,20 +40,17 @@ pub fn try_retrieve_glyph_data(
     head: FontReader,
     ch: u32,
     ignore_unknown_chars: bool,
-) -> CharAnswer
+) -> Answer
     requires { ⌜ Opened (now font) head ⌝ }
-    ensures { λ r. ⌜ Answered (now (font .entry)) ch (measuredAnswer (u8g2 (now (font .entry))) «ignore_unknown_chars» ch) r ⌝ }
+    ensures { λ r. ⌜ Comes (measuredAnswer (u8g2 (now (font .entry))) «ignore_unknown_chars» ch)
+        (u8g2 (now (font .entry)) .steps ch) r ⌝ }
 {
     let lookup = retrieve_glyph_data(font, head, ch);
-    let result = lookup.result;
     let steps = lookup.steps;
-    let GlyphResult::Ok(glyph) = result else {
-        let answer = answer_of(result, ignore_unknown_chars);
-        return CharAnswer { answer, steps };
-    };
-    CharAnswer {
-        answer: Answer::Shows(glyph),
-        steps,
+    let result = lookup.result;
+    match result {
+        GlyphResult::Ok(glyph) => Answer::Shows(glyph, steps),
+        GlyphResult::Err(error) => skip_unknown(error, steps, ignore_unknown_chars),
     }
 }
 
@@ -96,20 +76,16 @@ fn retrieve_whole_glyph(font: &[u8], head: FontReader, ch: u32) -> GlyphLookup
 }
 
 // The answer to a code point in drawing.
-pub fn retrieve_answer(
-    font: &[u8],
-    head: FontReader,
-    ch: u32,
-    ignore_unknown_chars: bool,
-) -> CharAnswer
+pub fn retrieve_answer(font: &[u8], head: FontReader, ch: u32, ignore_unknown_chars: bool) -> Answer
     requires { ⌜ Opened (now font) head ⌝ }
-    ensures { λ r. ⌜ Answered (now (font .entry)) ch (drawnAnswer (u8g2 (now (font .entry))) «ignore_unknown_chars» ch) r ⌝ }
+    ensures { λ r. ⌜ Comes (drawnAnswer (u8g2 (now (font .entry))) «ignore_unknown_chars» ch)
+        (u8g2 (now (font .entry)) .steps ch) r ⌝ }
 {
     let lookup = retrieve_whole_glyph(font, head, ch);
-    let result = lookup.result;
     let steps = lookup.steps;
-    CharAnswer {
-        answer: answer_of(result, ignore_unknown_chars),
-        steps,
+    let result = lookup.result;
+    match result {
+        GlyphResult::Ok(glyph) => Answer::Shows(glyph, steps),
+        GlyphResult::Err(error) => skip_unknown(error, steps, ignore_unknown_chars),
     }
 }

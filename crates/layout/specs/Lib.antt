@@ -1,2 +1,3 @@
+pub mod CharResults
 pub mod Offsets
 pub mod Ranges

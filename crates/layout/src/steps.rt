@@ -1,18 +1,18 @@
 // The steps of counting a text, character by character: drawing takes them from the text's origin, measuring from each line's start.
 ghost use mathlib.Core.Path.{_≡_};
 ghost use Prim.Native.Nat.{_≤_};
-ghost use Rattle.definitions.specs.TextSteps.{newlineStep, glyphStep, answerStep};
-ghost use Rattle.definitions.specs.Calls.{dimensionsOutcome};
-ghost use Rattle.answers.specs.Answers.{asAnswer};
+ghost use Rattle.definitions.specs.TextSteps.{newlineStep, glyphStep};
+ghost use Rattle.layout.specs.CharResults.{AnswerAdded};
 ghost use Rattle.layout.specs.Ranges.{Near, HasRoom, NextBox};
 use crate::render_actions::get_glyph_bounding_box;
 use crate::render_actions::moved;
 use answers::Answer;
+use types::error::Error;
 use types::geometry::BoundingBox;
 use types::geometry::Point;
 use types::geometry::RenderedDimensions;
 use types::glyph_reader::GlyphReader;
-use types::results::DimensionsResult;
+use types::steps::LookupSteps;
 use utils::combine_bounding_boxes;
 
 pub const NEWLINE: u32 = 10;
@@ -66,13 +66,19 @@ pub fn add_glyph(
     }
 }
 
-pub fn add_answer(dimensions: RenderedDimensions, origin: Point, answer: Answer) -> DimensionsResult
+// What a character comes to, with the steps of its lookup either way.
+pub enum CharResult {
+    Ok(RenderedDimensions, LookupSteps),
+    Err(Error, LookupSteps),
+}
+
+pub fn add_answer(dimensions: RenderedDimensions, origin: Point, answer: Answer) -> CharResult
     requires { ⌜ HasRoom origin dimensions ⌝ }
-    ensures { λ r. ⌜ dimensionsOutcome r ≡ answerStep origin dimensions (asAnswer answer) ⌝ }
+    ensures { λ r. ⌜ AnswerAdded origin dimensions answer r ⌝ }
 {
     match answer {
-        Answer::Shows(glyph) => DimensionsResult::Ok(add_glyph(dimensions, origin, glyph)),
-        Answer::Nothing => DimensionsResult::Ok(dimensions),
-        Answer::Stops(error) => DimensionsResult::Err(error),
+        Answer::Shows(glyph, steps) => CharResult::Ok(add_glyph(dimensions, origin, glyph), steps),
+        Answer::Nothing(steps) => CharResult::Ok(dimensions, steps),
+        Answer::Stops(error, steps) => CharResult::Err(error, steps),
     }
 }

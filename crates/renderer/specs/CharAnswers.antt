@@ -2,8 +2,7 @@
 use mathlib.Core.Path.{_≡_}
 use mathlib.Core.List.{List}
 use Prim.Native.Nat.{ℕ, _≤_}
-use Rattle.definitions.specs.Vocabulary.{Point, FontReader, RenderedDimensions, Framebuffer, LookupSteps}
-use Rattle.definitions.specs.Refusals.{Outcome, success, refusal}
+use Rattle.definitions.specs.Vocabulary.{Point, FontReader, RenderedDimensions, Framebuffer}
 use Rattle.definitions.specs.Header.{Opened}
 use Rattle.definitions.specs.Text.{Answer}
 use Rattle.definitions.specs.TextSteps.{step, stepShown}
@@ -12,9 +11,9 @@ use Rattle.definitions.specs.Sums.{brings}
 use Rattle.checks.specs.declared.origin.Pen.{Pen}
 use Rattle.answers.specs.Answers.{RunsChecked}
 use Rattle.framebuffer.specs.Areas.{BufferFits}
+use Rattle.layout.specs.declared.steps.CharResult.{CharResult}
+use Rattle.layout.specs.CharResults.{charOutcome, charSteps}
 use Rattle.layout.specs.Ranges.{HasRoom}
-use Rattle.renderer.specs.declared.render.CharResult.{CharResult}
-use Rattle.renderer.specs.declared.render.CharResult.the-variants.{Ok, Err}
 use Rattle.renderer.specs.declared.render.Context.{Context}
 
 -- A buffer of so many bytes is the framebuffer's.
@@ -34,17 +33,9 @@ pub record DrawableChar (font : List ℕ) (head : FontReader) (pen : Pen) (d : R
   pub line : pen .«line_height» ≤ 65535
   pub fits : Fits bytes framebuffer
 
-abbrev pub charOutcome : CharResult → Outcome RenderedDimensions
-charOutcome (Ok d q) = success d
-charOutcome (Err e q) = refusal e
-
-abbrev pub stepsBy : CharResult → LookupSteps
-stepsBy (Ok d q) = q
-stepsBy (Err e q) = q
-
 -- The character is counted, and shown; and it brings its steps.
 pub record CharDrawn (font : List ℕ) (ch : ℕ) (d : RenderedDimensions) (pen : Pen) (context : Context) (before after : List ℕ) (r : CharResult) : Type 0 where
   pub counted : charOutcome r ≡ step (drawnAnswer (u8g2 font) (pen .«ignore_unknown_chars»)) (pen .«line_height») (pen .origin) d ch
   pub shown : after ≡ stepShown (context .framebuffer .width) (context .color) (pixelsOf (u8g2 font))
       (drawnAnswer (u8g2 font) (pen .«ignore_unknown_chars»)) (pen .origin) d ch before
-  pub brought : stepsBy r ≡ brings (u8g2 font .steps) ch
+  pub brought : charSteps r ≡ brings (u8g2 font .steps) ch

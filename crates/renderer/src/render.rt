@@ -18,6 +18,7 @@ use checks::origin::Pen;
 use checks::origin::checked_origin;
 use font_reader::new_from_raw_data;
 use glyph_renderer::render_glyph;
+use layout::steps::CharResult;
 use layout::steps::NEWLINE;
 use layout::steps::add_answer;
 use layout::steps::add_newline;
@@ -35,7 +36,6 @@ use types::geometry::RenderedDimensions;
 use types::results::DimensionsReport;
 use types::results::DimensionsResult;
 use types::results::FontReaderResult;
-use types::steps::LookupSteps;
 use types::style::FontColor;
 use types::style::FontStyle;
 use types::style::Placement;
@@ -46,12 +46,6 @@ use utf8_sequences::NextChar;
 pub struct Context {
     pub color: FontColor,
     pub framebuffer: Framebuffer,
-}
-
-// What a character comes to, with the steps of its lookup either way.
-pub enum CharResult {
-    Ok(RenderedDimensions, LookupSteps),
-    Err(Error, LookupSteps),
 }
 
 // Draws the glyph that a character shows, at the advance so far. Other answers draw nothing.
@@ -70,7 +64,7 @@ fn draw_answer(
         (pixelsOf (u8g2 (now (font .entry)))) origin dimensions (asAnswer answer) (now (buffer .entry)) ⌝ }
 {
     match answer {
-        Answer::Shows(glyph) => {
+        Answer::Shows(glyph, _) => {
             let glyph_box = get_next_bounding_box(dimensions, origin, glyph);
             let color = context.color;
             let framebuffer = context.framebuffer;
@@ -84,8 +78,8 @@ fn draw_answer(
                 &mut buffer[..],
             );
         }
-        Answer::Nothing => {}
-        Answer::Stops(_) => {}
+        Answer::Nothing(_) => {}
+        Answer::Stops(_, _) => {}
     }
 }
 
@@ -106,9 +100,7 @@ fn draw_char(
         return CharResult::Ok(add_newline(dimensions, pen.line_height), no_steps());
     }
     let origin = pen.origin;
-    let found = retrieve_answer(font, head, ch, pen.ignore_unknown_chars);
-    let answer = found.answer;
-    let steps = found.steps;
+    let answer = retrieve_answer(font, head, ch, pen.ignore_unknown_chars);
     draw_answer(
         font,
         head,
@@ -118,10 +110,7 @@ fn draw_char(
         context,
         &mut buffer[..],
     );
-    match add_answer(dimensions, origin, answer) {
-        DimensionsResult::Ok(longer) => CharResult::Ok(longer, steps),
-        DimensionsResult::Err(error) => CharResult::Err(error, steps),
-    }
+    add_answer(dimensions, origin, answer)
 }
 
 // The letters of a checked text, one after the other, and their steps added up. The first that stops the text is the answer, and

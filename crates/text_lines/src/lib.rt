@@ -8,6 +8,7 @@ ghost use Rattle.layout.specs.Ranges.{LineHasRoom};
 use answers::try_retrieve_glyph_data;
 use checks::origin::Pen;
 use layout::render_actions::compute_horizontal_offset;
+use layout::steps::CharResult;
 use layout::steps::NEWLINE;
 use layout::steps::add_answer;
 use lookup_sums::add_steps;
@@ -114,14 +115,12 @@ fn add_char(
         let next = add_newline(state, horizontal_align, pen.line_height, origin);
         return LineResult::Ok(next, no_steps());
     }
-    let found = try_retrieve_glyph_data(font, head, ch, pen.ignore_unknown_chars);
-    let answer = found.answer;
-    let steps = found.steps;
+    let answer = try_retrieve_glyph_data(font, head, ch, pen.ignore_unknown_chars);
     let line_so_far = state.line;
     let bounding_box = state.bounding_box;
     match add_answer(line_so_far, Point { x: 0, y: 0 }, answer) {
-        DimensionsResult::Err(error) => LineResult::Err(error, steps),
-        DimensionsResult::Ok(line) => {
+        CharResult::Err(error, steps) => LineResult::Err(error, steps),
+        CharResult::Ok(line, steps) => {
             let longer = LineState {
                 line,
                 advance_y: state.advance_y,

@@ -8,6 +8,7 @@ use Rattle.types.specs.declared.error.Error.the-variants.{FontLength, FontHeade
 use Rattle.types.proofs.error.Error.{the-type}
 use Rattle.definitions.specs.Refusals.{errorNumber, codePoint, refusal}
 use Rattle.definitions.specs.Text.{Answer, nothing, stops, answer}
+use Rattle.answers.proofs.AnswersLaws.{stays}
 use Rattle.answers.proofs.skip_unknown.Statement.{statement}
 use Rattle.answers.proofs.skip_unknown.Tie as tie
 
@@ -19,10 +20,6 @@ not-six (inr (inr (inr (inl e)))) f = omega arith
 not-six (inr (inr (inr (inr (inl e))))) f = omega arith
 not-six (inr (inr (inr (inr (inr (inl e)))))) f = omega arith
 not-six (inr (inr (inr (inr (inr (inr e)))))) f = omega arith
-
-stays : (skip : Bool) (l : Answer) → l ≡ pick (skip && false) nothing l
-stays true l = refl
-stays false l = refl
 
 -- any error but the seventh variant, whose tag is 6
 others-stop : (skip : Bool) (e : Error) → OneOf (0 ∷ 1 ∷ 2 ∷ 3 ∷ 4 ∷ 5 ∷ 7 ∷ []) (tagOf the-type e) → stops (errorNumber e) (codePoint e) ≡ answer skip (refusal e)
@@ -39,13 +36,13 @@ enum-told : tie.Need-enum-told
 enum-told c = search needs
 
 returns : tie.Need-returns
-returns c = others-stop (c .before .args .ignore-unknown-chars) (c .before .args .error) (c .match .keys2)
+returns c = record { is = others-stop (c .before .args .ignore-unknown-chars) (c .before .args .error) (c .match .keys2); counted = refl }
 
 returns-2 : tie.Need-returns-2
-returns-2 c = simp (c .before .enum-told .given .1, c .if1 .taken)
+returns-2 c = record { is = simp (c .before .enum-told .given .1, c .if1 .taken); counted = refl }
 
 returns-3 : tie.Need-returns-3
-returns-3 c = simp (c .before .enum-told .given .1, c .if1 .left)
+returns-3 c = record { is = simp (c .before .enum-told .given .1, c .if1 .left); counted = refl }
 
 pub skip-unknown-spec : {M : Type 1} → statement M
 skip-unknown-spec = tie.close (tie.spec enum-told returns returns-2 returns-3)

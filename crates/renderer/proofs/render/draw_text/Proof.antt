@@ -9,7 +9,8 @@ use Rattle.definitions.specs.Utf8.{character, firstCharacter}
 use Rattle.definitions.specs.Font.{u8g2, drawnAnswer, pixelsOf}
 use Rattle.definitions.specs.Sums.{plusSteps, brings, Fits32}
 use Rattle.definitions.proofs.Utf8Laws.{Position, position, none-malformed}
-use Rattle.renderer.specs.CharAnswers.{Fits, charOutcome, stepsBy}
+use Rattle.renderer.specs.CharAnswers.{Fits}
+use Rattle.layout.specs.CharResults.{charOutcome, charSteps}
 use Rattle.layout.proofs.MeasureLaws.{checked-characters, measured-room, measured-end, measured-stops}
 use Rattle.layout.proofs.SumLaws.{Summed, summed-start, summed-end, summed-fits}
 use Rattle.renderer.proofs.RenderLaws.{drawn-small, DrawnTo, drawn-start, drawn-end, drawn-next, drawn-stops, sum-next, sum-stops}
@@ -75,19 +76,19 @@ module _ (c : tie.After-draw-char Inv-loop μ-loop) where
   abbrev read : tie.After-known-told Inv-loop μ-loop
   read = c .before .before
 
-  brings-it : {q : LookupSteps} → stepsBy (c .draw-char .result) ≡ q → q ≡ brings (u8g2 (entry read .args .font .now) .steps) (read .before .next .given .0 .0)
+  brings-it : {q : LookupSteps} → charSteps (c .draw-char .result) ≡ q → q ≡ brings (u8g2 (entry read .args .font .now) .steps) (read .before .next .given .0 .0)
   brings-it e = sym e ∙ c .draw-char .ensures .brought
 
-  sum-fits : {q : LookupSteps} → stepsBy (c .draw-char .result) ≡ q → Fits32 (plusSteps (turn read .loop .steps) q)
+  sum-fits : {q : LookupSteps} → charSteps (c .draw-char .result) ≡ q → Fits32 (plusSteps (turn read .loop .steps) q)
   sum-fits e =
       let s = entry read .pre in
       summed-fits (turn read .loop .inv .summed) (first read) (brings-it e) (s .opened .least) (s .opened .most) (s .checked .short)
 
 add-steps-requires : tie.Need-add-steps-requires Inv-loop μ-loop
-add-steps-requires c κs = sum-fits (c .before .before .before .before .before) (ap stepsBy (c .before .drawn .given .1))
+add-steps-requires c κs = sum-fits (c .before .before .before .before .before) (ap charSteps (c .before .drawn .given .1))
 
 add-steps-requires-2 : tie.Need-add-steps-requires-2 Inv-loop μ-loop
-add-steps-requires-2 c κs = sum-fits (c .before .before .before .before .before) (ap stepsBy (c .before .drawn2 .given .1))
+add-steps-requires-2 c κs = sum-fits (c .before .before .before .before .before) (ap charSteps (c .before .drawn2 .given .1))
 
 same-length-2 : tie.Need-same-length-2 Inv-loop μ-loop
 same-length-2 c =
@@ -107,7 +108,7 @@ returns-2 c =
       told = record {
         counted = sym (measured-stops (s .pre .checked) (i .drawn .reached) (first k) stops);
         summed = c .sum-with .ensures
-            ∙ sum-stops _ (i .summed) (first k) (brings-it char (ap stepsBy is)) (c .before .add-steps .ensures) (s .args .pen .«line_height»)
+            ∙ sum-stops _ (i .summed) (first k) (brings-it char (ap charSteps is)) (c .before .add-steps .ensures) (s .args .pen .«line_height»)
             (s .args .pen .origin) (turn k .loop .dimensions) stops refl;
       };
       shown = drawn-stops _ _ _ _ _ _ _ _ (s .pre .checked) (i .drawn) (first k) stops (d .shown);
@@ -134,7 +135,7 @@ loop-again c =
     record {
       drawn = drawn-next _ _ _ _ _ _ _ _ (s .pre .checked) (i .drawn) (first k) (drawn-small (s .pre .opened) _) goes (d .shown)
           (c .before .before .before .before .before .buffer .given);
-      summed = sum-next _ (i .summed) (first k) (brings-it char (ap stepsBy is)) (c .add-steps2 .ensures) (s .args .pen .«line_height») (s .args .pen .origin)
+      summed = sum-next _ (i .summed) (first k) (brings-it char (ap charSteps is)) (c .add-steps2 .ensures) (s .args .pen .«line_height») (s .args .pen .origin)
           (turn k .loop .dimensions) goes;
     }
 
