@@ -35,25 +35,17 @@ fn search_chain(font: &[u8], start: usize, ch: u16, char_width: usize, entries: 
     let mut records: u32 = 0;
     loop {
         let says = read_record(font, at, ch, char_width);
-        let looked = records + 1;
+        let looked = LookupSteps {
+            records: records + 1,
+            entries,
+        };
         match says {
-            Record::Here(n) => {
-                let steps = LookupSteps {
-                    records: looked,
-                    entries,
-                };
-                return SearchResult::Found(at + (n as usize), steps);
-            }
+            Record::Here(n) => return SearchResult::Found(at + (n as usize), looked),
             Record::Next(jump) => {
-                records = looked;
+                records = looked.records;
                 at += jump as usize;
             }
-            Record::Last => {
-                return SearchResult::GlyphNotFound(LookupSteps {
-                    records: looked,
-                    entries,
-                });
-            }
+            Record::Last => return SearchResult::GlyphNotFound(looked),
             Record::Cut => return SearchResult::FontEnds,
         }
     }
