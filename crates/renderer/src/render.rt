@@ -83,7 +83,7 @@ fn draw_answer(
     }
 }
 
-// One character: it is drawn first, and then counted.
+// One character. It is counted first, so that less is kept while it is drawn.
 fn draw_char(
     font: &[u8],
     head: FontReader,
@@ -101,6 +101,7 @@ fn draw_char(
     }
     let origin = pen.origin;
     let answer = retrieve_answer(font, head, ch, pen.ignore_unknown_chars);
+    let counted = add_answer(dimensions, origin, answer);
     draw_answer(
         font,
         head,
@@ -110,7 +111,7 @@ fn draw_char(
         context,
         &mut buffer[..],
     );
-    add_answer(dimensions, origin, answer)
+    counted
 }
 
 // The letters of a checked text, one after the other, and their steps added up. The first that stops the text is the answer, and
