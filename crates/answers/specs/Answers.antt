@@ -24,7 +24,7 @@ answerSteps (Nothing q) = q
 answerSteps (Stops e q) = q
 
 -- The code's answer is that one, with those steps.
-pub record Comes (a : text.Answer) (q : LookupSteps) (r : Answer) : Type 0 where
+pub record IsAnswer (a : text.Answer) (q : LookupSteps) (r : Answer) : Type 0 where
   pub is : asAnswer r ≡ a
   pub counted : answerSteps r ≡ q
 

@@ -2,9 +2,10 @@
 ghost use mathlib.Core.Path.{_≡_};
 ghost use Rattle.definitions.specs.Refusals.{refusal};
 ghost use Rattle.definitions.specs.Header.{Opened};
+ghost use Rattle.definitions.specs.Glyph.{glyphOutcome};
 ghost use Rattle.definitions.specs.Text.{answer};
 ghost use Rattle.definitions.specs.Font.{u8g2, measuredAnswer, drawnAnswer};
-ghost use Rattle.answers.specs.Answers.{Comes, WholeLookedUp};
+ghost use Rattle.answers.specs.Answers.{IsAnswer, WholeLookedUp};
 use font_reader::retrieve_glyph_data;
 use runs::check_runs;
 use types::error::Error;
@@ -23,7 +24,7 @@ pub enum Answer {
 
 // Only an unknown character is skipped: the end of the font always stops the text.
 fn skip_unknown(error: Error, steps: LookupSteps, ignore_unknown_chars: bool) -> Answer
-    ensures { λ r. ⌜ Comes (answer «ignore_unknown_chars» (refusal error)) steps r ⌝ }
+    ensures { λ r. ⌜ IsAnswer (answer «ignore_unknown_chars» (refusal error)) steps r ⌝ }
 {
     let Error::GlyphNotFound(_) = error else {
         return Answer::Stops(error, steps);
@@ -34,6 +35,18 @@ fn skip_unknown(error: Error, steps: LookupSteps, ignore_unknown_chars: bool) ->
     Answer::Stops(error, steps)
 }
 
+// What a lookup comes to in a text.
+fn answer_of(lookup: GlyphLookup, ignore_unknown_chars: bool) -> Answer
+    ensures { λ r. ⌜ IsAnswer (answer «ignore_unknown_chars» (glyphOutcome (lookup .result))) (lookup .steps) r ⌝ }
+{
+    let steps = lookup.steps;
+    let result = lookup.result;
+    match result {
+        GlyphResult::Ok(glyph) => Answer::Shows(glyph, steps),
+        GlyphResult::Err(error) => skip_unknown(error, steps, ignore_unknown_chars),
+    }
+}
+
 // The answer to a code point in measuring, which reads no runs.
 pub fn try_retrieve_glyph_data(
     font: &[u8],
@@ -42,16 +55,10 @@ pub fn try_retrieve_glyph_data(
     ignore_unknown_chars: bool,
 ) -> Answer
     requires { ⌜ Opened (now font) head ⌝ }
-    ensures { λ r. ⌜ Comes (measuredAnswer (u8g2 (now (font .entry))) «ignore_unknown_chars» ch)
+    ensures { λ r. ⌜ IsAnswer (measuredAnswer (u8g2 (now (font .entry))) «ignore_unknown_chars» ch)
         (u8g2 (now (font .entry)) .steps ch) r ⌝ }
 {
-    let lookup = retrieve_glyph_data(font, head, ch);
-    let steps = lookup.steps;
-    let result = lookup.result;
-    match result {
-        GlyphResult::Ok(glyph) => Answer::Shows(glyph, steps),
-        GlyphResult::Err(error) => skip_unknown(error, steps, ignore_unknown_chars),
-    }
+    answer_of(retrieve_glyph_data(font, head, ch), ignore_unknown_chars)
 }
 
 // The glyph of a code point, its runs read to the last pixel. So a glyph that the font's end cuts off is refused before any
@@ -78,14 +85,8 @@ fn retrieve_whole_glyph(font: &[u8], head: FontReader, ch: u32) -> GlyphLookup
 // The answer to a code point in drawing.
 pub fn retrieve_answer(font: &[u8], head: FontReader, ch: u32, ignore_unknown_chars: bool) -> Answer
     requires { ⌜ Opened (now font) head ⌝ }
-    ensures { λ r. ⌜ Comes (drawnAnswer (u8g2 (now (font .entry))) «ignore_unknown_chars» ch)
+    ensures { λ r. ⌜ IsAnswer (drawnAnswer (u8g2 (now (font .entry))) «ignore_unknown_chars» ch)
         (u8g2 (now (font .entry)) .steps ch) r ⌝ }
 {
-    let lookup = retrieve_whole_glyph(font, head, ch);
-    let steps = lookup.steps;
-    let result = lookup.result;
-    match result {
-        GlyphResult::Ok(glyph) => Answer::Shows(glyph, steps),
-        GlyphResult::Err(error) => skip_unknown(error, steps, ignore_unknown_chars),
-    }
+    answer_of(retrieve_whole_glyph(font, head, ch), ignore_unknown_chars)
 }

@@ -59,7 +59,8 @@ pub extern "C" fn papayahelm_open(font: &[u8], out: &mut [i64]) -> u32
 #[no_mangle]
 pub extern "C" fn papayahelm_font_box(font: &[u8], anchor: u32, out: &mut [i64]) -> u32
     ensures { λ r. ⌜ Answers (meaningOf anchor 0 0 0 (length (now (out .entry))))
-        (λ m. withoutSteps (boxReply (fontBoundingBox (now (font .entry)) (m .«vertical_pos»)))) r (now (out .entry)) (now (out .exit)) ⌝ }
+        (λ m. withoutSteps (boxReply (fontBoundingBox (now (font .entry)) (m .«vertical_pos»)))) r (now (out .entry))
+        (now (out .exit)) ⌝ }
 {
     let Codes::Known(m) = known_codes(anchor, 0, 0, 0, out.len()) else {
         return BAD_ARGUMENT;
@@ -82,8 +83,9 @@ pub extern "C" fn papayahelm_measure(
     out: &mut [i64],
 ) -> u32
     ensures { λ r. ⌜ Answers (meaningOf anchor 0 skip 0 (length (now (out .entry))))
-        (λ m. withSums (now (font .entry)) (now (text .entry)) textReply (measure (u8g2 (now (font .entry))) (plain (now (text .entry)) (placedBy m x y «line_height»)
-        (m .«vertical_pos»)))) r (now (out .entry)) (now (out .exit)) ⌝ }
+        (λ m. withSums (now (font .entry)) (now (text .entry)) textReply (measure (u8g2 (now (font .entry)))
+        (plain (now (text .entry)) (placedBy m x y «line_height») (m .«vertical_pos»)))) r (now (out .entry))
+        (now (out .exit)) ⌝ }
 {
     let Codes::Known(m) = known_codes(anchor, 0, skip, 0, out.len()) else {
         return BAD_ARGUMENT;
@@ -114,8 +116,9 @@ pub extern "C" fn papayahelm_measure_aligned(
     out: &mut [i64],
 ) -> u32
     ensures { λ r. ⌜ Answers (meaningOf anchor align skip 0 (length (now (out .entry))))
-        (λ m. withSums (now (font .entry)) (now (text .entry)) alignedReply (measureAligned (u8g2 (now (font .entry))) (request (now (text .entry))
-        (placedBy m x y «line_height») (m .«vertical_pos») (m .«horizontal_align»)))) r (now (out .entry)) (now (out .exit)) ⌝ }
+        (λ m. withSums (now (font .entry)) (now (text .entry)) alignedReply (measureAligned (u8g2 (now (font .entry)))
+        (request (now (text .entry)) (placedBy m x y «line_height») (m .«vertical_pos») (m .«horizontal_align»)))) r
+        (now (out .entry)) (now (out .exit)) ⌝ }
 {
     let Codes::Known(m) = known_codes(anchor, align, skip, 0, out.len()) else {
         return BAD_ARGUMENT;
@@ -158,9 +161,9 @@ pub extern "C" fn papayahelm_draw(
     out: &mut [i64],
 ) -> u32
     ensures answered { λ r. ⌜ Answers (meaningOf anchor 0 skip background (length (now (out .entry))))
-        (λ m. withSums (now (font .entry)) (now (text .entry)) textReply (draw (u8g2 (now (font .entry))) (plain (now (text .entry)) (placedBy m x y «line_height»)
-        (m .«vertical_pos»)) (inkOf (m .background) fg bg) (sized width height) (now (buffer .entry)))) r (now (out .entry))
-        (now (out .exit)) ⌝ }
+        (λ m. withSums (now (font .entry)) (now (text .entry)) textReply (draw (u8g2 (now (font .entry)))
+        (plain (now (text .entry)) (placedBy m x y «line_height») (m .«vertical_pos»)) (inkOf (m .background) fg bg)
+        (sized width height) (now (buffer .entry)))) r (now (out .entry)) (now (out .exit)) ⌝ }
     ensures shown { λ r. ⌜ now (buffer .exit) ≡ drawnBy (meaningOf anchor 0 skip background (length (now (out .entry))))
         (λ m. drawBuffer (u8g2 (now (font .entry))) (plain (now (text .entry)) (placedBy m x y «line_height»)
         (m .«vertical_pos»)) (inkOf (m .background) fg bg) (sized width height) (now (buffer .entry))) (now (buffer .entry)) ⌝ }
@@ -201,7 +204,8 @@ pub extern "C" fn papayahelm_redraw(
     out: &mut [i64],
 ) -> u32
     ensures answered { λ r. ⌜ Answers (meaningOf anchor 0 0 background (length (now (out .entry))))
-        (λ m. withSums (now (font .entry)) (now («new_text» .entry)) textReply (redrawn (now (font .entry)) (now («old_text» .entry))
+        (λ m. withSums (now (font .entry)) (now («new_text» .entry)) textReply (redrawn (now (font .entry))
+        (now («old_text» .entry))
         (asked (placeBy m x y «line_height» fg bg «clear_color» (sized width height)) (now («new_text» .entry)))
         (groundOf (placeBy m x y «line_height» fg bg «clear_color» (sized width height)) (now (buffer .entry))))) r
         (now (out .entry)) (now (out .exit)) ⌝ }

@@ -1,5 +1,5 @@
--- The steps of a lookup (request A1): "in one lookup the records are at most the font's length less 23, and so, taken
--- separately, are four times the entries." Assumes nothing.
+-- The steps of a lookup (request A1). In one lookup the records are "at most the font's length less 23", and so, for themselves, are
+-- "four times the entries". Assumes nothing.
 use Rattle.integers.proofs.Prelude.{_≡_, refl, Bool, true, false, List, [], _∷_, ℕ, zero, suc, _+_, _-_, _*_, _≤_, arith, ltb, leb, length, drop}
 use Rattle.integers.proofs.Prelude.{length-drop, leb-true}
 use Rattle.integers.specs.Integers.{pick}

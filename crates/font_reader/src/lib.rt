@@ -110,8 +110,8 @@ pub fn new_from_raw_data(font: &[u8]) -> FontReaderResult
     FontReaderResult::Ok(read_header(font))
 }
 
-// What the font answers to a code point: its glyph, or number 7 or 8, and by how many steps. The header is read anew, as only a few of its numbers
-// are needed: the compiler does not inline this function, and would copy all of `head` for each letter.
+// What the font answers to a code point: its glyph, or number 7 or 8, and by how many steps. The header is read anew, as only a few
+// of its numbers are needed: the compiler does not inline this function, and would copy all of `head` for each letter.
 pub fn retrieve_glyph_data(font: &[u8], head: FontReader, ch: u32) -> GlyphLookup
     requires { ⌜ Opened (now font) head ⌝ }
     ensures { λ r. ⌜ LookedUp (now (font .entry)) ch r ⌝ }

@@ -1,4 +1,4 @@
 pub mod RangeLaws
 pub mod LoopLaws
-pub mod SumLaws
+pub mod SumLoopLaws
 pub mod MeasureLaws

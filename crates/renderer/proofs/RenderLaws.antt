@@ -29,7 +29,7 @@ use Rattle.checks.proofs.OriginLaws.{tested, origin-is}
 use Rattle.layout.proofs.RangeLaws.{Small, in-range-small}
 use Rattle.layout.proofs.LoopLaws.{reached-start, reached-last, reached-next}
 use Rattle.layout.proofs.MeasureLaws.{Measured, measured-start, measured-next}
-use Rattle.layout.proofs.SumLaws.{Summed, summed-next, summed-stops, step-goes-on, step-stops}
+use Rattle.layout.proofs.SumLoopLaws.{Summed, summed-next, summed-stops, step-goes-on, step-stops}
 use Rattle.lookup_sums.specs.Reports.{refusedReport}
 
 -- ---- a letter

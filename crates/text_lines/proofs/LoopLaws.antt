@@ -19,7 +19,7 @@ use Rattle.layout.proofs.RangeLaws.{Small, advanced-start}
 use Rattle.text_lines.proofs.LinesLaws.{InLines, line-has-room, in-lines-next}
 use Rattle.layout.proofs.LoopLaws.{Reached, reached-start, reached-end, reached-next, reached-stops}
 use Rattle.layout.proofs.MeasureLaws.{checked-characters, measured-small}
-use Rattle.layout.proofs.SumLaws.{Summed, summed-next, summed-stops, line-goes-on, line-stops}
+use Rattle.layout.proofs.SumLoopLaws.{Summed, summed-next, summed-stops, line-goes-on, line-stops}
 
 -- ---- the loop
 

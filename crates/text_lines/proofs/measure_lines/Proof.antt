@@ -11,7 +11,7 @@ use Rattle.definitions.specs.Font.{u8g2}
 use Rattle.definitions.specs.Sums.{plusSteps, brings, Fits32}
 use Rattle.text_lines.specs.Lines.{asState, stateOutcome, stepsBy, CharAdded}
 use Rattle.layout.proofs.MeasureLaws.{checked-characters}
-use Rattle.layout.proofs.SumLaws.{summed-start, summed-end, summed-fits}
+use Rattle.layout.proofs.SumLoopLaws.{summed-start, summed-end, summed-fits}
 use Rattle.text_lines.proofs.LoopLaws.{aligned-start, aligned-room, aligned-end, aligned-stops, MeasuredTo, measured-next, sum-stops}
 use Rattle.text_lines.proofs.measure_lines.Statement.{
   statement,

@@ -12,7 +12,7 @@ use Rattle.definitions.proofs.Utf8Laws.{Position, position, none-malformed}
 use Rattle.renderer.specs.CharAnswers.{Fits}
 use Rattle.layout.specs.CharResults.{charOutcome, charSteps}
 use Rattle.layout.proofs.MeasureLaws.{checked-characters, measured-room, measured-end, measured-stops}
-use Rattle.layout.proofs.SumLaws.{Summed, summed-start, summed-end, summed-fits}
+use Rattle.layout.proofs.SumLoopLaws.{Summed, summed-start, summed-end, summed-fits}
 use Rattle.renderer.proofs.RenderLaws.{drawn-small, DrawnTo, drawn-start, drawn-end, drawn-next, drawn-stops, sum-next, sum-stops}
 use Rattle.renderer.proofs.render.draw_text.Statement.{statement}
 use Rattle.renderer.proofs.render.draw_text.Tie as tie

@@ -27,12 +27,12 @@ abbrev GoesOn : (ℕ → Answer) → ℕ → Type 0
 GoesOn answers c = (n k : ℕ) → Stops answers c n k → ⊥
 
 -- What a loop makes of an answer: it goes on after a glyph and after nothing, and stops where the answer does.
-record Follows {A : Type 0} (on : Answer → Outcome A) : Type 0 where
+record Heeds {A : Type 0} (on : Answer → Outcome A) : Type 0 where
   shown : (g : GlyphReader) {n k : ℕ} → on (shows g) ≡ refused n k → ⊥
   skipped : {n k : ℕ} → on nothing ≡ refused n k → ⊥
   stopped : (n k : ℕ) → on (stops n k) ≡ refused n k
 
-module _ {A : Type 0} {on : Answer → Outcome A} (f : Follows on) (answers : ℕ → Answer) (c : ℕ) (newline : A) where
+module _ {A : Type 0} {on : Answer → Outcome A} (f : Heeds on) (answers : ℕ → Answer) (c : ℕ) (newline : A) where
   goes-on : {next : A} → pick (eqb c 10) (success newline) (on (answers c)) ≡ success next → GoesOn answers c
   goes-on e n k s =
       let one : pick (eqb c 10) (success newline) (on (answers c)) ≡ refused n k = rw (s .0, s .1) (f .stopped n k) in
@@ -53,25 +53,25 @@ module _ {A : Type 0} {on : Answer → Outcome A} (f : Follows on) (answers : �
 
 -- in drawing
 module _ (answers : ℕ → Answer) (lineHeight : ℕ) (origin : Point) (d : RenderedDimensions) (c : ℕ) where
-  follows-step : Follows (answerStep origin d)
-  follows-step = record { shown = λ g e. impossible cc; skipped = λ e. impossible cc; stopped = λ n k. refl }
+  heeds-step : Heeds (answerStep origin d)
+  heeds-step = record { shown = λ g e. impossible cc; skipped = λ e. impossible cc; stopped = λ n k. refl }
 
   pub step-goes-on : {next : RenderedDimensions} → step answers lineHeight origin d c ≡ success next → GoesOn answers c
-  step-goes-on e = goes-on follows-step answers c (newlineStep lineHeight d) e
+  step-goes-on e = goes-on heeds-step answers c (newlineStep lineHeight d) e
 
   pub step-stops : {n k : ℕ} → step answers lineHeight origin d c ≡ refused n k → Stops answers c n k
-  step-stops e = stopped-there follows-step answers c (newlineStep lineHeight d) e
+  step-stops e = stopped-there heeds-step answers c (newlineStep lineHeight d) e
 
 -- in measuring
 module _ (answers : ℕ → Answer) (a : HorizontalAlignment) (lineHeight : ℕ) (origin : Point) (s : LineState) (c : ℕ) where
-  follows-line : Follows (answerOfLine s)
-  follows-line = record { shown = λ g e. impossible cc; skipped = λ e. impossible cc; stopped = λ n k. refl }
+  heeds-line : Heeds (answerOfLine s)
+  heeds-line = record { shown = λ g e. impossible cc; skipped = λ e. impossible cc; stopped = λ n k. refl }
 
   pub line-goes-on : {next : LineState} → lineStep answers a lineHeight origin s c ≡ success next → GoesOn answers c
-  line-goes-on e = goes-on follows-line answers c (nextLine a lineHeight origin s) e
+  line-goes-on e = goes-on heeds-line answers c (nextLine a lineHeight origin s) e
 
   pub line-stops : {n k : ℕ} → lineStep answers a lineHeight origin s c ≡ refused n k → Stops answers c n k
-  line-stops e = stopped-there follows-line answers c (nextLine a lineHeight origin s) e
+  line-stops e = stopped-there heeds-line answers c (nextLine a lineHeight origin s) e
 
 -- ---- the loop
 
