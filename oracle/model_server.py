@@ -33,4 +33,6 @@ for line in sys.stdin:
         cells = bytearray(buffer)
         answer = m.draw(font, text, x, y, anchor, (fg, bg) if which else (fg,), height, skip, w, h, cells)
         out.append('b' + cells.hex())
+    if kind >= 2:
+        out += map(str, m.sums(font, text, answer))
     print(' '.join(out + list(words(answer))), flush=True)

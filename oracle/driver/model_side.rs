@@ -54,6 +54,10 @@ impl Model {
             let cells = words.next().expect("the framebuffer");
             bytes = (1..cells.len()).step_by(2).map(|i| u8::from_str_radix(&cells[i..i + 2], 16).unwrap()).collect();
         }
+        let steps = (kind >= 2).then(|| {
+            let mut number = || words.next().expect("a sum").parse().unwrap();
+            (number(), number())
+        });
         let yes = words.next().expect("an answer") == "ok";
         let rest: Vec<&str> = words.collect();
         let number = |i: usize| rest[i].parse::<i64>().unwrap();
@@ -81,6 +85,6 @@ impl Model {
             Call::Aligned(_) => Answer::Bounds(area(0)),
             Call::DrawAligned(_) => Answer::Bounds(area(2)),
         };
-        Outcome { answer, buffer: bytes, steps: None }
+        Outcome { answer, buffer: bytes, steps }
     }
 }
