@@ -1,5 +1,4 @@
 // What a font answers to one character of a text, in measuring and in drawing.
-ghost use mathlib.Core.Path.{_≡_};
 ghost use Rattle.definitions.specs.Refusals.{refusal};
 ghost use Rattle.definitions.specs.Header.{Opened};
 ghost use Rattle.definitions.specs.Glyph.{glyphOutcome};

@@ -6,7 +6,7 @@ use Rattle.integers.specs.Integers.{pick}
 use Rattle.definitions.specs.Vocabulary.{LookupSteps}
 use Rattle.definitions.specs.Header.{header}
 use Rattle.definitions.specs.Lookup.{Search, found, missing, short, Record, here, next, last, cut, record8, record16, looked, follow, chain}
-use Rattle.definitions.specs.Lookup.{Distance, sum, none, jumpTable, chainStart, tableStart, noSteps, afterEntries, fromTable, searchTable, search, stepsOf}
+use Rattle.definitions.specs.Lookup.{Distance, sum, none, jumpTable, chainStart, tableStart, noSteps, afterEntries, fromTable, search, stepsOf}
 
 -- The record that is found counts, and so does one with code 0 that ends the chain.
 pub found-counts : chain (record8 45) noSteps 0 0 (45 ∷ 5 ∷ []) ≡ found 2 record { records = 1; entries = 0 }

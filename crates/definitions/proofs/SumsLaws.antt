@@ -1,6 +1,6 @@
 -- The sums over a text (request A1): how a loop adds them up letter by letter, and that they fit 32 bits. Assumes nothing.
-use Rattle.integers.proofs.Prelude.{_≡_, refl, sym, ap, subst, _∙_, Bool, true, false, List, [], _∷_, _++_, ℕ, _+_, _*_, _≤_, zero-add, arith, eqb, length}
-use Rattle.integers.proofs.Prelude.{length-append, mul-le-mul-right, eqb-true, eq-eqb, ne-eqb}
+use Rattle.integers.proofs.Prelude.{_≡_, refl, sym, ap, subst, Bool, true, false, List, [], _∷_, _++_, ℕ, _+_, _*_, _≤_, arith, eqb, length}
+use Rattle.integers.proofs.Prelude.{eq-eqb, ne-eqb}
 use Rattle.integers.specs.Integers.{pick}
 use Rattle.integers.proofs.Choices.{impossible, of-pick}
 use Rattle.definitions.specs.Vocabulary.{LookupSteps}
@@ -10,7 +10,7 @@ use Rattle.definitions.specs.Lookup.{noSteps}
 use Rattle.definitions.specs.Font.{Font, u8g2}
 use Rattle.definitions.specs.Calls.{openFont, codePointsOf}
 use Rattle.definitions.specs.Sums.{plusSteps, brings, total, upTo, counted, sums, Fits32}
-use Rattle.definitions.proofs.StepsLaws.{Bounded, steps-bounded}
+use Rattle.definitions.proofs.StepsLaws.{steps-bounded}
 use Rattle.definitions.proofs.TextLaws.{Each}
 
 same-steps : {a b : LookupSteps} → a .records ≡ b .records → a .entries ≡ b .entries → a ≡ b
@@ -28,7 +28,7 @@ module _ (steps : ℕ → LookupSteps) where
       (omega (arith, ap (λ (q : LookupSteps). q .records) e))
       (omega (arith, ap (λ (q : LookupSteps). q .entries) e))
 
--- the letters before the first c, and that one
+-- The letters before the first c, and that one: "with number 7 the sums include the missing letter".
 pub up-to-first : (cs : List ℕ) (c : ℕ) (ds : List ℕ) → Each (λ d. d ≡ c → ⊥) cs → upTo c (cs ++ c ∷ ds) ≡ cs ++ c ∷ []
 unfolding upTo
 up-to-first [] c ds h = rw (eq-eqb c c refl) refl
@@ -82,7 +82,7 @@ pub sums-fit : {A : Type 0} (font text : List ℕ) (o : Outcome A) → 23 ≤ le
 sums-fit font text o least most short =
     total-fits font least most (counted o (codePointsOf text)) (omega (arith, counted-shorter o (codePointsOf text)))
 
--- ---- a call that is refused before its first letter has none
+-- ---- "every other refusal reports zero for both"
 
 pub no-sums : {A : Type 0} (font : Font) (text : List ℕ) {n c : ℕ} {o : Outcome A} → refused n c ≡ o → eqb n 7 ≡ false → noSteps ≡ sums font text o
 unfolding total

@@ -1,5 +1,5 @@
 -- One step of the walk over the jump table, in the terms of the code: what a test shows of the definition. Assumes nothing.
-use Rattle.integers.proofs.Prelude.{_≡_, _∙_, List, ℕ, suc, _+_, _*_, _≤_, _<_, arith, length, drop, length-drop, lt-ltb, le-ltb}
+use Rattle.integers.proofs.Prelude.{_≡_, _∙_, List, ℕ, _+_, _*_, _≤_, _<_, arith, length, drop, length-drop, lt-ltb, le-ltb}
 use Rattle.definitions.specs.Header.{bigEndian16}
 use Rattle.definitions.specs.Lookup.{sum, none, jumpTable}
 use Rattle.definitions.proofs.LookupLaws.{table-at, table-ends}

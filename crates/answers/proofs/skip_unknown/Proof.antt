@@ -1,13 +1,12 @@
 -- Of the errors only that of an unknown letter has number 7.
-use Rattle.integers.proofs.Prelude.{_≡_, refl, Bool, true, false, _&&_, inl, inr, [], _∷_, ℕ, arith, needs}
+use Rattle.integers.proofs.Prelude.{_≡_, refl, Bool, inl, inr, [], _∷_, ℕ, arith, needs}
 use types.Run.{OneOf}
 use denote.Enum.Declared.{tagOf}
-use Rattle.integers.specs.Integers.{pick}
 use Rattle.definitions.specs.Vocabulary.{Error}
 use Rattle.types.specs.declared.error.Error.the-variants.{FontLength, FontHeader, FramebufferSize, TextEncoding, PositionOrLineHeight, BackgroundColorNotSupported, GlyphNotFound, FontEnds}
 use Rattle.types.proofs.error.Error.{the-type}
 use Rattle.definitions.specs.Refusals.{errorNumber, codePoint, refusal}
-use Rattle.definitions.specs.Text.{Answer, nothing, stops, answer}
+use Rattle.definitions.specs.Text.{stops, answer}
 use Rattle.answers.proofs.AnswersLaws.{stays}
 use Rattle.answers.proofs.skip_unknown.Statement.{statement}
 use Rattle.answers.proofs.skip_unknown.Tie as tie
