@@ -1,4 +1,4 @@
--- SPECIFICATION, Agreement: two plain drawings of one text agree. A longer font answers each letter that the first drew with
+-- SPECIFICATION, Agreement: two drawings of one text agree, however it is aligned. A longer font answers each letter that the first drew with
 -- the same glyph and the same pixels; so both texts are laid out alike and make one picture, and the framebuffer's law does
 -- the rest.
 -- Assumes nothing.
@@ -18,13 +18,13 @@ use Rattle.definitions.specs.Picture.{Paint, textPicture}
 use Rattle.definitions.specs.Framebuffer.{over, sideOff, framebufferCause}
 use Rattle.definitions.specs.Limits.{textCause, positionCause, backgroundOff, backgroundCause}
 use Rattle.definitions.specs.Calls.{Request, codePointsOf, origin, laid, measureCauses, measuredText, measure, drawCauses, drawnText, draw, drawBuffer}
-use Rattle.definitions.specs.Agreement.{Ground, WithinLimits, drawn, after, pixel, width, height, results, KeptOutside, Agree, MeasuredAsDrawn}
+use Rattle.definitions.specs.Agreement.{Ground, WithinLimits, drawn, after, pixel, width, height, results, plainBox, KeptOutside, Agree, MeasuredAsDrawn}
 use Rattle.definitions.proofs.RefusalLaws.{went-on, none-applies, succeeded, NoneApplies, each-off, all-off, any-parts, parts-any, or-false}
 use Rattle.definitions.proofs.OpenedLaws.{opened-by-causes}
 use Rattle.definitions.proofs.LookupLaws.{header-longer, search-longer}
 use Rattle.definitions.proofs.GlyphLaws.{fields-longer}
 use Rattle.definitions.proofs.RunsLaws.{glyph-pixels-longer}
-use Rattle.definitions.proofs.TextLaws.{Follows, same-layout, each-glyph}
+use Rattle.definitions.proofs.TextLaws.{Follows, same-aligned, each-glyph}
 use Rattle.definitions.proofs.PictureLaws.{picture-outside, same-pixels-picture}
 use Rattle.definitions.proofs.FramebufferLaws.{shown-at}
 
@@ -150,8 +150,8 @@ module _ (font : Font) (r : Request) (p : Ground) (within : WithinLimits font r 
         rw unrefused
         (shown-at (width p) (textPicture color (pixelsOf font) (drawnText font r .glyphs)) (p .before) column row c (lies column row c k))
 
-    kept : (d : RenderedDimensions) → joinAll (drawnText font r .glyphs) ≡ d .«bounding_box» → KeptOutside p (after font r color p) d
-    kept d box column row c k out =
+    kept : (b : BoundingBox) → joinAll (drawnText font r .glyphs) ≡ b → KeptOutside p (after font r color p) b
+    kept b box column row c k out =
         pixel-after column row c k
         ∙ ap (λ (x : Paint). over x (pixel p (p .before) column row))
         (picture-outside color (pixelsOf font) (drawnText font r .glyphs) (pos column) (pos row)
@@ -169,11 +169,11 @@ module _ {f g : Font} (h : f ⊑ g) where
   drawn-follows : Follows (drawnAnswer f false) (drawnAnswer g false)
   drawn-follows = record {
     same = λ c k e. let d = drawable-follows c k (drawable-glyph f c k e) in rw (d .0) (rw (d .1));
-    some = never;
+    skips = λ c e. absurd (never c e);
   }
 
   measured-follows : Follows (drawnAnswer f false) (measuredAnswer g false)
-  measured-follows = record { same = λ c k e. rw (drawable-follows c k (drawable-glyph f c k e) .0); some = never }
+  measured-follows = record { same = λ c k e. rw (drawable-follows c k (drawable-glyph f c k e) .0); skips = λ c e. absurd (never c e) }
 
   same-pixels : (c : ℕ) (k : GlyphReader) → drawnAnswer f false c ≡ shows k → pixelsOf f k ≡ pixelsOf g k
   same-pixels c k e =
@@ -202,25 +202,30 @@ module _ (f g : Font) (h : f ⊑ g) (r : Request) (no-skips : r .skip ≡ false)
       (ap (backgroundOff color) (h .background) ∙ each-off last (any-parts (later f r p first-within) last allowed .1) .0)
 
   -- letters that follow the first drawing's are laid out alike
-  follows-laid : (k : Font) → origin k r ≡ origin f r → (answers : ℕ → Answer) → Follows (drawnAnswer f false) answers → laid k r answers ≡ drawnText f r
-  follows-laid k same answers follows =
+  follows-laid : (k : Font) → origin k r ≡ origin f r → (measured answers : ℕ → Answer)
+      → Follows (drawnAnswer f false) measured → Follows (drawnAnswer f false) answers → laid k r measured answers ≡ drawnText f r
+  follows-laid k same measured answers m e =
       rw (same, no-skips)
-      (same-layout follows (r .lineHeight) (origin f r) (codePointsOf (r .text)) (point (pos 0) (pos 0)) (d .advance) (rw no-skips at (advance-and-box .0)))
+      (same-aligned (measured-follows (follows-itself f)) m e (origin f r) (r .lineHeight) (r .align) (codePointsOf (r .text)) (d .advance) (rw no-skips at (advance-and-box .0)))
 
   same-text : drawnText g r ≡ drawnText f r
-  same-text = ap (λ (s : Bool). laid g r (drawnAnswer g s)) no-skips ∙ follows-laid g (same-origin h r) (drawnAnswer g false) (drawn-follows h)
+  same-text =
+      ap (λ (s : Bool). laid g r (measuredAnswer g s) (drawnAnswer g s)) no-skips
+      ∙ follows-laid g (same-origin h r) (measuredAnswer g false) (drawnAnswer g false) (measured-follows h) (drawn-follows h)
 
   measured-text : (k : Font) → f ⊑ k → measuredText k r ≡ drawnText f r
-  measured-text k l = ap (λ (s : Bool). laid k r (measuredAnswer k s)) no-skips ∙ follows-laid k (same-origin l r) (measuredAnswer k false) (measured-follows l)
+  measured-text k l =
+      ap (λ (s : Bool). laid k r (measuredAnswer k s) (measuredAnswer k s)) no-skips
+      ∙ follows-laid k (same-origin l r) (measuredAnswer k false) (measuredAnswer k false) (measured-follows l) (measured-follows l)
 
   same-picture : (column row : ℤ)
       → textPicture color (pixelsOf f) (drawnText f r .glyphs) column row
       ≡ textPicture color (pixelsOf g) (drawnText g r .glyphs) column row
   same-picture column row =
       same-pixels-picture color (pixelsOf f) (pixelsOf g) (drawnText f r .glyphs)
-      (each-glyph (λ k. pixelsOf f k ≡ pixelsOf g k) (drawnAnswer f (r .skip))
+      (each-glyph (λ k. pixelsOf f k ≡ pixelsOf g k) (measuredAnswer f (r .skip)) (drawnAnswer f (r .skip))
       (λ c k e. same-pixels h c k (rw no-skips at e))
-      (r .lineHeight) (origin f r) (codePointsOf (r .text)) (point (pos 0) (pos 0)))
+      (r .lineHeight) (origin f r) (r .align) (codePointsOf (r .text)))
       column row
       ∙ ap (λ (l : Layout). textPicture color (pixelsOf g) (l .glyphs) column row) (sym same-text)
 
@@ -232,7 +237,7 @@ module _ (f g : Font) (h : f ⊑ g) (r : Request) (no-skips : r .skip ≡ false)
   unfolding measure
   measures k o l within = none-applies _ (measureCauses k r) (measuring k r o within) ∙ ap dimensions (measured-text k l) ∙ first .1
 
-  pub agree : width p ≤ width q → height p ≤ height q → Agree p q (results f g r color p q) d
+  pub agree : width p ≤ width q → height p ≤ height q → Agree plainBox p q (results f g r color p q) d
   agree as-wide as-high = record {
     second-succeeds = second;
     first-measures = measures f p (follows-itself f) first-within;
@@ -241,13 +246,13 @@ module _ (f g : Font) (h : f ⊑ g) (r : Request) (no-skips : r .skip ≡ false)
         pixel-after f r p first-within color (first .0) column row c k
         ∙ (cc (same-picture (pos column) (pos row)))
         ∙ sym (pixel-after g r q second-within color second-unrefused column row (omega arith) (omega arith));
-    first-kept = kept f r p first-within color (first .0) d (advance-and-box .1);
-    second-kept = kept g r q second-within color second-unrefused d (ap (λ (l : Layout). joinAll (l .glyphs)) same-text ∙ advance-and-box .1);
+    first-kept = kept f r p first-within color (first .0) (d .«bounding_box») (advance-and-box .1);
+    second-kept = kept g r q second-within color second-unrefused (d .«bounding_box») (ap (λ (l : Layout). joinAll (l .glyphs)) same-text ∙ advance-and-box .1);
   }
 
 -- SPECIFICATION, Agreement, of the definitions.
 pub agreement : (firstFont secondFont : List ℕ) (r : Request) (color : FontColor) (p q : Ground)
-    → MeasuredAsDrawn firstFont secondFont r p q (results (u8g2 firstFont) (u8g2 secondFont) r color p q)
+    → MeasuredAsDrawn plainBox firstFont secondFont r p q (results (u8g2 firstFont) (u8g2 secondFont) r color p q)
 agreement firstFont secondFont r color p q h d e =
     let longer = h .longer in
     let least = opened-by-causes firstFont (font-off (u8g2 firstFont) r p (h .first-within)) .least in
@@ -256,5 +261,5 @@ agreement firstFont secondFont r color p q h d e =
 
 -- One drawing that succeeds: it is measured alike, and keeps what is outside its box.
 pub alone : (font : Font) (r : Request) (no-skips : r .skip ≡ false) (color : FontColor) (p : Ground) (d : RenderedDimensions)
-    → WithinLimits font r p → drawn font r color p ≡ success d → Agree p p (results font font r color p p) d
+    → WithinLimits font r p → drawn font r color p ≡ success d → Agree plainBox p p (results font font r color p p) d
 alone font r no-skips color p d within e = agree font font (follows-itself font) r no-skips color p p within within d e (omega arith) (omega arith)

@@ -17,7 +17,7 @@ use Rattle.definitions.specs.Framebuffer.{mapAt}
 use Rattle.definitions.specs.Calls.{Request, placed, plain, draw, drawBuffer}
 use Rattle.definitions.specs.Font.{u8g2}
 use Rattle.definitions.specs.FontT.{T}
-use Rattle.definitions.specs.Agreement.{Ground, on, drawn, after, pixel, results, TwoDrawings, Agree}
+use Rattle.definitions.specs.Agreement.{Ground, on, drawn, after, pixel, results, plainBox, TwoDrawings, Agree}
 use Rattle.definitions.proofs.Agreement.{agreement}
 
 abbrev added : List ℕ
@@ -60,5 +60,5 @@ unfolding T header headerOff signed8 glyph fields search record8 chain readAt bi
     table rowOf firstCharacter decodeFrom newlines joinAll letters lines lineByLine afterPair runs glyphPixels textPicture mapAt drawBuffer
 changes = refl
 
-pub claimed : Agree small large (results (u8g2 T) (u8g2 (T ++ added)) asked (Transparent 1) small large) dimensions
+pub claimed : Agree plainBox small large (results (u8g2 T) (u8g2 (T ++ added)) asked (Transparent 1) small large) dimensions
 claimed = agreement T (T ++ added) asked (Transparent 1) small large supposed dimensions succeeds

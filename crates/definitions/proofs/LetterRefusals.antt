@@ -1,15 +1,16 @@
 -- A letter refuses a text with 7 or 8 and with its own code point, and never with the number of a cause that is tested before the
 -- letters. Assumes nothing.
-use Rattle.integers.proofs.Prelude.{_≡_, refl, Bool, true, false, _&&_, _⊎_, inl, inr, List, [], _∷_, map, ℕ, _*_, eqb}
+use Rattle.integers.proofs.Prelude.{_≡_, refl, Bool, true, false, _&&_, _⊎_, inl, inr, List, [], _∷_, map, ℕ, _*_, eqb, ℤ}
 use Rattle.integers.specs.Integers.{pick}
 use Rattle.integers.proofs.Choices.{impossible}
-use Rattle.definitions.specs.Vocabulary.{FontReader, BoundingBox, Point, GlyphReader}
+use Rattle.definitions.specs.Vocabulary.{FontReader, BoundingBox, Point, GlyphReader, HorizontalAlignment}
+use Rattle.types.specs.declared.style.HorizontalAlignment.the-variants.{Left, Center, Right}
 use Rattle.definitions.specs.Refusals.{Outcome, success, refused, andThen}
 use Rattle.definitions.specs.Header.{header}
 use Rattle.definitions.specs.Bits.{Read, got, ends, readAt}
 use Rattle.definitions.specs.Lookup.{Search, found, missing, short, search as lookup}
 use Rattle.definitions.specs.Glyph.{unlessEnds, fields, fromSearch, glyph}
-use Rattle.definitions.specs.Text.{Answer, shows, nothing, stops, answer, Layout, point, dimensionsOf, place, letters, Lines, last, first, lines, newline, thenLines, lineByLine, layout}
+use Rattle.definitions.specs.Text.{Answer, shows, nothing, stops, answer, Layout, point, dimensionsOf, place, letters, Lines, last, first, lines, newline, thenLines, lineByLine, withOffset, alignedLine, aligned}
 use Rattle.definitions.specs.Runs.{Pixels, pixels, cut}
 use Rattle.definitions.specs.Font.{Font, u8g2, withRuns, drawable, measuredAnswer, drawnAnswer}
 
@@ -104,7 +105,7 @@ module _ (font : List ℕ) (skip : Bool) (c : ℕ) {n k : ℕ} where
   pub drawn-blames : drawnAnswer (u8g2 font) skip c ≡ stops n k → k ≡ c
   drawn-blames e = blames (drawnAnswer (u8g2 font) skip c) (late-drawn-answer font skip c) e
 
-module _ (answers : ℕ → Answer) (each : (c : ℕ) → LateAnswer c (answers c)) (lineHeight : ℕ) (origin : Point) where
+module _ (answers : ℕ → Answer) (each : (c : ℕ) → LateAnswer c (answers c)) (origin : Point) where
   late-place : {c : ℕ} (advance : Point) (a : Answer) → LateAnswer c a → (rest : Point → Layout) → ((next : Point) → Late (rest next .advance))
       → Late (place origin advance a rest .advance)
   late-place advance (shows g) h rest k = k (point _ _)
@@ -116,23 +117,35 @@ module _ (answers : ℕ → Answer) (each : (c : ℕ) → LateAnswer c (answers 
   late-letters [] advance = none
   late-letters (c ∷ l) advance = late-place advance (answers c) (each c) (λ next. letters answers origin next l) (late-letters l)
 
-  late-then : (line : Layout) → Late (line .advance) → (o : Outcome Point) (rest : Point → Layout) → ((next : Point) → Late (rest next .advance))
-      → Late (thenLines line o rest .advance)
-  late-then line h (success next) rest k = k next
-  late-then line h (refused n c) rest k = h
+late-then : (line : Layout) → Late (line .advance) → (o : Outcome Point) (rest : Point → Layout) → ((next : Point) → Late (rest next .advance))
+    → Late (thenLines line o rest .advance)
+late-then line h (success next) rest k = k next
+late-then line h (refused n c) rest k = h
 
-  late-lines : (ls : Lines) (advance : Point) → Late (lineByLine (letters answers origin) lineHeight advance ls .advance)
+-- A line that is measured first is stopped by a letter in measuring, or in drawing.
+late-offset : (a : HorizontalAlignment) (line : Layout) (o : Outcome Point) → Late o → (rest : ℤ → Layout) → ((x : ℤ) → Late (rest x .advance))
+    → Late (withOffset a line o rest .advance)
+late-offset a line (success end) h rest k = k _
+late-offset a line (refused n c) h rest k = h
+
+module _ (measured answers : ℕ → Answer) (first-each : (c : ℕ) → LateAnswer c (measured c)) (each : (c : ℕ) → LateAnswer c (answers c)) (lineHeight : ℕ) (origin : Point) where
+  late-line : (a : HorizontalAlignment) (advance : Point) (l : List ℕ) → Late (alignedLine a measured answers origin advance l .advance)
+  late-line Left advance l = late-letters answers each origin l advance
+  late-line Center advance l = late-offset Center _ _ (late-letters measured first-each _ l _) _ (λ x. late-letters answers each _ l advance)
+  late-line Right advance l = late-offset Right _ _ (late-letters measured first-each _ l _) _ (λ x. late-letters answers each _ l advance)
+
+  late-lines : (a : HorizontalAlignment) (ls : Lines) (advance : Point) → Late (lineByLine (alignedLine a measured answers origin) lineHeight advance ls .advance)
   unfolding lineByLine
-  late-lines (last l) advance = late-letters l advance
-  late-lines (first l ls) advance =
-      late-then (letters answers origin advance l) (late-letters l advance) (letters answers origin advance l .advance)
-      (λ end. lineByLine (letters answers origin) lineHeight (newline lineHeight end) ls) (λ end. late-lines ls (newline lineHeight end))
+  late-lines a (last l) advance = late-line a advance l
+  late-lines a (first l ls) advance =
+      late-then (alignedLine a measured answers origin advance l) (late-line a advance l) (alignedLine a measured answers origin advance l .advance)
+      (λ end. lineByLine (alignedLine a measured answers origin) lineHeight (newline lineHeight end) ls) (λ end. late-lines a ls (newline lineHeight end))
 
 -- A drawn text's letters come to no other number.
-pub late-drawn : (font : List ℕ) (skip : Bool) (lineHeight : ℕ) (origin advance : Point) (b : BoundingBox) (cs : List ℕ)
-    → Late (dimensionsOf b (layout (drawnAnswer (u8g2 font) skip) lineHeight origin advance cs .advance))
-late-drawn font skip lineHeight origin advance b cs =
+pub late-drawn : (font : List ℕ) (skip : Bool) (lineHeight : ℕ) (a : HorizontalAlignment) (origin : Point) (b : BoundingBox) (cs : List ℕ)
+    → Late (dimensionsOf b (aligned (measuredAnswer (u8g2 font) skip) (drawnAnswer (u8g2 font) skip) lineHeight a origin cs .advance))
+late-drawn font skip lineHeight a origin b cs =
     late-on _
-    (late-lines (drawnAnswer (u8g2 font) skip) (late-drawn-answer font skip) lineHeight origin (lines cs) advance)
+    (late-lines (measuredAnswer (u8g2 font) skip) (drawnAnswer (u8g2 font) skip) (late-measured-answer font skip) (late-drawn-answer font skip) lineHeight origin a (lines cs) (point _ _))
     (λ a. success record { advance = a; «bounding_box» = b })
     (λ a. none)

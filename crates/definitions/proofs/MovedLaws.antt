@@ -2,10 +2,11 @@
 use Rattle.integers.proofs.Prelude.{_≡_, refl, sym, ap, _∙_, false, _||_, List, [], _∷_, map, map-append, ℕ, _*_, ltb, ℤ, pos, _+ℤ_}
 use Rattle.integers.proofs.Laws.{zarith, plus}
 use Rattle.integers.proofs.Choices.{impossible}
-use Rattle.definitions.specs.Vocabulary.{BoundingBox, Point, RenderedDimensions}
+use Rattle.definitions.specs.Vocabulary.{BoundingBox, Point, RenderedDimensions, HorizontalAlignment}
+use Rattle.types.specs.declared.style.HorizontalAlignment.the-variants.{Left, Center, Right}
 use Rattle.definitions.specs.Refusals.{Outcome, success, refused, anyApplies}
 use Rattle.definitions.specs.Text.{Answer, shows, nothing, stops, joinAll, Layout, point, dimensionsOf, dimensions, place, letters}
-use Rattle.definitions.specs.Text.{Lines, last, first, lines, newline, thenLines, lineByLine, layout}
+use Rattle.definitions.specs.Text.{Lines, last, first, lines, newline, thenLines, lineByLine, horizontalOffset, withOffset, alignedLine, aligned}
 use Rattle.definitions.specs.TextSteps.{movedBox}
 use Rattle.definitions.specs.VerticalOffset.{verticalOffset}
 use Rattle.definitions.specs.Utf8.{newlines}
@@ -39,40 +40,59 @@ module _ (x y : ℤ) where
       ap (λ (b : BoundingBox). dimensionsOf b (l .advance)) (join-all-moved x y (l .glyphs))
       ∙ by-advance (joinAll (l .glyphs)) (l .advance)
 
-  module _ (answers : ℕ → Answer) (lineHeight : ℕ) (origin : Point) where
-    place-moved : (l : List ℕ) (advance : Point) (a : Answer)
+  module _ (answers : ℕ → Answer) where
+    place-moved : (origin : Point) (l : List ℕ) (advance : Point) (a : Answer)
         → ((next : Point) → letters answers (movedPoint origin) next l ≡ movedLayout (letters answers origin next l))
         → place (movedPoint origin) advance a (λ next. letters answers (movedPoint origin) next l)
         ≡ movedLayout (place origin advance a (λ next. letters answers origin next l))
-    place-moved l advance (shows g) rest =
+    place-moved origin l advance (shows g) rest =
         rw (rest (point (advance .x +ℤ g .advance) (advance .y)), sum-moved x (origin .x) (advance .x), sum-moved y (origin .y) (advance .y))
-    place-moved l advance nothing rest = rest advance
-    place-moved l advance (stops n c) rest = refl
+    place-moved origin l advance nothing rest = rest advance
+    place-moved origin l advance (stops n c) rest = refl
 
-    letters-moved : (l : List ℕ) (advance : Point) → letters answers (movedPoint origin) advance l ≡ movedLayout (letters answers origin advance l)
+    letters-moved : (origin : Point) (l : List ℕ) (advance : Point) → letters answers (movedPoint origin) advance l ≡ movedLayout (letters answers origin advance l)
     unfolding letters
-    letters-moved [] advance = refl
-    letters-moved (c ∷ l) advance = place-moved l advance (answers c) (letters-moved l)
+    letters-moved origin [] advance = refl
+    letters-moved origin (c ∷ l) advance = place-moved origin l advance (answers c) (letters-moved origin l)
 
-    then-moved : (line : Layout) (o : Outcome Point) (rest there : Point → Layout) → ((next : Point) → there next ≡ movedLayout (rest next))
-        → thenLines (movedLayout line) o there ≡ movedLayout (thenLines line o rest)
-    then-moved line (success next) rest there h = rw (h next, map-append (moved x y) (line .glyphs) (rest next .glyphs))
-    then-moved line (refused n c) rest there h = refl
+  then-moved : (line : Layout) (o : Outcome Point) (rest there : Point → Layout) → ((next : Point) → there next ≡ movedLayout (rest next))
+      → thenLines (movedLayout line) o there ≡ movedLayout (thenLines line o rest)
+  then-moved line (success next) rest there h = rw (h next, map-append (moved x y) (line .glyphs) (rest next .glyphs))
+  then-moved line (refused n c) rest there h = refl
 
-    lines-moved : (ls : Lines) (advance : Point)
-        → lineByLine (letters answers (movedPoint origin)) lineHeight advance ls ≡ movedLayout (lineByLine (letters answers origin) lineHeight advance ls)
+  module _ (measured answers : ℕ → Answer) (lineHeight : ℕ) (a : HorizontalAlignment) (origin : Point) where
+    -- a line's offset is counted from its start
+    offset-moved : (b : HorizontalAlignment) (l : List ℕ) (advance : Point) (line : Layout) (o : Outcome Point)
+        → withOffset b line o (λ z. letters answers (point ((x +ℤ origin .x) +ℤ z) (y +ℤ origin .y)) advance l)
+        ≡ movedLayout (withOffset b line o (λ z. letters answers (point (origin .x +ℤ z) (origin .y)) advance l))
+    offset-moved b l advance line (success end) =
+        let z = horizontalOffset b (joinAll (line .glyphs)) (end .x) in
+        rw (sum-moved x (origin .x) z) (letters-moved answers (point (origin .x +ℤ z) (origin .y)) l advance)
+    offset-moved b l advance line (refused n c) = refl
+
+    abbrev there : HorizontalAlignment → Point → List ℕ → Layout
+    there b advance l = alignedLine b measured answers (movedPoint origin) advance l
+
+    abbrev here : HorizontalAlignment → Point → List ℕ → Layout
+    here b advance l = alignedLine b measured answers origin advance l
+
+    line-moved : (b : HorizontalAlignment) (advance : Point) (l : List ℕ) → there b advance l ≡ movedLayout (here b advance l)
+    line-moved Left advance l = letters-moved answers origin l advance
+    line-moved Center advance l = let line = letters measured (point (pos 0) (pos 0)) (point (pos 0) (pos 0)) l in offset-moved Center l advance line (line .advance)
+    line-moved Right advance l = let line = letters measured (point (pos 0) (pos 0)) (point (pos 0) (pos 0)) l in offset-moved Right l advance line (line .advance)
+
+    lines-moved : (ls : Lines) (advance : Point) → lineByLine (there a) lineHeight advance ls ≡ movedLayout (lineByLine (here a) lineHeight advance ls)
     unfolding lineByLine
-    lines-moved (last l) advance = letters-moved l advance
+    lines-moved (last l) advance = line-moved a advance l
     lines-moved (first l ls) advance =
-        rw (letters-moved l advance)
-        (then-moved (letters answers origin advance l) (letters answers origin advance l .advance)
-        (λ end. lineByLine (letters answers origin) lineHeight (newline lineHeight end) ls)
-        (λ end. lineByLine (letters answers (movedPoint origin)) lineHeight (newline lineHeight end) ls)
+        rw (line-moved a advance l)
+        (then-moved (here a advance l) (here a advance l .advance)
+        (λ end. lineByLine (here a) lineHeight (newline lineHeight end) ls)
+        (λ end. lineByLine (there a) lineHeight (newline lineHeight end) ls)
         (λ end. lines-moved ls (newline lineHeight end)))
 
-    pub layout-moved : (cs : List ℕ) (advance : Point)
-        → layout answers lineHeight (movedPoint origin) advance cs ≡ movedLayout (layout answers lineHeight origin advance cs)
-    layout-moved cs advance = lines-moved (lines cs) advance
+    pub aligned-moved : (cs : List ℕ) → aligned measured answers lineHeight a (movedPoint origin) cs ≡ movedLayout (aligned measured answers lineHeight a origin cs)
+    aligned-moved cs = lines-moved (lines cs) (point (pos 0) (pos 0))
 
 -- ---- the calls
 
@@ -88,8 +108,8 @@ module _ (x y : ℤ) (font : Font) (r : Request) where
   origin-moved =
       rw (sum-moved y (r .position .y) (verticalOffset (r .anchor) (pos (newlines (codePointsOf (r .text)) * r .lineHeight)) (font .ascent) (font .descent)))
 
-  pub text-moved : (answers : ℕ → Answer) → laid font movedRequest answers ≡ movedLayout x y (laid font r answers)
-  text-moved answers = rw origin-moved (layout-moved x y answers (r .lineHeight) (origin font r) (codePointsOf (r .text)) (point (pos 0) (pos 0)))
+  pub text-moved : (measured answers : ℕ → Answer) → laid font movedRequest measured answers ≡ movedLayout x y (laid font r measured answers)
+  text-moved measured answers = rw origin-moved (aligned-moved x y measured answers (r .lineHeight) (r .align) (origin font r) (codePointsOf (r .text)))
 
   -- Measuring at a place moved is measuring, moved, where both places are within the limits.
   pub measure-moved : anyApplies (measureCauses font r) ≡ false → anyApplies (measureCauses font movedRequest) ≡ false
@@ -97,7 +117,7 @@ module _ (x y : ℤ) (font : Font) (r : Request) where
   unfolding measure
   measure-moved here there =
       none-applies _ (measureCauses font movedRequest) there
-      ∙ ap dimensions (text-moved (measuredAnswer font (r .skip)))
+      ∙ ap dimensions (text-moved (measuredAnswer font (r .skip)) (measuredAnswer font (r .skip)))
       ∙ dimensions-moved x y (measuredText font r)
       ∙ ap (movedDimensions x y) (sym (none-applies _ (measureCauses font r) here))
 

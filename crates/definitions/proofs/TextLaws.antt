@@ -48,18 +48,18 @@ unfolding letters lines lineByLine
 plain-example = refl
 
 -- Each line is moved by its own offset: in Center by 4 and 3, in Right by 5 and 2.
-pub center-example : aligned dashes 4 Center at twoLines
+pub center-example : aligned dashes dashes 4 Center at twoLines
     ≡ record { glyphs = dashAt (pos 6) (pos 20) ∷ dashAt (pos 9) (pos 20) ∷ dashAt (pos 7) (pos 24) ∷ []; advance = success (point (pos 3) (pos 4)) }
 unfolding letters lines lineByLine joinAll
 center-example = refl
 
-pub right-example : aligned dashes 4 Right at twoLines
+pub right-example : aligned dashes dashes 4 Right at twoLines
     ≡ record { glyphs = dashAt (pos 5) (pos 20) ∷ dashAt (pos 8) (pos 20) ∷ dashAt (pos 8) (pos 24) ∷ []; advance = success (point (pos 3) (pos 4)) }
 unfolding letters lines lineByLine joinAll
 right-example = refl
 
 -- Of a line that is stopped Left leaves the letters before, as in plain texts; Center and Right leave nothing.
-pub stopped-example : map (λ (a : HorizontalAlignment). aligned dashes 4 a at stopped) (Left ∷ Center ∷ Right ∷ [])
+pub stopped-example : map (λ (a : HorizontalAlignment). aligned dashes dashes 4 a at stopped) (Left ∷ Center ∷ Right ∷ [])
     ≡ record { glyphs = dashAt (pos 10) (pos 20) ∷ dashAt (pos 10) (pos 24) ∷ []; advance = refused 7 65 }
     ∷ record { glyphs = dashAt (pos 7) (pos 20) ∷ []; advance = refused 7 65 }
     ∷ record { glyphs = dashAt (pos 8) (pos 20) ∷ []; advance = refused 7 65 }
@@ -301,7 +301,7 @@ module _ (answers : ℕ → Answer) (a : HorizontalAlignment) (lineHeight : ℕ)
   stateOf line y box = record { line = line; y = y; box = box }
 
   abbrev alignedFrom : ℤ → Lines → Layout
-  alignedFrom y ls = lineByLine (alignedLine a answers origin) lineHeight (point (pos 0) y) ls
+  alignedFrom y ls = lineByLine (alignedLine a answers answers origin) lineHeight (point (pos 0) y) ls
 
   -- the lines of a text, with a line so far and the box of the lines that have ended
   abbrev after : ℤ → BoundingBox → ℤ → BoundingBox → Lines → Outcome RenderedDimensions
@@ -318,10 +318,10 @@ module _ (answers : ℕ → Answer) (a : HorizontalAlignment) (lineHeight : ℕ)
     aside b end = origin .x +ℤ horizontalOffset b (joinAll (line .glyphs)) (end .x)
 
     abbrev there : HorizontalAlignment → Layout
-    there b = alignedLine b answers origin (point (pos 0) y) l
+    there b = alignedLine b answers answers origin (point (pos 0) y) l
 
     line-moved : (b : HorizontalAlignment) (end : Point) → line .advance ≡ success end
-        → movedLine b answers origin (point (pos 0) y) l ≡ movedTo (aside b end) (origin .y) y line
+        → movedLine b answers answers origin (point (pos 0) y) l ≡ movedTo (aside b end) (origin .y) y line
     line-moved b end e =
         ap (λ (o : Outcome Point). withOffset b line o (λ x. letters answers (point (origin .x +ℤ x) (origin .y)) (point (pos 0) y) l)) e
         ∙ letters-from-start answers (point (aside b end) (origin .y)) y l (pos 0)
@@ -345,7 +345,7 @@ module _ (answers : ℕ → Answer) (a : HorizontalAlignment) (lineHeight : ℕ)
     -- .. and goes before what comes after it
     first-line : (box : BoundingBox) (ls : Lines) (o : Outcome Point) → line .advance ≡ o
         → after y box (pos 0) None (first l ls)
-        ≡ dimensionsFrom box (thenLines (there a) (there a .advance) (λ end. lineByLine (alignedLine a answers origin) lineHeight (newline lineHeight end) ls))
+        ≡ dimensionsFrom box (thenLines (there a) (there a .advance) (λ end. lineByLine (alignedLine a answers answers origin) lineHeight (newline lineHeight end) ls))
     first-line box ls (success end) e = rw (there-moved a end e, e, join-append, join-all-moved, join-assoc)
     first-line box ls (refused n c) e = rw (there-stopped a e, e) (rw (there-stopped a e))
 
@@ -401,7 +401,7 @@ module _ (answers : ℕ → Answer) (a : HorizontalAlignment) (lineHeight : ℕ)
   lines-from [] y box x b = rw join-none-right
   lines-from (c ∷ cs) y box x b = lines-char cs (lines-from cs) y box x b c (eqb c 10)
 
-  pub measure-lines : (cs : List ℕ) → measureLines answers a lineHeight origin cs ≡ dimensions (aligned answers lineHeight a origin cs)
+  pub measure-lines : (cs : List ℕ) → measureLines answers a lineHeight origin cs ≡ dimensions (aligned answers answers lineHeight a origin cs)
   unfolding joinAll
   measure-lines cs = lines-from cs (pos 0) None (pos 0) None ∙ after-start (pos 0) None (lines cs)
 
@@ -418,18 +418,15 @@ box-of-layout l = by (l .advance)
 
 -- ---- aligning Left is the plain layout
 
-module _ (answers : ℕ → Answer) (lineHeight : ℕ) (origin : Point) where
-  -- The same glyphs at the same places, and the same last advance or refusal.
-  pub left-is-plain : (cs : List ℕ) → aligned answers lineHeight Left origin cs ≡ layout answers lineHeight origin (point (pos 0) (pos 0)) cs
+module _ (measured answers : ℕ → Answer) (lineHeight : ℕ) (origin : Point) where
+  -- The same glyphs at the same places, and the same last advance or refusal, whatever its lines measure.
+  pub left-is-plain : (cs : List ℕ) → aligned measured answers lineHeight Left origin cs ≡ layout answers lineHeight origin (point (pos 0) (pos 0)) cs
   left-is-plain cs = refl
 
-  -- so it has the same dimensions, and measuring line by line is plain measuring
-  pub left-dimensions : (cs : List ℕ)
-      → dimensions (aligned answers lineHeight Left origin cs) ≡ dimensions (layout answers lineHeight origin (point (pos 0) (pos 0)) cs)
-  left-dimensions cs = ap dimensions (left-is-plain cs)
-
+module _ (answers : ℕ → Answer) (lineHeight : ℕ) (origin : Point) where
+  -- so measuring line by line is plain measuring
   pub left-measures : (cs : List ℕ) → measureLines answers Left lineHeight origin cs ≡ measureFrom answers lineHeight origin start cs
-  left-measures cs = measure-lines answers Left lineHeight origin cs ∙ left-dimensions cs ∙ sym (measure-from answers lineHeight origin cs start)
+  left-measures cs = measure-lines answers Left lineHeight origin cs ∙ sym (measure-from answers lineHeight origin cs start)
 
 -- ---- one turn of each loop
 
@@ -475,12 +472,31 @@ module _ (answers : ℕ → Answer) (a : HorizontalAlignment) (lineHeight : ℕ)
 
 -- ---- letters of another font
 
--- The letters of the first that show a glyph show the same one under the second, and none of the first shows nothing.
+-- The letters of the first that show a glyph, or nothing, show the same under the second.
 pub record Follows (answers answers′ : ℕ → Answer) : Type 0 where
   pub same : (c : ℕ) (g : GlyphReader) → answers c ≡ shows g → answers′ c ≡ shows g
-  pub some : (c : ℕ) → answers c ≡ nothing → ⊥
+  pub skips : (c : ℕ) → answers c ≡ nothing → answers′ c ≡ nothing
 
-module _ {answers answers′ : ℕ → Answer} (follows : Follows answers answers′) (lineHeight : ℕ) (origin : Point) where
+-- A letter that stops a line stops it wherever the line stands.
+module _ (answers : ℕ → Answer) (origin origin′ : Point) where
+  abbrev Succeeds : Outcome Point → Type 0
+  Succeeds o = (end : Point) × (o ≡ success end)
+
+  succeeds-place : (advance advance′ : Point) (l : List ℕ) (a : Answer)
+      → ((next next′ end : Point) → letters answers origin next l .advance ≡ success end → Succeeds (letters answers origin′ next′ l .advance))
+      → (end : Point) → place origin advance a (λ next. letters answers origin next l) .advance ≡ success end
+      → Succeeds (place origin′ advance′ a (λ next. letters answers origin′ next l) .advance)
+  succeeds-place advance advance′ l (shows g) rest end e = rest _ _ end e
+  succeeds-place advance advance′ l nothing rest end e = rest _ _ end e
+  succeeds-place advance advance′ l (stops n c) rest end e = impossible cc
+
+  pub succeeds-there : (l : List ℕ) (advance advance′ end : Point) → letters answers origin advance l .advance ≡ success end
+      → Succeeds (letters answers origin′ advance′ l .advance)
+  unfolding letters
+  succeeds-there [] advance advance′ end e = (advance′, refl)
+  succeeds-there (c ∷ l) advance advance′ end e = succeeds-place advance advance′ l (answers c) (succeeds-there l) end e
+
+module _ {answers answers′ : ℕ → Answer} (follows : Follows answers answers′) (origin : Point) where
   -- what is to be shown of a line, from each advance
   abbrev Alike : List ℕ → Type 0
   Alike l =
@@ -491,7 +507,7 @@ module _ {answers answers′ : ℕ → Answer} (follows : Follows answers answer
       → place origin advance a (λ next. letters answers origin next l) .advance ≡ success end
       → place origin advance (answers′ c) (λ next. letters answers′ origin next l) ≡ place origin advance a (λ next. letters answers origin next l)
   same-place l rest advance end c (shows g) e k = rw (follows .same c g e, rest (point (advance .x +ℤ g .advance) (advance .y)) end k)
-  same-place l rest advance end c nothing e k = absurd (follows .some c e)
+  same-place l rest advance end c nothing e k = rw (follows .skips c e, rest advance end k)
   same-place l rest advance end c (stops n d) e k = impossible cc
 
   same-letters : (l : List ℕ) → Alike l
@@ -499,28 +515,52 @@ module _ {answers answers′ : ℕ → Answer} (follows : Follows answers answer
   same-letters [] advance end k = refl
   same-letters (c ∷ l) advance end k = same-place l (same-letters l) advance end c (answers c) refl k
 
-  same-lines : (ls : Lines) (advance end : Point) → lineByLine (letters answers origin) lineHeight advance ls .advance ≡ success end
-      → lineByLine (letters answers′ origin) lineHeight advance ls ≡ lineByLine (letters answers origin) lineHeight advance ls
+-- Lines that come to the same wherever the first ones succeed make the same text where that succeeds.
+module _ (line line′ : Point → List ℕ → Layout) (same : (advance : Point) (l : List ℕ) (end : Point) → line advance l .advance ≡ success end → line′ advance l ≡ line advance l)
+    (lineHeight : ℕ) where
+  same-lines : (ls : Lines) (advance end : Point) → lineByLine line lineHeight advance ls .advance ≡ success end
+      → lineByLine line′ lineHeight advance ls ≡ lineByLine line lineHeight advance ls
   unfolding lineByLine
-  same-lines (last l) advance end k = same-letters l advance end k
-  same-lines (first l ls) advance end k = by (same-lines ls) (letters answers origin advance l .advance) refl k
+  same-lines (last l) advance end k = same advance l end k
+  same-lines (first l ls) advance end k = by (same-lines ls) (line advance l .advance) refl k
     where
-      below : (ℕ → Answer) → Point → Layout
-      below a next = lineByLine (letters a origin) lineHeight (newline lineHeight next) ls
+      below : (Point → List ℕ → Layout) → Point → Layout
+      below each next = lineByLine each lineHeight (newline lineHeight next) ls
 
-      by : ((next end : Point) → lineByLine (letters answers origin) lineHeight next ls .advance ≡ success end
-          → lineByLine (letters answers′ origin) lineHeight next ls ≡ lineByLine (letters answers origin) lineHeight next ls)
-          → (o : Outcome Point) → letters answers origin advance l .advance ≡ o
-          → thenLines (letters answers origin advance l) o (below answers) .advance ≡ success end
-          → thenLines (letters answers′ origin advance l) (letters answers′ origin advance l .advance) (below answers′)
-          ≡ thenLines (letters answers origin advance l) o (below answers)
-      by rest (success next) e k = rw (same-letters l advance next e, e, rest (newline lineHeight next) end k)
+      by : ((next end : Point) → lineByLine line lineHeight next ls .advance ≡ success end → lineByLine line′ lineHeight next ls ≡ lineByLine line lineHeight next ls)
+          → (o : Outcome Point) → line advance l .advance ≡ o
+          → thenLines (line advance l) o (below line) .advance ≡ success end
+          → thenLines (line′ advance l) (line′ advance l .advance) (below line′) ≡ thenLines (line advance l) o (below line)
+      by rest (success next) e k = rw (same advance l next e, e, rest (newline lineHeight next) end k)
       by rest (refused n c) e k = impossible cc
 
-  -- So a text that ends in success under the first is laid out alike under the second.
-  pub same-layout : (cs : List ℕ) (advance end : Point) → layout answers lineHeight origin advance cs .advance ≡ success end
-      → layout answers′ lineHeight origin advance cs ≡ layout answers lineHeight origin advance cs
-  same-layout cs advance end k = same-lines (lines cs) advance end k
+module _ {measured answers measured′ answers′ : ℕ → Answer} (m : Follows answers measured) (m′ : Follows answers measured′) (d : Follows answers answers′) (origin : Point) where
+  -- The line is measured alike, so it is moved alike.
+  same-moved : (a : HorizontalAlignment) (advance : Point) (l : List ℕ) (o o′ : Outcome Point)
+      → letters measured zero zero l .advance ≡ o → letters measured′ zero zero l .advance ≡ o′ → (end : Point)
+      → withOffset a (letters measured zero zero l) o (λ x. letters answers (point (origin .x +ℤ x) (origin .y)) advance l) .advance ≡ success end
+      → withOffset a (letters measured′ zero zero l) o′ (λ x. letters answers′ (point (origin .x +ℤ x) (origin .y)) advance l)
+      ≡ withOffset a (letters measured zero zero l) o (λ x. letters answers (point (origin .x +ℤ x) (origin .y)) advance l)
+  same-moved a advance l (refused n c) o′ e e′ end k = impossible cc
+  same-moved a advance l (success to) o′ e e′ end k =
+      let there = point (origin .x +ℤ horizontalOffset a (joinAll (letters measured zero zero l .glyphs)) (to .x)) (origin .y) in
+      let s = succeeds-there answers there zero l advance zero end k in
+      let here : letters measured zero zero l ≡ letters answers zero zero l = same-letters m zero l zero (s .0) (s .1) in
+      let also : letters measured′ zero zero l ≡ letters measured zero zero l = same-letters m′ zero l zero (s .0) (s .1) ∙ sym here in
+      let is : success to ≡ o′ = sym e ∙ ap (λ (k : Layout). k .advance) (sym also) ∙ e′ in
+      rw (sym is, also) (same-letters d there l advance end k)
+
+  same-line : (a : HorizontalAlignment) (advance : Point) (l : List ℕ) (end : Point) → alignedLine a measured answers origin advance l .advance ≡ success end
+      → alignedLine a measured′ answers′ origin advance l ≡ alignedLine a measured answers origin advance l
+  same-line Left advance l end k = same-letters d origin l advance end k
+  same-line Center advance l end k = same-moved Center advance l _ _ refl refl end k
+  same-line Right advance l end k = same-moved Right advance l _ _ refl refl end k
+
+  -- So a text that ends in success under the first is laid out alike under the second, however it is aligned.
+  pub same-aligned : (lineHeight : ℕ) (a : HorizontalAlignment) (cs : List ℕ) (end : Point) → aligned measured answers lineHeight a origin cs .advance ≡ success end
+      → aligned measured′ answers′ lineHeight a origin cs ≡ aligned measured answers lineHeight a origin cs
+  same-aligned lineHeight a cs end k =
+      same-lines (alignedLine a measured answers origin) (alignedLine a measured′ answers′ origin) (same-line a) lineHeight (lines cs) zero end k
 
 -- ---- each glyph of a text
 
@@ -533,34 +573,44 @@ pub each-append : {A : Type 0} (P : A → Type 0) (ps qs : List A) → Each P ps
 each-append P [] qs h k = k
 each-append P (p ∷ ps) qs h k = (h .0, each-append P ps qs (h .1) k)
 
-module _ (P : GlyphReader → Type 0) (answers : ℕ → Answer) (every : (c : ℕ) (g : GlyphReader) → answers c ≡ shows g → P g) (lineHeight : ℕ) (origin : Point) where
+module _ (P : GlyphReader → Type 0) (measured answers : ℕ → Answer) (every : (c : ℕ) (g : GlyphReader) → answers c ≡ shows g → P g) (lineHeight : ℕ) (origin : Point) where
   abbrev Holds : Layout → Type 0
   Holds l = Each (λ p. P (p .glyph)) (l .glyphs)
 
-  each-place : (advance : Point) (c : ℕ) (rest : Point → Layout) → ((next : Point) → Holds (rest next)) → (a : Answer) → answers c ≡ a
-      → Holds (place origin advance a rest)
-  each-place advance c rest h (shows g) e = (every c g e, h (point (advance .x +ℤ g .advance) (advance .y)))
-  each-place advance c rest h nothing e = h advance
-  each-place advance c rest h (stops n k) e = tt
+  each-place : (at advance : Point) (c : ℕ) (rest : Point → Layout) → ((next : Point) → Holds (rest next)) → (a : Answer) → answers c ≡ a
+      → Holds (place at advance a rest)
+  each-place at advance c rest h (shows g) e = (every c g e, h (point (advance .x +ℤ g .advance) (advance .y)))
+  each-place at advance c rest h nothing e = h advance
+  each-place at advance c rest h (stops n k) e = tt
 
-  each-letter : (l : List ℕ) (advance : Point) → Holds (letters answers origin advance l)
+  each-letter : (at : Point) (l : List ℕ) (advance : Point) → Holds (letters answers at advance l)
   unfolding letters
-  each-letter [] advance = tt
-  each-letter (c ∷ l) advance = each-place advance c (λ next. letters answers origin next l) (each-letter l) (answers c) refl
+  each-letter at [] advance = tt
+  each-letter at (c ∷ l) advance = each-place at advance c (λ next. letters answers at next l) (each-letter at l) (answers c) refl
+
+  each-moved : (a : HorizontalAlignment) (advance : Point) (l : List ℕ) (line : Layout) (o : Outcome Point)
+      → Holds (withOffset a line o (λ x. letters answers (point (origin .x +ℤ x) (origin .y)) advance l))
+  each-moved a advance l line (success end) = each-letter (point (origin .x +ℤ horizontalOffset a (joinAll (line .glyphs)) (end .x)) (origin .y)) l advance
+  each-moved a advance l line (refused n c) = tt
+
+  each-aligned : (a : HorizontalAlignment) (advance : Point) (l : List ℕ) → Holds (alignedLine a measured answers origin advance l)
+  each-aligned Left advance l = each-letter origin l advance
+  each-aligned Center advance l = let line = letters measured zero zero l in each-moved Center advance l line (line .advance)
+  each-aligned Right advance l = let line = letters measured zero zero l in each-moved Right advance l line (line .advance)
 
   each-then : (line : Layout) → Holds line → (rest : Point → Layout) → ((next : Point) → Holds (rest next)) → (o : Outcome Point)
       → Holds (thenLines line o rest)
   each-then line h rest k (success next) = each-append (λ p. P (p .glyph)) (line .glyphs) (rest next .glyphs) h (k next)
   each-then line h rest k (refused n c) = h
 
-  each-line : (ls : Lines) (advance : Point) → Holds (lineByLine (letters answers origin) lineHeight advance ls)
+  each-line : (a : HorizontalAlignment) (ls : Lines) (advance : Point) → Holds (lineByLine (alignedLine a measured answers origin) lineHeight advance ls)
   unfolding lineByLine
-  each-line (last l) advance = each-letter l advance
-  each-line (first l ls) advance =
-      each-then (letters answers origin advance l) (each-letter l advance)
-      (λ end. lineByLine (letters answers origin) lineHeight (newline lineHeight end) ls) (λ end. each-line ls (newline lineHeight end))
-      (letters answers origin advance l .advance)
+  each-line a (last l) advance = each-aligned a advance l
+  each-line a (first l ls) advance =
+      each-then (alignedLine a measured answers origin advance l) (each-aligned a advance l)
+      (λ end. lineByLine (alignedLine a measured answers origin) lineHeight (newline lineHeight end) ls) (λ end. each-line a ls (newline lineHeight end))
+      (alignedLine a measured answers origin advance l .advance)
 
   -- What is so of each glyph that a letter shows is so of each glyph of the text.
-  pub each-glyph : (cs : List ℕ) (advance : Point) → Each (λ p. P (p .glyph)) (layout answers lineHeight origin advance cs .glyphs)
-  each-glyph cs advance = each-line (lines cs) advance
+  pub each-glyph : (a : HorizontalAlignment) (cs : List ℕ) → Each (λ p. P (p .glyph)) (aligned measured answers lineHeight a origin cs .glyphs)
+  each-glyph a cs = each-line a (lines cs) zero

@@ -19,7 +19,7 @@ use Rattle.definitions.specs.Refusals.{Outcome, success, andThen, refusa
 use Rattle.definitions.specs.Header.{header, fontCauses}
 use Rattle.definitions.specs.VerticalOffset.{verticalOffset}
 use Rattle.definitions.specs.Utf8.{decode, codePoints, newlines}
-use Rattle.definitions.specs.Text.{Answer, Layout, point, layout, joinAll, dimensions, aligned}
+use Rattle.definitions.specs.Text.{Answer, Layout, point, joinAll, dimensions, aligned}
 use Rattle.definitions.specs.Font.{Font, measuredAnswer, drawnAnswer, pixelsOf}
 use Rattle.definitions.specs.Picture.{textPicture}
 use Rattle.definitions.specs.Framebuffer.{shown, framebufferCause}
@@ -57,7 +57,7 @@ rectangleOutcome (Rectangle·Err e) = refusal e
 
 -- ---- a text
 
--- What a call on a text is asked. Only aligned measuring looks at `align`; a colour is not part of it, since measuring looks at none.
+-- What a call on a text is asked. A plain call asks for Left; a colour is not part of it, since measuring looks at none.
 pub record Request : Type 0 where
   pub text : List ℕ
   pub position : Point
@@ -94,9 +94,10 @@ origin font r =
     (r .position .x)
     (r .position .y +ℤ verticalOffset (r .anchor) (pos (newlines (codePointsOf (r .text)) * r .lineHeight)) (font .ascent) (font .descent))
 
--- its letters from there on, by what each of them shows
-abbrev pub laid : Font → Request → (ℕ → Answer) → Layout
-laid font r answers = layout answers (r .lineHeight) (origin font r) (point (pos 0) (pos 0)) (codePointsOf (r .text))
+-- Its letters from there on, by what each of them shows, its lines aligned by what each of them measures. With Left this is the
+-- plain layout (`left-is-plain`).
+abbrev pub laid : Font → Request → (ℕ → Answer) → (ℕ → Answer) → Layout
+laid font r measured answers = aligned measured answers (r .lineHeight) (r .align) (origin font r) (codePointsOf (r .text))
 
 -- ---- measuring
 
@@ -105,7 +106,7 @@ abbrev pub measureCauses : Font → Request → List Cause
 measureCauses font r = font .causes ++ textCause (r .text) ∷ positionCause (r .position) (r .lineHeight) ∷ []
 
 abbrev pub measuredText : Font → Request → Layout
-measuredText font r = laid font r (measuredAnswer font (r .skip))
+measuredText font r = laid font r (measuredAnswer font (r .skip)) (measuredAnswer font (r .skip))
 
 unfoldable pub measure : Font → Request → Outcome RenderedDimensions
 measure font r = unlessRefused (measureCauses font r) (dimensions (measuredText font r))
@@ -119,12 +120,8 @@ dimensionsOutcome (Dimensions·Err e) = refusal e
 abbrev pub boxOfLayout : Layout → Outcome Point → Outcome BoundingBox
 boxOfLayout l advance = andThen advance (λ a. success (joinAll (l .glyphs)))
 
-abbrev pub alignedText : Font → Request → Layout
-alignedText font r =
-    aligned (measuredAnswer font (r .skip)) (r .lineHeight) (r .align) (origin font r) (codePointsOf (r .text))
-
 unfoldable pub measureAligned : Font → Request → Outcome BoundingBox
-measureAligned font r = unlessRefused (measureCauses font r) (let l = alignedText font r in boxOfLayout l (l .advance))
+measureAligned font r = unlessRefused (measureCauses font r) (let l = measuredText font r in boxOfLayout l (l .advance))
 
 abbrev pub boundingBoxOutcome : BoundingBoxResult → Outcome BoundingBox
 boundingBoxOutcome (BoundingBox·Ok b) = success b
@@ -142,7 +139,7 @@ drawCauses font r color p buffer =
     ∷ []
 
 abbrev pub drawnText : Font → Request → Layout
-drawnText font r = laid font r (drawnAnswer font (r .skip))
+drawnText font r = laid font r (measuredAnswer font (r .skip)) (drawnAnswer font (r .skip))
 
 -- What drawing answers ..
 unfoldable pub draw : Font → Request → FontColor → Framebuffer → List ℕ → Outcome RenderedDimensions
@@ -153,3 +150,8 @@ unfoldable pub drawBuffer : Font → Request → FontColor → Framebuffer → L
 drawBuffer font r color p buffer =
     pick (anyApplies (drawCauses font r color p buffer)) buffer
     (shown (p .width) (textPicture color (pixelsOf font) (drawnText font r .glyphs)) buffer)
+
+-- Aligned drawing answers with the box or none; the framebuffer then holds `drawBuffer` (request A2).
+unfoldable pub drawAligned : Font → Request → FontColor → Framebuffer → List ℕ → Outcome BoundingBox
+drawAligned font r color p buffer =
+    unlessRefused (drawCauses font r color p buffer) (let l = drawnText font r in boxOfLayout l (l .advance))

@@ -134,19 +134,20 @@ abbrev pub withOffset : HorizontalAlignment → Layout → Outcome Point → (�
 withOffset a line (success end) rest = rest (horizontalOffset a (joinAll (line .glyphs)) (end .x))
 withOffset a line (refused n c) rest = record { glyphs = []; advance = refused n c }
 
--- A line is measured from its own start; then its letters stand at the origin moved by the offset. Of a line that is stopped
--- nothing is left.
-abbrev pub movedLine : HorizontalAlignment → (ℕ → Answer) → Point → Point → List ℕ → Layout
-movedLine a answers origin advance l =
-    let line = letters answers (point (pos 0) (pos 0)) (point (pos 0) (pos 0)) l in
+-- A line is measured from its own start, by what its letters answer in measuring; then its letters stand at the origin moved by
+-- the offset, by what they answer there. Of a line that is stopped in measuring nothing is left (request A2).
+abbrev pub movedLine : HorizontalAlignment → (ℕ → Answer) → (ℕ → Answer) → Point → Point → List ℕ → Layout
+movedLine a measured answers origin advance l =
+    let line = letters measured (point (pos 0) (pos 0)) (point (pos 0) (pos 0)) l in
     withOffset a line (line .advance) (λ x. letters answers (point (origin .x +ℤ x) (origin .y)) advance l)
 
--- Left moves no line: it is the plain text.
-abbrev pub alignedLine : HorizontalAlignment → (ℕ → Answer) → Point → Point → List ℕ → Layout
-alignedLine Left answers origin advance l = letters answers origin advance l
-alignedLine Center answers origin advance l = movedLine Center answers origin advance l
-alignedLine Right answers origin advance l = movedLine Right answers origin advance l
+-- Left moves no line, so none is measured: it is the plain text.
+abbrev pub alignedLine : HorizontalAlignment → (ℕ → Answer) → (ℕ → Answer) → Point → Point → List ℕ → Layout
+alignedLine Left measured answers origin advance l = letters answers origin advance l
+alignedLine Center measured answers origin advance l = movedLine Center measured answers origin advance l
+alignedLine Right measured answers origin advance l = movedLine Right measured answers origin advance l
 
 -- An aligned text from the origin on, its advance being (0, 0) at first.
-abbrev pub aligned : (ℕ → Answer) → ℕ → HorizontalAlignment → Point → List ℕ → Layout
-aligned answers lineHeight a origin cs = lineByLine (alignedLine a answers origin) lineHeight (point (pos 0) (pos 0)) (lines cs)
+abbrev pub aligned : (ℕ → Answer) → (ℕ → Answer) → ℕ → HorizontalAlignment → Point → List ℕ → Layout
+aligned measured answers lineHeight a origin cs =
+    lineByLine (alignedLine a measured answers origin) lineHeight (point (pos 0) (pos 0)) (lines cs)
