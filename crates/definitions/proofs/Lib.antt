@@ -21,3 +21,4 @@ pub mod SumsLaws
 pub mod Agreement
 pub mod AgreementCase
 pub mod MovedLaws
+pub mod AlignedLaws
