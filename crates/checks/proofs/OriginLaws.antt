@@ -96,8 +96,8 @@ module _ (ascent descent : ℤ) (r : Request) where
           short = a .short;
           utf8 = a .utf8;
           line = b .line;
-          left = b .left;
-          right = b .right;
+          left = omega (zarith, b .left);
+          right = omega (zarith, b .right);
           top = omega (zarith, plus (r .position .y) offset);
           bottom = omega (zarith, plus (r .position .y) offset);
         }

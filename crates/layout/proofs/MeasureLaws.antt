@@ -14,9 +14,9 @@ use Rattle.definitions.proofs.TextLaws.{measure-next, measure-stops}
 use Rattle.definitions.proofs.Utf8Laws.{position, utf8-characters, character-count}
 use Rattle.checks.specs.Origins.{Checked}
 use Rattle.answers.proofs.AnswersLaws.{shown-glyph}
-use Rattle.layout.specs.Ranges.{HasRoom}
+use Rattle.layout.specs.Ranges.{Within, HasRoom}
 use Rattle.layout.proofs.LoopLaws.{Reached, reached-start, reached-end, reached-next, reached-stops}
-use Rattle.layout.proofs.RangeLaws.{Small, in-range-small, Within, advanced-start, has-room, within-next}
+use Rattle.layout.proofs.RangeLaws.{Small, in-range-small, advanced-start, has-room, within-next}
 
 -- the glyphs that the letters of an opened font show are small
 pub measured-small : {font : List ℕ} {head : FontReader} → Opened font head → (skip : Bool) (c : ℕ) (g : GlyphReader) → measuredAnswer (u8g2 font) skip c ≡ shows g → Small g
@@ -26,33 +26,36 @@ measured-small {font} {head} o skip c g e = in-range-small (glyph-range font hea
 pub checked-characters : {text : List ℕ} {origin : Point} {lineHeight : ℕ} → Checked text origin lineHeight → decode text ≡ characters (codePoints (decode text))
 checked-characters {text} k = utf8-characters (decode text) (k .utf8)
 
--- ---- the loop
+-- ---- the loop, from the dimensions `before` on
 
-pub record Measured (answers : ℕ → Answer) (lineHeight : ℕ) (origin : Point) (text : List ℕ) (d : RenderedDimensions) (at : ℕ) : Type 0 where
-  pub reached : Reached (measureFrom answers lineHeight origin) (Within lineHeight) start text d at
+pub record Measured (answers : ℕ → Answer) (lineHeight : ℕ) (origin : Point) (text : List ℕ) (before d : RenderedDimensions) (at : ℕ) : Type 0 where
+  pub reached : Reached (measureFrom answers lineHeight origin) (Within lineHeight) before text d at
 
-module _ {answers : ℕ → Answer} {lineHeight : ℕ} {origin : Point} {text : List ℕ} (k : Checked text origin lineHeight) where
-  unfoldable pub measured-start : Measured answers lineHeight origin text start 0
-  measured-start =
-      let e = checked-characters k in
-      record { reached = reached-start e record { advance = advanced-start _ (omega (arith, character-count text e, k .short)) (k .line); box = tt } }
+-- a text begins with nothing before it
+pub within-start : {text : List ℕ} {origin : Point} {lineHeight : ℕ} → Checked text origin lineHeight → Within lineHeight 0 (codePoints (decode text)) start
+within-start {text} k =
+    record { advance = advanced-start _ (omega (arith, character-count text (checked-characters k), k .short)) (k .line); box = tt }
 
-  module _ {d : RenderedDimensions} {at : ℕ} (r : Measured answers lineHeight origin text d at) where
+module _ {answers : ℕ → Answer} {lineHeight : ℕ} {origin : Point} {text : List ℕ} {before : RenderedDimensions} (k : Checked text origin lineHeight) where
+  unfoldable pub measured-start : Within lineHeight 0 (codePoints (decode text)) before → Measured answers lineHeight origin text before before 0
+  measured-start w = record { reached = reached-start (checked-characters k) w }
+
+  module _ {d : RenderedDimensions} {at : ℕ} (r : Measured answers lineHeight origin text before d at) where
     pub measured-room : HasRoom origin d
     measured-room = has-room k (omega (arith, r .reached .inside, k .short)) (r .reached .within)
 
-    pub measured-end : length text ≤ at → measureFrom answers lineHeight origin start (codePoints (decode text)) ≡ success d
+    pub measured-end : length text ≤ at → measureFrom answers lineHeight origin before (codePoints (decode text)) ≡ success d
     unfolding measureFrom
     measured-end h = reached-end (r .reached) h
 
     module _ {c n : ℕ} (first : firstCharacter (drop at text) ≡ character c n) where
       unfoldable pub measured-next : (small : (c : ℕ) (g : GlyphReader) → answers c ≡ shows g → Small g) {d′ : RenderedDimensions}
-          → step answers lineHeight origin d c ≡ success d′ → Measured answers lineHeight origin text d′ (at + n)
+          → step answers lineHeight origin d c ≡ success d′ → Measured answers lineHeight origin text before d′ (at + n)
       measured-next small e =
           record {
             reached = reached-next (r .reached) first (λ cs. measure-next answers lineHeight origin d c cs e) (λ cs w.
                 within-next small measured-room w (position text at first .some) e);
           }
 
-      pub measured-stops : {m e : ℕ} → step answers lineHeight origin d c ≡ refused m e → measureFrom answers lineHeight origin start (codePoints (decode text)) ≡ refused m e
+      pub measured-stops : {m e : ℕ} → step answers lineHeight origin d c ≡ refused m e → measureFrom answers lineHeight origin before (codePoints (decode text)) ≡ refused m e
       measured-stops e = reached-stops (r .reached) first (λ cs. measure-stops answers lineHeight origin d c cs e)

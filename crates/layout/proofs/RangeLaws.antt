@@ -15,7 +15,7 @@ use Rattle.definitions.proofs.JoinLaws.{reach-join}
 use Rattle.definitions.proofs.GlyphLaws.{InRange}
 use Rattle.checks.specs.Origins.{Checked}
 use Rattle.checks.proofs.OriginLaws.{newlines-length, newlines-most}
-use Rattle.layout.specs.Ranges.{Near, HasRoom}
+use Rattle.layout.specs.Ranges.{Near, Advanced, Within, HasRoom}
 
 pub near-fits : {z : ℤ} → Near z → SFits w32 z
 near-fits h = omega zarith
@@ -75,12 +75,6 @@ box-in-reach {x} {y} g h k s = by (eqb (g .«glyph_width») 0 || eqb (g .«glyph
 
 -- ---- the advance after `at` bytes, `rest` being the code points to come
 
-pub record Advanced (lineHeight at : ℕ) (rest : List ℕ) (x y : ℤ) : Type 0 where
-  pub left : negsuc (128 * at) ≤ℤ x
-  pub right : x ≤ℤ pos (128 * at)
-  pub top : pos 0 ≤ℤ y
-  pub bottom : (y +ℤ pos (newlines rest * lineHeight)) ≤ℤ pos 268431360
-
 pub advanced-start : {lineHeight : ℕ} (cs : List ℕ) → length cs ≤ 4096 → lineHeight ≤ 65535 → Advanced lineHeight 0 cs (pos 0) (pos 0)
 advanced-start {lineHeight} cs p q =
     let m = newlines-most {n = newlines cs} {h = lineHeight} (omega (arith, newlines-length cs)) q in
@@ -136,10 +130,6 @@ module _ {lineHeight at c : ℕ} {cs : List ℕ} {x y : ℤ} {n : ℕ} (some : 1
       record { left = omega zarith; right = omega zarith; top = a .top; bottom = b }
 
 -- ---- the dimensions so far
-
-pub record Within (lineHeight at : ℕ) (rest : List ℕ) (d : RenderedDimensions) : Type 0 where
-  pub advance : Advanced lineHeight at rest (d .advance .x) (d .advance .y)
-  pub box : InReach (d .«bounding_box»)
 
 pub has-room : {lineHeight at : ℕ} {rest text : List ℕ} {d : RenderedDimensions} {origin : Point} → Checked text origin lineHeight → at ≤ 4096 → Within lineHeight at rest d → HasRoom origin d
 has-room k h w =

@@ -5,8 +5,10 @@ ghost use Rattle.integers.specs.Integers.{pick};
 ghost use Rattle.definitions.specs.Refusals.{errorNumber};
 ghost use Rattle.definitions.specs.Lookup.{noSteps};
 ghost use Rattle.definitions.specs.Sums.{plusSteps, Fits32};
-ghost use Rattle.lookup_sums.specs.Reports.{refusedReport};
+ghost use Rattle.lookup_sums.specs.Reports.{refusedReport, boxReport};
 use types::error::Error;
+use types::results::BoundingBoxReport;
+use types::results::BoundingBoxResult;
 use types::results::DimensionsReport;
 use types::results::DimensionsResult;
 use types::steps::LookupSteps;
@@ -48,5 +50,26 @@ pub fn refused(error: Error) -> DimensionsReport
     DimensionsReport {
         result: DimensionsResult::Err(error),
         steps: no_steps(),
+    }
+}
+
+// The report of an aligned call, which answers with the box alone.
+pub fn box_alone(report: DimensionsReport) -> BoundingBoxReport
+    ensures { λ r. ⌜ r ≡ boxReport report ⌝ }
+{
+    let steps = report.steps;
+    let result = report.result;
+    match result {
+        DimensionsResult::Err(error) => BoundingBoxReport {
+            result: BoundingBoxResult::Err(error),
+            steps,
+        },
+        DimensionsResult::Ok(dimensions) => {
+            let bounding_box = dimensions.bounding_box;
+            BoundingBoxReport {
+                result: BoundingBoxResult::Ok(bounding_box),
+                steps,
+            }
+        }
     }
 }

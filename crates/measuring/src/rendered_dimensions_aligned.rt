@@ -4,9 +4,8 @@ ghost use Rattle.definitions.specs.Font.{u8g2};
 ghost use Rattle.definitions.specs.Calls.{request, measureAligned, boundingBoxOutcome};
 ghost use Rattle.definitions.specs.Sums.{sums};
 use crate::aligned_dimensions::aligned_dimensions;
+use lookup_sums::box_alone;
 use types::results::BoundingBoxReport;
-use types::results::BoundingBoxResult;
-use types::results::DimensionsResult;
 use types::style::HorizontalAlignment;
 use types::style::Placement;
 use types::style::VerticalPosition;
@@ -25,20 +24,5 @@ pub fn get_rendered_dimensions_aligned(
     ensures summed { λ r. ⌜ r .steps ≡ sums (u8g2 (now (font .entry))) (now (text .entry)) (measureAligned
         (u8g2 (now (font .entry))) (request (now (text .entry)) placement «vertical_pos» «horizontal_align»)) ⌝ }
 {
-    let measured = aligned_dimensions(font, text, placement, vertical_pos, horizontal_align);
-    let steps = measured.steps;
-    let result = measured.result;
-    match result {
-        DimensionsResult::Err(error) => BoundingBoxReport {
-            result: BoundingBoxResult::Err(error),
-            steps,
-        },
-        DimensionsResult::Ok(dimensions) => {
-            let bounding_box = dimensions.bounding_box;
-            BoundingBoxReport {
-                result: BoundingBoxResult::Ok(bounding_box),
-                steps,
-            }
-        }
-    }
+    box_alone(aligned_dimensions(font, text, placement, vertical_pos, horizontal_align))
 }

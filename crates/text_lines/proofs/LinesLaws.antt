@@ -14,8 +14,8 @@ use Rattle.definitions.specs.TextSteps.{nextBox, glyphStep, movedBox, LineState
 use Rattle.definitions.proofs.JoinLaws.{end, join-end, reach-join}
 use Rattle.definitions.proofs.TextLaws.{either-box}
 use Rattle.checks.specs.Origins.{Checked}
-use Rattle.layout.specs.Ranges.{Near, HasRoom, LineSpan, LineInReach, LineHasRoom}
-use Rattle.layout.proofs.RangeLaws.{Small, Advanced, advanced-y, near-row, advanced-newline, advanced-answer, advanced-nothing}
+use Rattle.layout.specs.Ranges.{Near, Advanced, HasRoom, LineSpan, LineInReach, LineHasRoom}
+use Rattle.layout.proofs.RangeLaws.{Small, advanced-y, near-row, advanced-newline, advanced-answer, advanced-nothing}
 
 -- ---- boxes
 

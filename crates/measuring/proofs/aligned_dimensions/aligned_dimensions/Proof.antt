@@ -2,12 +2,11 @@
 use Rattle.integers.proofs.Prelude.{_≡_, sym, ap, _∙_, w8, SFits, toZ-ofZ, needs}
 use Rattle.definitions.specs.Vocabulary.{FontReader}
 use Rattle.definitions.specs.Refusals.{success, errorNumber, codePoint}
-use Rattle.definitions.specs.Calls.{openFont, Request, request, fontReaderOutcome}
+use Rattle.definitions.specs.Calls.{openFont, Request, request, measure, fontReaderOutcome}
 use Rattle.definitions.proofs.OpenedLaws.{opened, open-refused}
 use Rattle.definitions.proofs.SumsLaws.{open-early}
 use Rattle.checks.specs.Origins.{originOutcome}
 use Rattle.checks.proofs.OriginLaws.{tested, request-checked, tested-early}
-use Rattle.measuring.specs.Aligned.{alignedDimensions}
 use Rattle.measuring.proofs.AlignedLaws.{aligned-is, aligned-refused, reported, refused-there}
 use Rattle.measuring.proofs.aligned_dimensions.aligned_dimensions.Statement.{statement}
 use Rattle.measuring.proofs.aligned_dimensions.aligned_dimensions.Tie as tie
@@ -48,7 +47,7 @@ measure-lines-requires c κs =
     record { opened = opened _ (head k) (opens k); checked = request-checked _ (opens k) (asked k) (ascent-fits k) (descent-fits k) (passes c) }
 
 returns : tie.Need-returns
-unfolding alignedDimensions
+unfolding measure
 returns c =
     let e = c .before .before .error .given .0 .0 in
     let off = sym (c .before .before .before .before .new-from-raw-data .ensures) ∙ ap fontReaderOutcome (c .before .before .error .given .1) in
