@@ -19,7 +19,7 @@ use Rattle.definitions.proofs.ComesLaws.{comes-stopped}
 use Rattle.definitions.proofs.OpenedLaws.{passes-font, opened}
 use Rattle.definitions.proofs.Utf8Laws.{utf8-characters, character-count}
 use Rattle.definitions.proofs.VerticalOffsetLaws.{offset-limits}
-use Rattle.checks.specs.Origins.{originBy, checkedOrigin, Checked}
+use Rattle.checks.specs.Origins.{originBy, checkedOrigin, Checked, CheckedLine}
 
 -- ---- newlines
 
@@ -96,8 +96,8 @@ module _ (ascent descent : ℤ) (r : Request) where
           short = a .short;
           utf8 = a .utf8;
           line = b .line;
-          left = omega (zarith, b .left);
-          right = omega (zarith, b .right);
+          left = b .left;
+          right = b .right;
           top = omega (zarith, plus (r .position .y) offset);
           bottom = omega (zarith, plus (r .position .y) offset);
         }
@@ -120,6 +120,18 @@ module _ (ascent descent : ℤ) (r : Request) where
 
   pub passed-checked : {o : Point} → SFits w8 ascent → SFits w8 descent → Passed o → Checked (r .text) o (r .lineHeight)
   passed-checked f g p = subst (λ (o : Point). Checked (r .text) o (r .lineHeight)) (p .is) (origin-checked f g (p .text-in) (p .place-in))
+
+-- where nothing is moved
+pub as-line : {text : List ℕ} {o : Point} {lineHeight : ℕ} → Checked text o lineHeight → CheckedLine text o lineHeight
+as-line k = record {
+  short = k .short;
+  utf8 = k .utf8;
+  line = k .line;
+  left = omega (zarith, k .left);
+  right = omega (zarith, k .right);
+  top = k .top;
+  bottom = k .bottom;
+}
 
 -- ---- a call that measures, on a font that opens
 

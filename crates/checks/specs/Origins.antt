@@ -35,8 +35,18 @@ originOutcome (Ok p) = success p
 originOutcome (Err e) = refusal e
 
 -- What the checks of a call leave of a text and its place: the text is UTF-8 of at most 4,096 bytes, the line height at most
--- 65,535, and the place within its limits, moved by the anchor. Sideways there is room for a line's alignment too.
+-- 65,535, and the place within its limits, moved by the anchor.
 pub record Checked (text : List ℕ) (origin : Point) (lineHeight : ℕ) : Type 0 where
+  pub short : length text ≤ 4096
+  pub utf8 : isUtf8 (decode text) ≡ true
+  pub line : lineHeight ≤ 65535
+  pub left : negsuc 1048575 ≤ℤ origin .x
+  pub right : origin .x ≤ℤ pos 1048576
+  pub top : negsuc 269480063 ≤ℤ origin .y
+  pub bottom : origin .y ≤ℤ pos 1048704
+
+-- A line of such a text, or all of it, whose place an alignment may have moved sideways.
+pub record CheckedLine (text : List ℕ) (origin : Point) (lineHeight : ℕ) : Type 0 where
   pub short : length text ≤ 4096
   pub utf8 : isUtf8 (decode text) ≡ true
   pub line : lineHeight ≤ 65535

@@ -12,7 +12,7 @@ use Rattle.definitions.specs.Font.{u8g2, measuredAnswer}
 use Rattle.definitions.proofs.GlyphLaws.{glyph-range}
 use Rattle.definitions.proofs.TextLaws.{measure-next, measure-stops}
 use Rattle.definitions.proofs.Utf8Laws.{position, utf8-characters, character-count}
-use Rattle.checks.specs.Origins.{Checked}
+use Rattle.checks.specs.Origins.{CheckedLine}
 use Rattle.answers.proofs.AnswersLaws.{shown-glyph}
 use Rattle.layout.specs.Ranges.{Within, HasRoom}
 use Rattle.layout.proofs.LoopLaws.{Reached, reached-start, reached-end, reached-next, reached-stops}
@@ -23,7 +23,7 @@ pub measured-small : {font : List ℕ} {head : FontReader} → Opened font head 
 measured-small {font} {head} o skip c g e = in-range-small (glyph-range font head c g o (shown-glyph skip (glyph font c) g e))
 
 -- the code points of a checked text
-pub checked-characters : {text : List ℕ} {origin : Point} {lineHeight : ℕ} → Checked text origin lineHeight → decode text ≡ characters (codePoints (decode text))
+pub checked-characters : {text : List ℕ} {origin : Point} {lineHeight : ℕ} → CheckedLine text origin lineHeight → decode text ≡ characters (codePoints (decode text))
 checked-characters {text} k = utf8-characters (decode text) (k .utf8)
 
 -- ---- the loop, from the dimensions `before` on
@@ -32,11 +32,11 @@ pub record Measured (answers : ℕ → Answer) (lineHeight : ℕ) (origin : Poin
   pub reached : Reached (measureFrom answers lineHeight origin) (Within lineHeight) before text d at
 
 -- a text begins with nothing before it
-pub within-start : {text : List ℕ} {origin : Point} {lineHeight : ℕ} → Checked text origin lineHeight → Within lineHeight 0 (codePoints (decode text)) start
+pub within-start : {text : List ℕ} {origin : Point} {lineHeight : ℕ} → CheckedLine text origin lineHeight → Within lineHeight 0 (codePoints (decode text)) start
 within-start {text} k =
     record { advance = advanced-start _ (omega (arith, character-count text (checked-characters k), k .short)) (k .line); box = tt }
 
-module _ {answers : ℕ → Answer} {lineHeight : ℕ} {origin : Point} {text : List ℕ} {before : RenderedDimensions} (k : Checked text origin lineHeight) where
+module _ {answers : ℕ → Answer} {lineHeight : ℕ} {origin : Point} {text : List ℕ} {before : RenderedDimensions} (k : CheckedLine text origin lineHeight) where
   unfoldable pub measured-start : Within lineHeight 0 (codePoints (decode text)) before → Measured answers lineHeight origin text before before 0
   measured-start w = record { reached = reached-start (checked-characters k) w }
 

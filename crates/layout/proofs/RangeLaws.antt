@@ -13,7 +13,7 @@ use Rattle.definitions.specs.TextSteps.{newlineStep, nextBox, glyphStep, answer
 use Rattle.definitions.proofs.BitsLaws.{SignedByte}
 use Rattle.definitions.proofs.JoinLaws.{reach-join}
 use Rattle.definitions.proofs.GlyphLaws.{InRange}
-use Rattle.checks.specs.Origins.{Checked}
+use Rattle.checks.specs.Origins.{CheckedLine}
 use Rattle.checks.proofs.OriginLaws.{newlines-length, newlines-most}
 use Rattle.layout.specs.Ranges.{Near, Advanced, Within, HasRoom}
 
@@ -93,7 +93,7 @@ module _ {lineHeight at : ℕ} {rest : List ℕ} {x y : ℤ} (h : at ≤ 4096) (
   pub advanced-y : (pos 0 ≤ℤ y) × (y ≤ℤ pos 268431360)
   advanced-y = let b = a .bottom in (a .top, omega (zarith, plus y (pos (newlines rest * lineHeight))))
 
-  module _ {text : List ℕ} {origin : Point} (k : Checked text origin lineHeight) where
+  module _ {text : List ℕ} {origin : Point} (k : CheckedLine text origin lineHeight) where
     pub near-column : Near (origin .x +ℤ x)
     near-column =
         let n = advanced-x in
@@ -131,7 +131,7 @@ module _ {lineHeight at c : ℕ} {cs : List ℕ} {x y : ℤ} {n : ℕ} (some : 1
 
 -- ---- the dimensions so far
 
-pub has-room : {lineHeight at : ℕ} {rest text : List ℕ} {d : RenderedDimensions} {origin : Point} → Checked text origin lineHeight → at ≤ 4096 → Within lineHeight at rest d → HasRoom origin d
+pub has-room : {lineHeight at : ℕ} {rest text : List ℕ} {d : RenderedDimensions} {origin : Point} → CheckedLine text origin lineHeight → at ≤ 4096 → Within lineHeight at rest d → HasRoom origin d
 has-room k h w =
     let y = advanced-y h (w .advance) in
     record {

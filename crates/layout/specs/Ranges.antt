@@ -61,6 +61,6 @@ pub record LineHasRoom (origin : Point) (s : LineState) : Type 0 where
   pub line : LineInReach (s .line .«bounding_box»)
   pub y : Near (s .y)
   pub box : InReach (s .box)
-  pub origin-left : negsuc 4194303 ≤ℤ origin .x
-  pub origin-right : origin .x ≤ℤ pos 4194304
+  pub origin-left : negsuc 1048575 ≤ℤ origin .x
+  pub origin-right : origin .x ≤ℤ pos 1048576
   pub row : Near (origin .y +ℤ s .y)

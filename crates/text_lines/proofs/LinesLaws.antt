@@ -14,6 +14,7 @@ use Rattle.definitions.specs.TextSteps.{nextBox, glyphStep, movedBox, LineState
 use Rattle.definitions.proofs.JoinLaws.{end, join-end, reach-join}
 use Rattle.definitions.proofs.TextLaws.{either-box}
 use Rattle.checks.specs.Origins.{Checked}
+use Rattle.checks.proofs.OriginLaws.{as-line}
 use Rattle.layout.specs.Ranges.{Near, Advanced, HasRoom, LineSpan, LineInReach, LineHasRoom}
 use Rattle.layout.proofs.RangeLaws.{Small, advanced-y, near-row, advanced-newline, advanced-answer, advanced-nothing}
 
@@ -133,7 +134,7 @@ module _ {lineHeight at : ℕ} {rest : List ℕ} {s : LineState} (h : at ≤ 409
         box = w .box;
         origin-left = k .left;
         origin-right = k .right;
-        row = near-row h (w .advance) k;
+        row = near-row h (w .advance) (as-line k);
       }
 
   -- the line's box, with a glyph that comes next

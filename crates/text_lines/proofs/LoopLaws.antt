@@ -14,6 +14,7 @@ use Rattle.definitions.proofs.LetterRefusals.{measured-blames}
 use Rattle.definitions.proofs.TextLaws.{lines-next, lines-stop}
 use Rattle.definitions.proofs.Utf8Laws.{position, character-count}
 use Rattle.checks.specs.Origins.{Checked}
+use Rattle.checks.proofs.OriginLaws.{as-line}
 use Rattle.layout.specs.Ranges.{LineHasRoom}
 use Rattle.layout.proofs.RangeLaws.{Small, advanced-start}
 use Rattle.text_lines.proofs.LinesLaws.{InLines, line-has-room, in-lines-next}
@@ -29,7 +30,7 @@ pub record Aligned (answers : ℕ → Answer) (a : HorizontalAlignment) (lineHei
 module _ {answers : ℕ → Answer} {a : HorizontalAlignment} {lineHeight : ℕ} {origin : Point} {text : List ℕ} (k : Checked text origin lineHeight) where
   pub aligned-start : Aligned answers a lineHeight origin text startLines 0
   aligned-start =
-      let e = checked-characters k in
+      let e = checked-characters (as-line k) in
       record {
         reached = reached-start e
             record { advance = advanced-start _ (omega (arith, character-count text e, k .short)) (k .line); level = refl; line = tt; box = tt };

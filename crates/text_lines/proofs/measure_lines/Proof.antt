@@ -9,6 +9,7 @@ use Rattle.definitions.proofs.Utf8Laws.{Position, position, none-malformed}
 use Rattle.definitions.specs.Vocabulary.{LookupSteps}
 use Rattle.definitions.specs.Font.{u8g2}
 use Rattle.definitions.specs.Sums.{plusSteps, brings, Fits32}
+use Rattle.checks.proofs.OriginLaws.{as-line}
 use Rattle.text_lines.specs.Lines.{asState, stateOutcome, stepsBy, CharAdded}
 use Rattle.layout.proofs.MeasureLaws.{checked-characters}
 use Rattle.layout.proofs.SumLoopLaws.{summed-start, summed-end, summed-fits}
@@ -42,7 +43,7 @@ module _ (c : tie.After-known-told Inv-loop μ-loop) where
 loop-holds : tie.Need-loop-holds Inv-loop μ-loop
 loop-holds c =
     let k = c .before .before .before .before .pre .checked in
-    simp (c .before .empty-line .ensures, c .no-steps .ensures) record { aligned = aligned-start k; summed = summed-start (checked-characters k) }
+    simp (c .before .empty-line .ensures, c .no-steps .ensures) record { aligned = aligned-start k; summed = summed-start (checked-characters (as-line k)) }
 
 -- the text was checked, so this is never reached
 returns : tie.Need-returns Inv-loop μ-loop
