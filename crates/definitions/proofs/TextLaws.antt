@@ -103,6 +103,16 @@ line-count (c ∷ cs) = by (eqb c 10) (lines cs) (line-count cs)
     by false (last l) e = omega arith
     by false (first l ls) e = omega arith
 
+-- A text without newlines is one line.
+pub lines-last : (cs : List ℕ) → newlines cs ≡ 0 → lines cs ≡ last cs
+unfolding lines newlines
+lines-last [] e = refl
+lines-last (c ∷ cs) e = by (eqb c 10) e (lines-last cs)
+  where
+    by : (t : Bool) → pick t 1 0 + newlines cs ≡ 0 → (newlines cs ≡ 0 → lines cs ≡ last cs) → pick t (first [] (lines cs)) (toFirst c (lines cs)) ≡ last (c ∷ cs)
+    by true e rest = absurd (omega arith)
+    by false e rest = rw (rest (omega arith))
+
 -- ---- a plain text, letter by letter
 
 then-before : (ps : List Placed) (line : Layout) (o : Outcome Point) (rest : Point → Layout)

@@ -57,7 +57,7 @@ moved-in-reach (Some r) p q h = record { columns = moved-span p (h .columns); ro
 glyph-span : {start : ℤ} {len : ℕ} → negsuc 1048575 ≤ℤ start → start ≤ℤ pos 1048000 → len ≤ 255 → LineSpan start len
 glyph-span {start} {len} l r h = record { low = l; high = omega (zarith, plus start (pos len)) }
 
-line-box : {x y : ℤ} (g : GlyphReader) → negsuc 524288 ≤ℤ x → x ≤ℤ pos 524288 → y ≡ pos 0 → Small g → LineInReach (boxAt x y g)
+pub line-box : {x y : ℤ} (g : GlyphReader) → negsuc 524288 ≤ℤ x → x ≤ℤ pos 524288 → y ≡ pos 0 → Small g → LineInReach (boxAt x y g)
 line-box {x} {y} g l r z s =
     let a = s .x in
     let b = s .y in
@@ -73,7 +73,7 @@ line-box {x} {y} g l r z s =
 
 -- ---- where a line is moved
 
-offset-bounds : (a : HorizontalAlignment) (b : BoundingBox) (x : ℤ) → negsuc 1048575 ≤ℤ x → x ≤ℤ pos 1048575 → LineInReach b
+pub offset-bounds : (a : HorizontalAlignment) (b : BoundingBox) (x : ℤ) → negsuc 1048575 ≤ℤ x → x ≤ℤ pos 1048575 → LineInReach b
     → (negsuc 1048576 ≤ℤ horizontalOffset a b x) × (horizontalOffset a b x ≤ℤ pos 1048577)
 offset-bounds Left b x p q h = omega zarith
 offset-bounds Center None x p q h = omega zarith
