@@ -1,1 +1,1 @@
-pub mod RenderLaws
+pub mod LetterLaws

@@ -14,7 +14,7 @@ use Rattle.framebuffer.specs.Areas.{BufferFits}
 use Rattle.layout.specs.declared.steps.CharResult.{CharResult}
 use Rattle.layout.specs.CharResults.{charOutcome, charSteps}
 use Rattle.layout.specs.Ranges.{HasRoom}
-use Rattle.renderer.specs.declared.render.Context.{Context}
+use Rattle.renderer.specs.declared.letters.Context.{Context}
 
 -- A buffer of so many bytes is the framebuffer's.
 abbrev pub Fits : ℕ → Framebuffer → Type 0

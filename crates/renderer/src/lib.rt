@@ -1,2 +1,2 @@
-// The public call that draws. It takes the font's bytes and checks all of its input: it has no `requires`.
-pub mod render;
+// The public calls that draw. They take the font's bytes and check all of their input: they have no `requires`.
+pub mod letters;

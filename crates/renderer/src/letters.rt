@@ -1,22 +1,14 @@
-// Drawing a text on a framebuffer.
+// Drawing the letters of a text on a framebuffer.
 ghost use mathlib.Core.Path.{_≡_};
 ghost use lib.ListN.{length};
 ghost use Rattle.definitions.specs.TextSteps.{answerShown};
 ghost use Rattle.definitions.specs.Font.{u8g2, pixelsOf};
-ghost use Rattle.definitions.specs.Calls.{plain, draw, drawBuffer, dimensionsOutcome};
 ghost use Rattle.answers.specs.Answers.{asAnswer};
 ghost use Rattle.renderer.specs.CharAnswers.{DrawableAnswer, DrawableChar, CharDrawn};
-ghost use Rattle.definitions.specs.Sums.{sums};
-ghost use Rattle.renderer.specs.Texts.{DrawableText, TextCounted, TextDrawn};
-ghost use Rattle.checks.specs.Origins.{CheckedText};
+ghost use Rattle.renderer.specs.Texts.{DrawableLetters, LettersDrawn};
 use answers::Answer;
 use answers::retrieve_answer;
-use checks::limits::has_bad_color;
-use checks::limits::has_bad_size;
-use checks::origin::OriginResult;
 use checks::origin::Pen;
-use checks::origin::checked_origin;
-use font_reader::new_from_raw_data;
 use glyph_renderer::render_glyph;
 use layout::steps::CharResult;
 use layout::steps::NEWLINE;
@@ -30,15 +22,11 @@ use lookup_sums::sum_with;
 use types::error::Error;
 use types::font_reader::FontReader;
 use types::framebuffer::Framebuffer;
-use types::geometry::BoundingBox;
 use types::geometry::Point;
 use types::geometry::RenderedDimensions;
 use types::results::DimensionsReport;
 use types::results::DimensionsResult;
-use types::results::FontReaderResult;
 use types::style::FontColor;
-use types::style::FontStyle;
-use types::style::Placement;
 use utf8::next_char;
 use utf8_sequences::NextChar;
 
@@ -114,24 +102,22 @@ fn draw_char(
     counted
 }
 
-// The letters of a checked text, one after the other, and their steps added up. The first that stops the text is the answer, and
-// those before it stay.
+// The letters of a line, or of a whole text, one after the other from the dimensions so far on, and their steps added up. The
+// first that stops the text is the answer, and those before it stay.
 pub fn draw_text(
     font: &[u8],
     head: FontReader,
     text: &[u8],
     pen: Pen,
+    before: RenderedDimensions,
     context: Context,
     buffer: &mut [u8],
 ) -> DimensionsReport
-    requires { ⌜ DrawableText (now font) head (now text) pen (context .framebuffer) (length (now buffer)) ⌝ }
-    ensures { λ r. ⌜ TextDrawn (now (font .entry)) (now (text .entry)) pen context (now (buffer .entry)) (now (buffer .exit))
-        r ⌝ }
+    requires { ⌜ DrawableLetters (now font) head (now text) pen before (context .framebuffer) (length (now buffer)) ⌝ }
+    ensures { λ r. ⌜ LettersDrawn (now (font .entry)) (now (text .entry)) pen before context (now (buffer .entry))
+        (now (buffer .exit)) r ⌝ }
 {
-    let mut dimensions = RenderedDimensions {
-        advance: Point { x: 0, y: 0 },
-        bounding_box: BoundingBox::None,
-    };
+    let mut dimensions = before;
     let mut steps = no_steps();
     let mut at: usize = 0;
     while at < text.len() {
@@ -158,70 +144,5 @@ pub fn draw_text(
     DimensionsReport {
         result: DimensionsResult::Ok(dimensions),
         steps,
-    }
-}
-
-// What drawing a checked text answers: it is drawn on a framebuffer without rows, which shows nothing of it.
-pub fn get_drawn_dimensions(
-    font: &[u8],
-    head: FontReader,
-    text: &[u8],
-    pen: Pen,
-) -> DimensionsReport
-    requires { ⌜ CheckedText (now font) head (now text) pen ⌝ }
-    ensures { λ r. ⌜ TextCounted (now (font .entry)) (now (text .entry)) pen r ⌝ }
-{
-    let mut pixels = [0u8; 1];
-    let context = Context {
-        color: FontColor::Transparent(0),
-        framebuffer: Framebuffer {
-            width: 1,
-            height: 0,
-        },
-    };
-    draw_text(font, head, text, pen, context, &mut pixels[..0])
-}
-
-// Draws the text where it is placed on a framebuffer of that size, or refuses to; the steps of its lookups come with either. A call
-// that is refused before the first letter leaves the framebuffer as it was.
-pub fn render(
-    font: &[u8],
-    text: &[u8],
-    placement: Placement,
-    style: FontStyle,
-    framebuffer: Framebuffer,
-    buffer: &mut [u8],
-) -> DimensionsReport
-    ensures answered { λ r. ⌜ dimensionsOutcome (r .result) ≡ draw (u8g2 (now (font .entry)))
-        (plain (now (text .entry)) placement (style .«vertical_pos»)) (style .color) framebuffer (now (buffer .entry)) ⌝ }
-    ensures shown { λ r. ⌜ now (buffer .exit) ≡ drawBuffer (u8g2 (now (font .entry)))
-        (plain (now (text .entry)) placement (style .«vertical_pos»)) (style .color) framebuffer (now (buffer .entry)) ⌝ }
-    ensures summed { λ r. ⌜ r .steps ≡ sums (u8g2 (now (font .entry))) (now (text .entry)) (draw (u8g2 (now (font .entry)))
-        (plain (now (text .entry)) placement (style .«vertical_pos»)) (style .color) framebuffer (now (buffer .entry))) ⌝ }
-{
-    match new_from_raw_data(font) {
-        FontReaderResult::Err(error) => refused(error),
-        FontReaderResult::Ok(head) => {
-            if has_bad_size(framebuffer, &buffer[..]) {
-                return refused(Error::FramebufferSize);
-            }
-            let vertical_pos = style.vertical_pos;
-            match checked_origin(head.ascent, head.descent, text, placement, vertical_pos) {
-                OriginResult::Err(error) => refused(error),
-                OriginResult::Ok(origin) => {
-                    let color = style.color;
-                    if has_bad_color(color, head.supports_background_color) {
-                        return refused(Error::BackgroundColorNotSupported);
-                    }
-                    let pen = Pen {
-                        origin,
-                        line_height: placement.line_height,
-                        ignore_unknown_chars: placement.ignore_unknown_chars,
-                    };
-                    let context = Context { color, framebuffer };
-                    draw_text(font, head, text, pen, context, buffer)
-                }
-            }
-        }
     }
 }

@@ -1,8 +1,8 @@
 -- `answerShown` goes by the same cases.
 use Rattle.integers.proofs.Prelude.{ap, _∙_, _+ℤ_, needs}
 use Rattle.answers.specs.Answers.{asAnswer}
-use Rattle.renderer.proofs.render.draw_answer.Statement.{statement}
-use Rattle.renderer.proofs.render.draw_answer.Tie as tie
+use Rattle.renderer.proofs.letters.draw_answer.Statement.{statement}
+use Rattle.renderer.proofs.letters.draw_answer.Tie as tie
 
 render-glyph-requires : tie.Need-render-glyph-requires
 render-glyph-requires c κs =

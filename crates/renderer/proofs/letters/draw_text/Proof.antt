@@ -3,7 +3,7 @@
 use Rattle.integers.proofs.Prelude.{_≡_, refl, sym, ap, subst, _∙_, List, ℕ, _-_, arith, length, drop, needs}
 use Rattle.definitions.specs.Vocabulary.{RenderedDimensions, LookupSteps}
 use Rattle.checks.specs.declared.origin.Pen.{Pen}
-use Rattle.renderer.specs.declared.render.Context.{Context}
+use Rattle.renderer.specs.declared.letters.Context.{Context}
 use Rattle.utf8_sequences.specs.Sequences.{asCharacter}
 use Rattle.definitions.specs.Utf8.{character, firstCharacter}
 use Rattle.definitions.specs.Font.{u8g2, drawnAnswer, pixelsOf}
@@ -13,18 +13,18 @@ use Rattle.renderer.specs.CharAnswers.{Fits}
 use Rattle.layout.specs.CharResults.{charOutcome, charSteps}
 use Rattle.layout.proofs.MeasureLaws.{checked-characters, measured-room, measured-end, measured-stops}
 use Rattle.layout.proofs.SumLoopLaws.{Summed, summed-start, summed-end, summed-fits}
-use Rattle.renderer.proofs.RenderLaws.{drawn-small, DrawnTo, drawn-start, drawn-end, drawn-next, drawn-stops, sum-next, sum-stops}
-use Rattle.renderer.proofs.render.draw_text.Statement.{statement}
-use Rattle.renderer.proofs.render.draw_text.Tie as tie
+use Rattle.renderer.proofs.LetterLaws.{drawn-small, DrawnTo, drawn-start, drawn-end, drawn-next, drawn-stops, sum-next, sum-stops}
+use Rattle.renderer.proofs.letters.draw_text.Statement.{statement}
+use Rattle.renderer.proofs.letters.draw_text.Tie as tie
 
-record DrawingTo (font text before : List ℕ) (pen : Pen) (context : Context) (buffer : List ℕ) (d : RenderedDimensions) (sum : LookupSteps) (at : ℕ) : Type 0 where
+record DrawingTo (font text before : List ℕ) (pen : Pen) (d₀ : RenderedDimensions) (context : Context) (buffer : List ℕ) (d : RenderedDimensions) (sum : LookupSteps) (at : ℕ) : Type 0 where
   drawn : DrawnTo (context .framebuffer .width) (context .color) (pixelsOf (u8g2 font)) (drawnAnswer (u8g2 font) (pen .«ignore_unknown_chars»))
-      (pen .«line_height») (pen .origin) text before buffer d at
+      (pen .«line_height») (pen .origin) text before d₀ buffer d at
   summed : Summed font (drawnAnswer (u8g2 font) (pen .«ignore_unknown_chars»)) text sum at
 
 abbrev Inv-loop : tie.InvT-loop
 Inv-loop font head text pen context buffer₀ dimensions₀ steps₀ at₀ buffer dimensions steps at =
-    DrawingTo font text buffer₀ pen context buffer dimensions steps at
+    DrawingTo font text buffer₀ pen dimensions₀ context buffer dimensions steps at
 
 abbrev μ-loop : tie.MeasureT-loop
 μ-loop font head text pen context buffer₀ dimensions₀ steps₀ at₀ buffer dimensions steps at =
@@ -47,7 +47,7 @@ module _ (c : tie.After-known-told Inv-loop μ-loop) where
 loop-holds : tie.Need-loop-holds Inv-loop μ-loop
 loop-holds c =
     let k = c .before .before .before .before .pre .checked in
-    record { drawn = drawn-start _ _ _ _ _ _ _ _ k; summed = simp (c .no-steps .ensures) (summed-start (checked-characters k)) }
+    record { drawn = drawn-start _ _ _ _ _ _ _ _ _ k (c .before .before .before .before .pre .room); summed = simp (c .no-steps .ensures) (summed-start (checked-characters k)) }
 
 same-length : tie.Need-same-length Inv-loop μ-loop
 same-length c = c .before .before .before .before .before .loop .inv .drawn .kept
@@ -105,13 +105,11 @@ returns-2 c =
     let d = char .draw-char .ensures in
     let stops = sym (d .counted) ∙ ap charOutcome is in
     record {
-      told = record {
-        counted = sym (measured-stops (s .pre .checked) (i .drawn .reached) (first k) stops);
-        summed = c .sum-with .ensures
-            ∙ sum-stops _ (i .summed) (first k) (brings-it char (ap charSteps is)) (c .before .add-steps .ensures) (s .args .pen .«line_height»)
-            (s .args .pen .origin) (turn k .loop .dimensions) stops refl;
-      };
-      shown = drawn-stops _ _ _ _ _ _ _ _ (s .pre .checked) (i .drawn) (first k) stops (d .shown);
+      counted = sym (measured-stops (s .pre .checked) (i .drawn .reached) (first k) stops);
+      summed = c .sum-with .ensures
+          ∙ sum-stops _ (i .summed) (first k) (brings-it char (ap charSteps is)) (c .before .add-steps .ensures) (s .args .pen .«line_height»)
+          (s .args .pen .origin) (turn k .loop .dimensions) stops refl;
+      shown = drawn-stops _ _ _ _ _ _ _ _ _ (s .pre .checked) (i .drawn) (first k) stops (d .shown);
     }
 
 add-at : tie.Need-add-at Inv-loop μ-loop
@@ -133,7 +131,7 @@ loop-again c =
     let d = char .draw-char .ensures in
     let goes = sym (d .counted) ∙ ap charOutcome is in
     record {
-      drawn = drawn-next _ _ _ _ _ _ _ _ (s .pre .checked) (i .drawn) (first k) (drawn-small (s .pre .opened) _) goes (d .shown)
+      drawn = drawn-next _ _ _ _ _ _ _ _ _ (s .pre .checked) (i .drawn) (first k) (drawn-small (s .pre .opened) _) goes (d .shown)
           (c .before .before .before .before .before .buffer .given);
       summed = sum-next _ (i .summed) (first k) (brings-it char (ap charSteps is)) (c .add-steps2 .ensures) (s .args .pen .«line_height») (s .args .pen .origin)
           (turn k .loop .dimensions) goes;
@@ -148,8 +146,9 @@ returns-3 c =
     let k = c .before .before .before .before .before .before .pre .checked in
     let over = c .loop-test .left in
     record {
-      told = record { counted = sym (measured-end k (i .drawn .reached) over); summed = summed-end (i .summed) over };
-      shown = drawn-end _ _ _ _ _ _ _ _ k (i .drawn) over;
+      counted = sym (measured-end k (i .drawn .reached) over);
+      summed = summed-end (i .summed) over;
+      shown = drawn-end _ _ _ _ _ _ _ _ _ k (i .drawn) over;
     }
 
 pub draw-text-spec : {M : Type 1} → statement M

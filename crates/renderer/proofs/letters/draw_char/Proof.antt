@@ -1,8 +1,8 @@
 -- A newline is code point 10; any other is looked up, counted and drawn.
 use Rattle.integers.proofs.Prelude.{sym, _∙_, eq-eqb, ne-eqb, needs}
 use Rattle.answers.proofs.AnswersLaws.{runs-checked}
-use Rattle.renderer.proofs.render.draw_char.Statement.{statement}
-use Rattle.renderer.proofs.render.draw_char.Tie as tie
+use Rattle.renderer.proofs.letters.draw_char.Statement.{statement}
+use Rattle.renderer.proofs.letters.draw_char.Tie as tie
 
 returns : tie.Need-returns
 returns c =
