@@ -22,3 +22,4 @@ pub mod Agreement
 pub mod AgreementCase
 pub mod MovedLaws
 pub mod AlignedLaws
+pub mod LineLaws

@@ -186,7 +186,7 @@ pub newlines-end : (s : List ℕ) (i : ℕ) → length s ≤ i → newlines (dro
 unfolding newlines
 newlines-end s i h = rw (drop-of-length-le s h)
 
-newlines-encode : (c : ℕ) → newlines (encode c) ≡ newlines (c ∷ [])
+pub newlines-encode : (c : ℕ) → newlines (encode c) ≡ newlines (c ∷ [])
 unfolding newlines
 newlines-encode c =
     if-less c 0x80 (λ h. rw (encode-one c (omega arith))) (λ one.

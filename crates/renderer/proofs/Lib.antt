@@ -1,1 +1,3 @@
 pub mod LetterLaws
+pub mod FirstLineLaws
+pub mod DrawnLineLaws

@@ -1,2 +1,3 @@
 // The public calls that draw. They take the font's bytes and check all of their input: they have no `requires`.
 pub mod letters;
+pub mod lines;

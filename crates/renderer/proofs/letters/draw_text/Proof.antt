@@ -1,7 +1,9 @@
 -- The loop keeps that the rest of the text draws from here on what the whole text draws from its start (`DrawnTo`), and that the
 -- steps so far are added up (`Summed`).
 use Rattle.integers.proofs.Prelude.{_≡_, refl, sym, ap, subst, _∙_, List, ℕ, _-_, arith, length, drop, needs}
+use Rattle.integers.proofs.Choices.{impossible}
 use Rattle.definitions.specs.Vocabulary.{RenderedDimensions, LookupSteps}
+use Rattle.definitions.specs.Geometry.{InReach}
 use Rattle.checks.specs.declared.origin.Pen.{Pen}
 use Rattle.renderer.specs.declared.letters.Context.{Context}
 use Rattle.utf8_sequences.specs.Sequences.{asCharacter}
@@ -110,6 +112,7 @@ returns-2 c =
           ∙ sum-stops _ (i .summed) (first k) (brings-it char (ap charSteps is)) (c .before .add-steps .ensures) (s .args .pen .«line_height»)
           (s .args .pen .origin) (turn k .loop .dimensions) stops refl;
       shown = drawn-stops _ _ _ _ _ _ _ _ _ (s .pre .checked) (i .drawn) (first k) stops (d .shown);
+      reach = λ e k. impossible cc;
     }
 
 add-at : tie.Need-add-at Inv-loop μ-loop
@@ -149,6 +152,8 @@ returns-3 c =
       counted = sym (measured-end k (i .drawn .reached) over);
       summed = summed-end (i .summed) over;
       shown = drawn-end _ _ _ _ _ _ _ _ _ k (i .drawn) over;
+      reach = λ e k. let same : c .before .loop .dimensions ≡ e = cc in
+          subst (λ (x : RenderedDimensions). InReach (x .«bounding_box»)) same (i .drawn .reached .reached .within .box);
     }
 
 pub draw-text-spec : {M : Type 1} → statement M
