@@ -1,5 +1,5 @@
 -- The sums over a text (request A1): how a loop adds them up letter by letter, and that they fit 32 bits. Assumes nothing.
-use Rattle.integers.proofs.Prelude.{_≡_, refl, sym, ap, subst, Bool, true, false, List, [], _∷_, _++_, ℕ, _+_, _*_, _≤_, arith, eqb, length}
+use Rattle.integers.proofs.Prelude.{_≡_, refl, sym, ap, subst, _∙_, Bool, true, false, List, [], _∷_, _++_, ℕ, _+_, _*_, _≤_, arith, eqb, length}
 use Rattle.integers.proofs.Prelude.{eq-eqb, ne-eqb}
 use Rattle.integers.specs.Integers.{pick}
 use Rattle.integers.proofs.Choices.{impossible, of-pick}
@@ -16,17 +16,31 @@ use Rattle.definitions.proofs.TextLaws.{Each}
 same-steps : {a b : LookupSteps} → a .records ≡ b .records → a .entries ≡ b .entries → a ≡ b
 same-steps e f = rw (e, f) refl
 
--- ---- one letter more
+-- ---- letters more
 
 module _ (steps : ℕ → LookupSteps) where
-  pub total-next : (cs : List ℕ) (c : ℕ) → total steps (cs ++ c ∷ []) ≡ plusSteps (total steps cs) (brings steps c)
+  pub total-append : (cs ds : List ℕ) → total steps (cs ++ ds) ≡ plusSteps (total steps cs) (total steps ds)
   unfolding total
-  total-next [] c = same-steps (omega arith) (omega arith)
-  total-next (d ∷ cs) c =
-      let e = total-next cs c in
+  total-append [] ds = same-steps (omega arith) (omega arith)
+  total-append (c ∷ cs) ds =
+      let e = total-append cs ds in
       same-steps
       (omega (arith, ap (λ (q : LookupSteps). q .records) e))
       (omega (arith, ap (λ (q : LookupSteps). q .entries) e))
+
+  pub total-next : (cs : List ℕ) (c : ℕ) → total steps (cs ++ c ∷ []) ≡ plusSteps (total steps cs) (brings steps c)
+  unfolding total
+  total-next cs c = total-append cs (c ∷ []) ∙ same-steps (omega arith) (omega arith)
+
+  -- a newline brings nothing
+  pub total-newline : (cs ds : List ℕ) → total steps (cs ++ (ds ++ 10 ∷ [])) ≡ plusSteps (total steps cs) (total steps ds)
+  unfolding total
+  total-newline cs ds =
+      let a = total-append cs (ds ++ 10 ∷ []) in
+      let b = total-append ds (10 ∷ []) in
+      same-steps
+      (omega (arith, ap (λ (q : LookupSteps). q .records) a, ap (λ (q : LookupSteps). q .records) b))
+      (omega (arith, ap (λ (q : LookupSteps). q .entries) a, ap (λ (q : LookupSteps). q .entries) b))
 
 -- The letters before the first c, and that one: "with number 7 the sums include the missing letter".
 pub up-to-first : (cs : List ℕ) (c : ℕ) (ds : List ℕ) → Each (λ d. d ≡ c → ⊥) cs → upTo c (cs ++ c ∷ ds) ≡ cs ++ c ∷ []
@@ -68,7 +82,7 @@ up-to-shorter c (d ∷ cs) = by (up-to-shorter c cs) (eqb d c)
     by h true = omega arith
     by h false = omega arith
 
-counted-shorter : {A : Type 0} (o : Outcome A) (cs : List ℕ) → length (counted o cs) ≤ length cs
+pub counted-shorter : {A : Type 0} (o : Outcome A) (cs : List ℕ) → length (counted o cs) ≤ length cs
 counted-shorter (success a) cs = omega arith
 counted-shorter (refused n c) cs = by (eqb n 7)
   where

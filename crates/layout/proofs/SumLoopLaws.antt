@@ -19,11 +19,11 @@ use Rattle.layout.proofs.LoopLaws.{Reached, reached-start, reached-end,
 
 -- ---- a letter that stops a text, and one that does not
 
-abbrev Stops : (ℕ → Answer) → ℕ → ℕ → ℕ → Type 0
+abbrev pub Stops : (ℕ → Answer) → ℕ → ℕ → ℕ → Type 0
 Stops answers c n k = (eqb c 10 ≡ false) × (answers c ≡ stops n k)
 
 -- The text goes on after it.
-abbrev GoesOn : (ℕ → Answer) → ℕ → Type 0
+abbrev pub GoesOn : (ℕ → Answer) → ℕ → Type 0
 GoesOn answers c = (n k : ℕ) → Stops answers c n k → ⊥
 
 -- What a loop makes of an answer: it goes on after a glyph and after nothing, and stops where the answer does.
@@ -82,7 +82,7 @@ pub record Summed (font : List ℕ) (answers : ℕ → Answer) (text : List ℕ)
   pub is : sum ≡ total (u8g2 font .steps) read
 
 module _ {font : List ℕ} {answers : ℕ → Answer} {text : List ℕ} where
-  pub summed-start : decode text ≡ characters (codePoints (decode text)) → Summed font answers text noSteps 0
+  unfoldable pub summed-start : decode text ≡ characters (codePoints (decode text)) → Summed font answers text noSteps 0
   unfolding total
   summed-start e = record { read = []; reached = reached-start e (omega arith, tt); is = refl }
 

@@ -3,13 +3,14 @@ use Rattle.integers.proofs.Prelude.{_≡_, refl, sym, ap, subst, _∙_, false, 
 use Rattle.integers.proofs.Choices.{impossible}
 use Rattle.definitions.specs.Vocabulary.{Point, RenderedDimensions, GlyphReader, LookupSteps, FontColor, HorizontalAlignment, Error}
 use Rattle.types.specs.declared.results.DimensionsReport.{DimensionsReport}
+use Rattle.types.specs.declared.style.HorizontalAlignment.the-variants.{Left}
 use Rattle.types.specs.declared.results.DimensionsResult.the-variants.{Ok as Dimensions·Ok, Err as Dimensions·Err}
 use Rattle.definitions.specs.Refusals.{Outcome, success, refused, andThen, refusal}
 use Rattle.definitions.specs.Lookup.{noSteps}
 use Rattle.definitions.specs.Geometry.{join}
 use Rattle.definitions.specs.Utf8.{newlines}
 use Rattle.definitions.specs.Text.{Answer, Layout, joinAll, point, dimensionsOf, letters, Lines, lineByLine, layout, horizontalOffset}
-use Rattle.definitions.specs.TextSteps.{measureFrom, drawFrom}
+use Rattle.definitions.specs.TextSteps.{measureFrom, drawFrom, start}
 use Rattle.definitions.specs.Font.{u8g2, pixelsOf}
 use Rattle.definitions.specs.Picture.{textPicture}
 use Rattle.definitions.specs.Framebuffer.{shown}
@@ -24,7 +25,7 @@ use Rattle.line_alignment.specs.Pens.{measuredLine, movedBy, alignedPen}
 use Rattle.layout.specs.declared.steps.CharResult.the-variants.{Ok, Err}
 use Rattle.renderer.specs.declared.letters.Context.{Context}
 use Rattle.renderer.specs.declared.lines.LineSetting.{LineSetting}
-use Rattle.renderer.specs.Texts.{drawnBy, LettersDrawn, lineLaid, LineDrawn}
+use Rattle.renderer.specs.Texts.{drawnBy, LettersDrawn, lineLaid, LineDrawn, TextDrawn}
 
 -- A text of one line is its letters.
 pub one-line : (answers : ℕ → Answer) (lineHeight : ℕ) (origin advance : Point) (cs : List ℕ) → newlines cs ≡ 0
@@ -32,6 +33,24 @@ pub one-line : (answers : ℕ → Answer) (lineHeight : ℕ) (origin advance : P
 unfolding lineByLine
 one-line answers lineHeight origin advance cs one =
     ap (λ (ls : Lines). lineByLine (letters answers origin) lineHeight advance ls) (lines-last cs one)
+
+-- Letters from nothing on are the text aligned Left.
+from-start : {font text : List ℕ} {pen : Pen} {context : Context} {before after : List ℕ} {r : DimensionsReport}
+    → LettersDrawn font text pen start context before after r → TextDrawn font text Left pen context before after r
+from-start {font} {text} {pen} {context} {before} l = record {
+  told = record {
+    counted = l .counted ∙ measure-from (drawnBy font pen) (pen .«line_height») (pen .origin) (codePointsOf text) start;
+    summed = l .summed;
+  };
+  shown = l .shown
+      ∙ draw-from (context .framebuffer .width) (context .color) (pixelsOf (u8g2 font)) (drawnBy font pen) (pen .«line_height») (pen .origin) (codePointsOf text) start before;
+}
+
+pub plain-text : {font text : List ℕ} {pen : Pen} {context : Context} {before after : List ℕ} {r : DimensionsReport} {a : HorizontalAlignment} {d : RenderedDimensions}
+    → a ≡ Left → d ≡ start → LettersDrawn font text pen d context before after r → TextDrawn font text a pen context before after r
+plain-text {font} {text} {pen} {context} {before} {after} {r} p q l =
+    subst (λ (b : HorizontalAlignment). TextDrawn font text b pen context before after r) (sym p)
+    (from-start (subst (λ (e : RenderedDimensions). LettersDrawn font text pen e context before after r) q l))
 
 module _ (font text : List ℕ) (a : HorizontalAlignment) (pen : Pen) where
   abbrev line : Layout

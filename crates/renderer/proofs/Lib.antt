@@ -1,3 +1,4 @@
 pub mod LetterLaws
 pub mod FirstLineLaws
 pub mod DrawnLineLaws
+pub mod LineLoopLaws

@@ -2,6 +2,7 @@
 ghost use mathlib.Core.Path.{_≡_};
 ghost use Prim.Native.Nat.{_+_, _≤_};
 ghost use lib.ListN.{length, drop};
+ghost use Rattle.definitions.specs.TextSteps.{start};
 ghost use Rattle.checks.specs.Origins.{CheckedText};
 ghost use Rattle.renderer.specs.Lines.{lineOf};
 ghost use Rattle.renderer.specs.Texts.{DrawableText, DrawableLine, LineDrawn, Moves, TextCounted, TextDrawn};
@@ -29,6 +30,15 @@ use types::style::HorizontalAlignment;
 pub struct LineSetting {
     pub pen: Pen,
     pub horizontal_align: HorizontalAlignment,
+}
+
+fn no_dimensions() -> RenderedDimensions
+    ensures { λ r. ⌜ r ≡ start ⌝ }
+{
+    RenderedDimensions {
+        advance: Point { x: 0, y: 0 },
+        bounding_box: BoundingBox::None,
+    }
 }
 
 // Where the line that begins at `at` ends: at the next newline, or with the text.
@@ -74,4 +84,114 @@ fn draw_line(
             }
         }
     }
+}
+
+// The lines of a checked text, one after the other, and their steps added up. The first that is stopped is the answer, and the
+// lines before it stay.
+fn draw_lines(
+    font: &[u8],
+    head: FontReader,
+    text: &[u8],
+    setting: LineSetting,
+    context: Context,
+    buffer: &mut [u8],
+) -> DimensionsReport
+    requires { ⌜ DrawableText (now font) head (now text) (setting .pen) (context .framebuffer) (length (now buffer))
+        × Moves (setting .«horizontal_align») ⌝ }
+    ensures { λ r. ⌜ TextDrawn (now (font .entry)) (now (text .entry)) (setting .«horizontal_align») (setting .pen) context
+        (now (buffer .entry)) (now (buffer .exit)) r ⌝ }
+{
+    let pen = setting.pen;
+    let mut dimensions = no_dimensions();
+    let mut steps = no_steps();
+    let mut at: usize = 0;
+    loop {
+        let end = line_end(text, at);
+        let drawn = draw_line(
+            font,
+            head,
+            &text[at..end],
+            setting,
+            dimensions,
+            context,
+            &mut buffer[..],
+        );
+        match drawn {
+            CharResult::Err(error, line_steps) => {
+                let sum = add_steps(steps, line_steps);
+                return DimensionsReport {
+                    result: DimensionsResult::Err(error),
+                    steps: sum_with(error, sum),
+                };
+            }
+            CharResult::Ok(longer, line_steps) => {
+                steps = add_steps(steps, line_steps);
+                if end == text.len() {
+                    return DimensionsReport {
+                        result: DimensionsResult::Ok(longer),
+                        steps,
+                    };
+                }
+                dimensions = add_newline(longer, pen.line_height);
+            }
+        }
+        at = end + 1;
+    }
+}
+
+// A checked text, aligned. Left moves no line, so none is measured: the text is drawn as it stands.
+pub fn draw_aligned(
+    font: &[u8],
+    head: FontReader,
+    text: &[u8],
+    pen: Pen,
+    horizontal_align: HorizontalAlignment,
+    context: Context,
+    buffer: &mut [u8],
+) -> DimensionsReport
+    requires { ⌜ DrawableText (now font) head (now text) pen (context .framebuffer) (length (now buffer)) ⌝ }
+    ensures { λ r. ⌜ TextDrawn (now (font .entry)) (now (text .entry)) «horizontal_align» pen context (now (buffer .entry))
+        (now (buffer .exit)) r ⌝ }
+{
+    let setting = LineSetting {
+        pen,
+        horizontal_align,
+    };
+    match horizontal_align {
+        HorizontalAlignment::Left => {
+            draw_text(font, head, text, pen, no_dimensions(), context, buffer)
+        }
+        HorizontalAlignment::Center => draw_lines(font, head, text, setting, context, buffer),
+        HorizontalAlignment::Right => draw_lines(font, head, text, setting, context, buffer),
+    }
+}
+
+// What drawing a checked text answers: it is drawn on a framebuffer without rows, which shows nothing of it.
+pub fn get_drawn_dimensions(
+    font: &[u8],
+    head: FontReader,
+    text: &[u8],
+    pen: Pen,
+    horizontal_align: HorizontalAlignment,
+) -> DimensionsReport
+    requires { ⌜ CheckedText (now font) head (now text) pen ⌝ }
+    ensures { λ r. ⌜ TextCounted (now (font .entry)) (now (text .entry)) «horizontal_align» pen r ⌝ }
+{
+    let mut pixels = [0u8; 1];
+    let context = Context {
+        color: FontColor::Transparent(0),
+        framebuffer: Framebuffer {
+            width: 1,
+            height: 0,
+        },
+    };
+    draw_aligned(
+        font,
+        head,
+        text,
+        pen,
+        horizontal_align,
+        context,
+        &mut pixels[..0],
+    )
 }
