@@ -13,9 +13,10 @@ returns c =
     let a = c .before .before .before .before .before .before .before .before .args in
     let font = u8g2 (a .font .now) in
     let box = drawn-box font (request (a .text .now) (a .placement) (a .style .«vertical_pos») (a .horizontal-align)) (a .style .color) (a .framebuffer) (a .buffer .now) in
-    simp (c .box-alone .ensures)
-    (box-answered font (a .text .now) (m .result) (m .ensures .0) box,
-    (m .ensures .1 .0, box-summed font (a .text .now) (m .result) (m .ensures .0) box (m .ensures .1 .1)))
+    simp (c .box-alone .ensures) (
+      box-answered font (a .text .now) (m .result) (m .ensures .0) box,
+      (m .ensures .1 .0, box-summed font (a .text .now) (m .result) (m .ensures .0) box (m .ensures .1 .1)),
+    )
 
 pub render-aligned-spec : {M : Type 1} → statement M
 render-aligned-spec = tie.close (tie.spec (λ c κs. search needs) (λ c κs. search needs) (λ c. search needs) returns)

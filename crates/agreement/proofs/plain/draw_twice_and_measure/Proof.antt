@@ -1,8 +1,8 @@
 -- The contracts of the four calls, and `measured-as-drawn` of them.
 use borrow.Author.Needs.{needs}
 use Rattle.agreement.proofs.CallsLaws.{one-by-one, measured-as-drawn}
-use Rattle.agreement.proofs.draw_twice_and_measure.Statement.{statement}
-use Rattle.agreement.proofs.draw_twice_and_measure.Tie as tie
+use Rattle.agreement.proofs.plain.draw_twice_and_measure.Statement.{statement}
+use Rattle.agreement.proofs.plain.draw_twice_and_measure.Tie as tie
 
 returns : tie.Need-returns
 returns c =
