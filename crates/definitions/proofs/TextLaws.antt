@@ -67,6 +67,15 @@ pub stopped-example : map (λ (a : HorizontalAlignment). aligned dashes dashes 4
 unfolding letters lines lineByLine joinAll
 stopped-example = refl
 
+-- A line is measured before it is drawn: "-A" with the runs of "-" cut off is 8 with Left, and with Center and Right 7.
+abbrev cutDashes : ℕ → Answer
+cutDashes c = pick (eqb c 45) (stops 8 45) (dashes c)
+
+pub measured-first : map (λ (a : HorizontalAlignment). aligned dashes cutDashes 4 a at (45 ∷ 65 ∷ []) .advance) (Left ∷ Center ∷ Right ∷ [])
+    ≡ refused 8 45 ∷ refused 7 65 ∷ refused 7 65 ∷ []
+unfolding letters lines lineByLine joinAll
+measured-first = refl
+
 pub lines-example : measureLines dashes Center 4 at twoLines
     ≡ success record {
       advance = point (pos 3) (pos 4);

@@ -8,7 +8,7 @@ use lib.IntN.{ℤ, pos, negℤ}
 use lib.ListN.{take, set, replicate}
 use Rattle.definitions.specs.Vocabulary.{FontReader, Framebuffer, BoundingBox, None, Some, Rectangle, RenderedDimensions, GlyphReader, LookupSteps}
 use Rattle.definitions.specs.Vocabulary.{FontColor, Transparent, WithBackground, HorizontalAlignment}
-use Rattle.types.specs.declared.style.HorizontalAlignment.the-variants.{Center as Alignment·Center, Right as Alignment·Right}
+use Rattle.types.specs.declared.style.HorizontalAlignment.the-variants.{Left as Alignment·Left, Center as Alignment·Center, Right as Alignment·Right}
 use Rattle.types.specs.declared.style.VerticalPosition.the-variants.{Baseline, Top, Center, Bottom}
 use Rattle.integers.specs.Integers.{signed8}
 use Rattle.definitions.specs.Refusals.{Outcome, success, refused}
@@ -23,7 +23,7 @@ use Rattle.definitions.specs.Runs.{afterPair, runs, glyphPixels}
 use Rattle.definitions.specs.Picture.{textPicture}
 use Rattle.definitions.specs.Framebuffer.{mapAt}
 use Rattle.definitions.specs.Font.{u8g2}
-use Rattle.definitions.specs.Calls.{Request, placed, request, plain, openFont, fontBoundingBox, measure, measureAligned, draw, drawBuffer}
+use Rattle.definitions.specs.Calls.{Request, placed, request, plain, openFont, fontBoundingBox, measure, measureAligned, draw, drawBuffer, drawAligned}
 use Rattle.definitions.specs.Sums.{total, upTo, sums}
 use Rattle.definitions.specs.FontT.{T}
 
@@ -37,6 +37,7 @@ pub data Result : Type 0 where
   boxed : Outcome BoundingBox → Result
   drawn : Outcome RenderedDimensions → List ℕ → Result
   summed : Outcome RenderedDimensions → LookupSteps → Result
+  drawnAligned : Outcome BoundingBox → LookupSteps → List ℕ → Result
 
 pub record Case : Type 0 where
   pub given : Result
@@ -78,6 +79,14 @@ summedBy call skip font text =
 
 abbrev summedAt : List ℕ → List ℕ → Result
 summedAt font = summedBy (measure (u8g2 font)) false font
+
+-- .. and drawn with an alignment on the same pixels (request A2)
+abbrev alignedOn : HorizontalAlignment → List ℕ → List ℕ → Result
+alignedOn a font text =
+    let r = request text (placed (point (pos 10) (pos 20)) 4 false) Baseline a in
+    let p : Framebuffer = record { width = 15; height = 24 } in
+    let o = drawAligned (u8g2 font) r (Transparent 1) p (replicate 360 0) in
+    drawnAligned o (sums (u8g2 font) text o) (drawBuffer (u8g2 font) r (Transparent 1) p (replicate 360 0))
 
 abbrev steps : ℕ → ℕ → LookupSteps
 steps r e = record { records = r; entries = e }
@@ -302,10 +311,56 @@ cases =
       given = summedAt (T ++ 0 ∷ 4 ∷ 255 ∷ 255 ∷ 1 ∷ 0 ∷ 6 ∷ 138 ∷ 62 ∷ 2 ∷ []) (196 ∷ 128 ∷ []);
       expected = summed minus (steps 1 1);
     }
+    -- aligned drawing: "-", an empty line, "-", of which the last lies below the pixels; "-" and "-4" centred and from the right
+    ∷ record {
+      given = alignedOn Alignment·Left T (45 ∷ 10 ∷ 10 ∷ 45 ∷ []);
+      expected = drawnAligned (success (Some (rectangle (pos 10) (pos 17) 2 9))) (steps 2 0) (inked ((10, 17) ∷ (11, 17) ∷ []));
+    }
+    ∷ record {
+      given = alignedOn Alignment·Center T (45 ∷ 10 ∷ 45 ∷ 52 ∷ []);
+      expected = drawnAligned (success (Some (rectangle (pos 8) (pos 17) 5 7))) (steps 4 0)
+          (inked ((9, 17) ∷ (10, 17) ∷ (8, 21) ∷ (9, 21) ∷ (11, 22) ∷ (11, 23) ∷ (12, 23) ∷ []));
+    }
+    ∷ record {
+      given = alignedOn Alignment·Right T (45 ∷ 10 ∷ 45 ∷ 52 ∷ []);
+      expected = drawnAligned (success (Some (rectangle (pos 5) (pos 17) 5 7))) (steps 4 0)
+          (inked ((8, 17) ∷ (9, 17) ∷ (5, 21) ∷ (6, 21) ∷ (8, 22) ∷ (8, 23) ∷ (9, 23) ∷ []));
+    }
+    -- "-", newline, "4A": Left has drawn the "4", the others measure the line first; the sums are the same
+    ∷ record {
+      given = alignedOn Alignment·Left T (45 ∷ 10 ∷ 52 ∷ 65 ∷ []);
+      expected = drawnAligned (refused 7 65) (steps 4 0) (inked fourBelowPixels);
+    }
+    ∷ record {
+      given = alignedOn Alignment·Center T (45 ∷ 10 ∷ 52 ∷ 65 ∷ []);
+      expected = drawnAligned (refused 7 65) (steps 4 0) (inked ((9, 17) ∷ (10, 17) ∷ []));
+    }
+    ∷ record {
+      given = alignedOn Alignment·Right T (45 ∷ 10 ∷ 52 ∷ 65 ∷ []);
+      expected = drawnAligned (refused 7 65) (steps 4 0) (inked ((8, 17) ∷ (9, 17) ∷ []));
+    }
+    -- "4" with its runs cut off, and U+10000 after it: with Center and Right the later 7 comes before the cut runs' 8
+    ∷ record {
+      given = alignedOn Alignment·Left (take 32 T) (52 ∷ 240 ∷ 144 ∷ 128 ∷ 128 ∷ []);
+      expected = drawnAligned (refused 8 52) (steps 0 0) (inked []);
+    }
+    ∷ record {
+      given = alignedOn Alignment·Center (take 32 T) (52 ∷ 240 ∷ 144 ∷ 128 ∷ 128 ∷ []);
+      expected = drawnAligned (refused 7 65536) (steps 2 0) (inked []);
+    }
+    ∷ record {
+      given = alignedOn Alignment·Right (take 32 T) (52 ∷ 240 ∷ 144 ∷ 128 ∷ 128 ∷ []);
+      expected = drawnAligned (refused 7 65536) (steps 2 0) (inked []);
+    }
+    -- .. and the runs' 8 with what the lines before drew
+    ∷ record {
+      given = alignedOn Alignment·Center (take 32 T) (45 ∷ 10 ∷ 45 ∷ 52 ∷ []);
+      expected = drawnAligned (refused 8 52) (steps 0 0) (inked ((9, 17) ∷ (10, 17) ∷ (8, 21) ∷ (9, 21) ∷ []));
+    }
     ∷ []
 
 pub cases-hold : map (λ (c : Case). c .given) cases ≡ map (λ (c : Case). c .expected) cases
 unfolding cases openFont fontBoundingBox header headerOff signed8 T glyph fields search record8 chain record16 jumpTable
     readAt bits lowBits number table rowOf firstCharacter decodeFrom newlines joinAll letters lines lineByLine afterPair runs glyphPixels
-    textPicture mapAt measure measureAligned draw drawBuffer total upTo
+    textPicture mapAt measure measureAligned draw drawBuffer drawAligned total upTo
 cases-hold = refl
