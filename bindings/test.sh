@@ -80,9 +80,9 @@ in_rattle() {
 }
 same_calls() {
   in_c > "$out/calls"
-  [ "$(wc -l < "$out/calls")" = 6 ] && in_rust "$here/rust/src/raw.rs" | diff "$out/calls" - && in_rattle | diff "$out/calls" -
+  [ "$(wc -l < "$out/calls")" = 7 ] && in_rust "$here/rust/src/raw.rs" | diff "$out/calls" - && in_rattle | diff "$out/calls" -
 }
-check "papayahelm.h and raw.rs declare the six calls as c_api has them" same_calls
+check "papayahelm.h and raw.rs declare the seven calls as c_api has them" same_calls
 
 # C
 strict=(-Wall -Wextra -Wpedantic -Werror)
@@ -106,7 +106,7 @@ if there make; then
   check "make says which command makes a missing library" \
     fails make -C "$here/c" LIB_DIR="$out/nowhere" OUT="$out/nowhere" -- 'rt staticlib c_api'
 fi
-for example in redraw short; do
+for example in redraw short icon; do
   check "the C example $example compiles without a warning" compile_c "$here/c/$example.c" $example
 done
 check "the C example redraw prints what is stored" prints "$here/c/redraw.txt" "$out/c/redraw" fonts/gauge.bin
@@ -116,6 +116,8 @@ check "the C example redraw, without a font" \
   fails "$out/c/redraw" "$out/nowhere" -- 'the font has fewer than 23 or more than 1,048,576 bytes'
 short_c() { "$out/c/short" -12.5° 7.? 7.0° < fonts/gauge.bin; }
 check "the C example short" says '7.?: the font has no glyph for this character (U+003F)' short_c
+icon_c() { "$out/c/icon" < fonts/gauge.bin; }
+check "the C example icon prints what is stored" prints "$here/c/icon.txt" icon_c
 
 # Rust, by rustc alone
 for edition in 2021 2024; do
@@ -136,6 +138,8 @@ for edition in 2021 2024; do
     fails "$dir/redraw" "$out/nowhere" -- 'the font has fewer than 23 or more than 1,048,576 bytes'
   check "the Rust example short, $edition" \
     says "7.?: the font has no glyph for '?' (U+003F)" run short "$here/rust/examples/short.rs"
+  check "the Rust example icon prints what the C one does, $edition" \
+    prints "$here/c/icon.txt" run icon "$here/rust/examples/icon.rs"
   check "a program without std, $edition" run no_std -C panic=abort -C lto=fat "$here/rust/no_std/main.rs"
   check "our stand-in for embedded-graphics-core compiles, $edition" \
     compile --crate-type rlib --crate-name embedded_graphics_core -o "$dir/libembedded_graphics_core.rlib" oracle/embedded_graphics_core.rs

@@ -41,8 +41,17 @@ static struct input input_of(const char *text) {
     return in;
 }
 
-/* The calls on a text; the third argument of each test is which of them can meet the refusal. */
-enum { MEASURE = 1, ALIGNED = 2, DRAW = 4, REDRAW_OLD = 8, REDRAW_NEW = 16, TEXTS = 31, DRAWS = 28 };
+/* The calls on a text; the second argument of each test is which of them can meet the refusal. */
+enum {
+    MEASURE = 1,
+    MEASURE_ALIGNED = 2,
+    DRAW = 4,
+    DRAW_ALIGNED = 8,
+    REDRAW_OLD = 16,
+    REDRAW_NEW = 32,
+    DRAWS = DRAW | DRAW_ALIGNED | REDRAW_OLD | REDRAW_NEW,
+    TEXTS = MEASURE | MEASURE_ALIGNED | DRAWS
+};
 
 static uint32_t call(int which, const struct input *in) {
     const uint8_t *minus = (const uint8_t *)"-";
@@ -50,19 +59,23 @@ static uint32_t call(int which, const struct input *in) {
     case MEASURE:
         return papayahelm_measure(in->font, in->font_len, in->text, in->text_len, in->x, in->y, in->anchor, in->line_height,
                                   in->skip, out, PAPAYAHELM_OUT_LEN);
-    case ALIGNED:
+    case MEASURE_ALIGNED:
         return papayahelm_measure_aligned(in->font, in->font_len, in->text, in->text_len, in->x, in->y, in->anchor, in->align,
                                           in->line_height, in->skip, out, PAPAYAHELM_OUT_LEN);
     case DRAW:
         return papayahelm_draw(in->font, in->font_len, in->text, in->text_len, in->x, in->y, in->anchor, in->line_height,
                                in->skip, in->background, 1, 2, in->width, in->height, buffer, in->buffer_len, out,
                                PAPAYAHELM_OUT_LEN);
+    case DRAW_ALIGNED:
+        return papayahelm_draw_aligned(in->font, in->font_len, in->text, in->text_len, in->x, in->y, in->anchor, in->align,
+                                       in->line_height, in->skip, in->background, 1, 2, in->width, in->height, buffer,
+                                       in->buffer_len, out, PAPAYAHELM_OUT_LEN);
     case REDRAW_OLD:
-        return papayahelm_redraw(in->font, in->font_len, in->text, in->text_len, minus, 1, in->x, in->y, in->anchor,
+        return papayahelm_redraw(in->font, in->font_len, in->text, in->text_len, minus, 1, in->x, in->y, in->anchor, in->align,
                                  in->line_height, in->background, 1, 2, 3, in->width, in->height, buffer, in->buffer_len, out,
                                  PAPAYAHELM_OUT_LEN);
     default:
-        return papayahelm_redraw(in->font, in->font_len, minus, 1, in->text, in->text_len, in->x, in->y, in->anchor,
+        return papayahelm_redraw(in->font, in->font_len, minus, 1, in->text, in->text_len, in->x, in->y, in->anchor, in->align,
                                  in->line_height, in->background, 1, 2, 3, in->width, in->height, buffer, in->buffer_len, out,
                                  PAPAYAHELM_OUT_LEN);
     }
@@ -85,8 +98,8 @@ static int sums_are(int64_t records, int64_t entries) {
 }
 
 /* Each of the calls in `which` answers with this status and these sums, and after 1 to 6 has changed no pixel. */
-static void refuses_after(const struct input *in, int which, uint32_t status, int64_t code_point, int64_t records,
-                          int64_t entries) {
+static void refuses_once(const struct input *in, int which, uint32_t status, int64_t code_point, int64_t records,
+                         int64_t entries) {
     for (int one = 1; one < TEXTS; one *= 2) {
         if ((which & one) == 0) continue;
         memset(buffer, 9, sizeof buffer);
@@ -96,6 +109,16 @@ static void refuses_after(const struct input *in, int which, uint32_t status, in
         CHECK(status > 6 || buffer_is(9));
         CHECK(strlen(papayahelm_words(status)) > 10);
         CHECK(papayahelm_is_taken(status) == (status > 6));
+    }
+}
+
+/* The same with each alignment: left last, for a test that looks at the buffer afterwards. */
+static void refuses_after(const struct input *given, int which, uint32_t status, int64_t code_point, int64_t records,
+                          int64_t entries) {
+    struct input in = *given;
+    for (uint32_t i = 0; i < 3; i++) {
+        in.align = 2 - i;
+        refuses_once(&in, which, status, code_point, records, entries);
     }
 }
 
@@ -147,7 +170,8 @@ static void texts(void) {
     struct input in = input_of("-4");
     CHECK(call(MEASURE, &in) == PAPAYAHELM_OK && out_is(0, 6, 0, 1, 2, 2, 5, 3));
     const int64_t lefts[3] = {2, 0, -3};
-    for (in.align = 0; in.align < 3; in.align++) CHECK(call(ALIGNED, &in) == PAPAYAHELM_OK && out_is(0, 0, 0, 1, lefts[in.align], 2, 5, 3));
+    for (in.align = 0; in.align < 3; in.align++)
+        CHECK(call(MEASURE_ALIGNED, &in) == PAPAYAHELM_OK && out_is(0, 0, 0, 1, lefts[in.align], 2, 5, 3));
     in = input_of("");
     CHECK(call(MEASURE, &in) == PAPAYAHELM_OK && out_is(0, 0, 0, 0, 0, 0, 0, 0));
     in = input_of("-\n4");
@@ -155,7 +179,7 @@ static void texts(void) {
     in = input_of("-A4");
     in.skip = 1;
     CHECK(call(MEASURE, &in) == PAPAYAHELM_OK && out_is(0, 6, 0, 1, 2, 2, 5, 3));
-    CHECK(call(ALIGNED, &in) == PAPAYAHELM_OK && out_is(0, 0, 0, 1, 2, 2, 5, 3));
+    CHECK(call(MEASURE_ALIGNED, &in) == PAPAYAHELM_OK && out_is(0, 0, 0, 1, 2, 2, 5, 3));
 }
 
 static void drawings(void) {
@@ -179,6 +203,126 @@ static void drawings(void) {
     in = input_of("4");
     CHECK(call(REDRAW_NEW, &in) == PAPAYAHELM_OK && out_is(0, 3, 0, 1, 2, 3, 2, 2));
     CHECK(buffer[2 * WIDTH + 2] == 3 && buffer[2 * WIDTH + 3] == 3 && buffer[3 * WIDTH + 2] == 1 && buffer[3 * WIDTH + 3] == 9);
+}
+
+/* The buffer holds a drawing of these texts, each a plain one at its place, and nothing else. */
+struct plain {
+    const char *text;
+    int32_t x, y;
+};
+
+static int buffer_has(const struct plain *texts, size_t count) {
+    uint8_t expected[sizeof buffer];
+    int64_t answer[PAPAYAHELM_OUT_LEN];
+    memset(expected, 9, sizeof expected);
+    for (size_t i = 0; i < count; i++)
+        if (papayahelm_draw(T, sizeof T, (const uint8_t *)texts[i].text, strlen(texts[i].text), texts[i].x, texts[i].y, 0, 4, 0, 0,
+                            1, 2, WIDTH, HEIGHT, expected, CELLS, answer, PAPAYAHELM_OUT_LEN) != PAPAYAHELM_OK)
+            return 0;
+    return memcmp(buffer, expected, sizeof expected) == 0;
+}
+
+static void aligned_drawings(void) {
+    /* each line by its own offset: none; half the width; one less than the advance */
+    const struct plain lines[3][2] = {{{"-4", 8, 3}, {"4", 8, 7}}, {{"-4", 6, 3}, {"4", 7, 7}}, {{"-4", 3, 3}, {"4", 6, 7}}};
+    struct input in = input_of("-4\n4");
+    in.x = 8;
+    in.y = 3;
+    for (in.align = 0; in.align < 3; in.align++) {
+        memset(buffer, 9, sizeof buffer);
+        CHECK(call(DRAW_ALIGNED, &in) == PAPAYAHELM_OK && out_is(0, 0, 0, 1, lines[in.align][0].x, 0, 5, 7));
+        CHECK(buffer_has(lines[in.align], 2));
+        const int64_t left = out[PAPAYAHELM_BOX_LEFT];
+        CHECK(call(MEASURE_ALIGNED, &in) == PAPAYAHELM_OK && out_is(0, 0, 0, 1, left, 0, 5, 7));
+    }
+    /* a line without a pixel, one with a skipped character, and a background colour */
+    uint8_t font[sizeof T];
+    memcpy(font, T, sizeof T);
+    font[1] = 1;
+    in = input_of("\nA4");
+    in.font = font;
+    in.align = PAPAYAHELM_ALIGN_RIGHT;
+    in.y = 3;
+    in.skip = 1;
+    in.background = 1;
+    memset(buffer, 9, sizeof buffer);
+    CHECK(call(DRAW_ALIGNED, &in) == PAPAYAHELM_OK && out_is(0, 0, 0, 1, 0, 5, 2, 2) && sums_are(3, 0));
+    CHECK(buffer[5 * WIDTH] == 1 && buffer[5 * WIDTH + 1] == 2 && buffer[6 * WIDTH] == 1 && buffer[6 * WIDTH + 1] == 1);
+    CHECK(buffer[5 * WIDTH + 2] == 9);
+    in = input_of("\n");
+    in.align = PAPAYAHELM_ALIGN_CENTER;
+    memset(buffer, 9, sizeof buffer);
+    CHECK(call(DRAW_ALIGNED, &in) == PAPAYAHELM_OK && out_is(0, 0, 0, 0, 0, 0, 0, 0) && buffer_is(9));
+
+    /* a refused line: plain drawing has drawn its first character, the other two none of it */
+    const struct plain before[3][2] = {{{"-", 5, 3}, {"4", 5, 7}}, {{"-", 4, 3}, {"", 0, 0}}, {{"-", 3, 3}, {"", 0, 0}}};
+    in = input_of("-\n4A");
+    in.x = 5;
+    in.y = 3;
+    for (in.align = 0; in.align < 3; in.align++) {
+        refuses_once(&in, DRAW_ALIGNED, PAPAYAHELM_GLYPH_NOT_FOUND, 'A', 4, 0);
+        CHECK(buffer_has(before[in.align], 2));
+    }
+    /* "4" that can be measured and not drawn, and a missing character behind it, which measuring meets first */
+    in = input_of("4\xF0\x90\x80\x80");
+    in.font_len = 32;
+    refuses_once(&in, DRAW_ALIGNED | REDRAW_NEW, PAPAYAHELM_FONT_ENDS, '4', 0, 0);
+    for (in.align = 1; in.align < 3; in.align++)
+        refuses_once(&in, DRAW_ALIGNED | REDRAW_NEW, PAPAYAHELM_GLYPH_NOT_FOUND, 0x10000, 2, 0);
+    in = input_of("-4");
+    in.font_len = 32;
+    in.align = PAPAYAHELM_ALIGN_CENTER;
+    refuses_once(&in, DRAW_ALIGNED, PAPAYAHELM_FONT_ENDS, '4', 0, 0);
+    const struct plain minus = {"-", 0, 5};
+    CHECK(buffer_has(&minus, 1));
+
+    /* no alignment has this code: nothing is stored or drawn */
+    in.align = 3;
+    memset(buffer, 9, sizeof buffer);
+    memset(out, 255, sizeof out);
+    for (int one = 1; one < TEXTS; one *= 2)
+        if (one != MEASURE && one != DRAW) CHECK(call(one, &in) == PAPAYAHELM_BAD_ARGUMENT);
+    CHECK(buffer_is(9) && out_is(-1, -1, -1, -1, -1, -1, -1, -1) && sums_are(-1, -1));
+
+    /* over the old text, which is cleared where it stood; the advance is the last line's */
+    in = input_of("-4\n4");
+    in.x = 8;
+    in.y = 3;
+    for (in.align = 0; in.align < 3; in.align++) {
+        memset(buffer, 9, sizeof buffer);
+        CHECK(call(REDRAW_NEW, &in) == PAPAYAHELM_OK && out_is(0, 3, 4, 1, lines[in.align][0].x, 0, 5, 7));
+        uint8_t *old_text = buffer + 8 - in.align;
+        CHECK(old_text[0] != 9 && old_text[1] != 9);
+        for (int i = 0; i < 2; i++)
+            if (old_text[i] == 3) old_text[i] = 9;
+        CHECK(buffer_has(lines[in.align], 2));
+    }
+}
+
+/* The causes are tested in the order of their numbers. */
+static void order(void) {
+    struct input in = input_of("A\xFF");
+    in.font_len = 22;
+    in.width = 0;
+    in.line_height = 65536;
+    in.background = 1;
+    refuses(&in, DRAWS, PAPAYAHELM_FONT_LENGTH, 0);
+    uint8_t font[sizeof T];
+    memcpy(font, T, sizeof T);
+    font[4] = 9;
+    in.font = font;
+    in.font_len = sizeof font;
+    refuses(&in, DRAWS, PAPAYAHELM_FONT_HEADER, 0);
+    in.font = T;
+    refuses(&in, DRAWS, PAPAYAHELM_FRAMEBUFFER_SIZE, 0);
+    in.width = WIDTH;
+    refuses(&in, DRAWS, PAPAYAHELM_TEXT_ENCODING, 0);
+    in.text_len = 1;
+    refuses(&in, DRAWS, PAPAYAHELM_POSITION_OR_LINE_HEIGHT, 0);
+    in.line_height = 4;
+    refuses(&in, DRAWS, PAPAYAHELM_BACKGROUND_COLOR_NOT_SUPPORTED, 0);
+    in.background = 0;
+    refuses_after(&in, DRAWS & ~REDRAW_OLD, PAPAYAHELM_GLYPH_NOT_FOUND, 'A', 1, 0);
 }
 
 static void refusals(void) {
@@ -241,7 +385,7 @@ static void refusals(void) {
     in.font_len = 33;
     refuses(&in, TEXTS & ~REDRAW_OLD, PAPAYAHELM_FONT_ENDS, 'A');
     in.skip = 1;
-    refuses(&in, MEASURE | ALIGNED | DRAW, PAPAYAHELM_FONT_ENDS, 'A');
+    refuses(&in, MEASURE | MEASURE_ALIGNED | DRAW | DRAW_ALIGNED, PAPAYAHELM_FONT_ENDS, 'A');
     in = input_of("-4");
     in.font_len = 32;
     CHECK(call(MEASURE, &in) == PAPAYAHELM_OK);
@@ -267,17 +411,17 @@ static void brings(const struct brought *b) {
     in.font = b->font;
     in.font_len = b->font_len;
     in.skip = b->skip;
-    for (int one = 1; one < TEXTS; one *= 2) {
-        if (one == REDRAW_OLD || (one == REDRAW_NEW && b->skip)) continue; /* the step skips nothing */
-        for (in.align = 0; in.align < 3; in.align++) {
+    for (in.align = 0; in.align < 3; in.align++) {
+        for (int one = 1; one < TEXTS; one *= 2) {
+            if (one == REDRAW_OLD || (one == REDRAW_NEW && b->skip)) continue; /* the step skips nothing */
             memset(out, 255, sizeof out);
             CHECK(call(one, &in) == b->status && out[PAPAYAHELM_CODE_POINT] == b->code_point);
             CHECK(sums_are(b->records, b->entries) && out[PAPAYAHELM_OUT_LEN] == -1);
         }
+        /* the old text of a step is not counted: "-" is the first record */
+        if (b->status == PAPAYAHELM_TEXT_ENCODING) continue;
+        CHECK(call(REDRAW_OLD, &in) == PAPAYAHELM_OK && sums_are(1, 0));
     }
-    /* the old text of a step is not counted: "-" is the first record */
-    if (b->status == PAPAYAHELM_TEXT_ENCODING) return;
-    CHECK(call(REDRAW_OLD, &in) == PAPAYAHELM_OK && sums_are(1, 0));
 }
 
 static void sums(void) {
@@ -316,8 +460,8 @@ static void sums(void) {
     struct input in = input_of("4");
     in.font_len = 32;
     CHECK(call(MEASURE, &in) == PAPAYAHELM_OK && sums_are(2, 0));
-    CHECK(call(ALIGNED, &in) == PAPAYAHELM_OK && sums_are(2, 0));
-    refuses(&in, DRAW | REDRAW_NEW, PAPAYAHELM_FONT_ENDS, '4');
+    CHECK(call(MEASURE_ALIGNED, &in) == PAPAYAHELM_OK && sums_are(2, 0));
+    refuses(&in, DRAWS & ~REDRAW_OLD, PAPAYAHELM_FONT_ENDS, '4');
 
     /* with room for nine numbers none is stored */
     memset(out, 255, sizeof out);
@@ -364,6 +508,15 @@ static void screens(void) {
     memset(alone, 9, sizeof alone);
     CHECK(memcmp(panel, alone, CELLS) == 0);
     CHECK(papayahelm_show(&screen, "45", "4", answer) == PAPAYAHELM_OK);
+    /* set right: a longer reading leaves nothing to the left of a shorter one */
+    screen.x = 12;
+    screen.align = PAPAYAHELM_ALIGN_RIGHT;
+    memset(panel, 9, sizeof panel);
+    CHECK(papayahelm_draw_aligned(T, sizeof T, (const uint8_t *)"4", 1, 12, 5, 0, PAPAYAHELM_ALIGN_RIGHT, 4, 0, 0, 1, 0, WIDTH,
+                                  HEIGHT, alone, CELLS, out, PAPAYAHELM_OUT_LEN) == PAPAYAHELM_OK);
+    CHECK(papayahelm_show(&screen, "", "-4-", answer) == PAPAYAHELM_OK && answer[PAPAYAHELM_BOX_LEFT] == 4);
+    CHECK(papayahelm_show(&screen, "-4-", "4", answer) == PAPAYAHELM_OK && answer[PAPAYAHELM_BOX_LEFT] == 10);
+    CHECK(memcmp(panel, alone, CELLS) == 0);
 }
 
 static void words(void) {
@@ -378,6 +531,8 @@ int main(void) {
     boxes();
     texts();
     drawings();
+    aligned_drawings();
+    order();
     refusals();
     sums();
     screens();

@@ -6,7 +6,8 @@
  * THE STATUS that each call returns:
  *   0        success
  *   1 .. 8   refused: enum papayahelm_status has the causes, papayahelm_words says them in words. They are tested in the order of
- *            their numbers, those that the call can meet; 7 and 8 character by character, from the first
+ *            their numbers, those that the call can meet; 7 and 8 character by character, from the first. Drawing that centres
+ *            lines or sets them right measures each before it is drawn: what measuring meets in a line comes before its pixels
  *   255      a code has no meaning, or `out` is too short; tested before all else. Nothing that is lent is changed
  *
  * THE ARGUMENTS that several calls have:
@@ -16,6 +17,7 @@
  *   x, y                    where the text stands, in pixels from the framebuffer's top left pixel; x grows to the right, y
  *                           downwards; each -1,048,576 to 1,048,576 (else status 5). What lies off the framebuffer is not drawn
  *   anchor                  which height of the text stands at y: enum papayahelm_anchor
+ *   align                   which part of each line stands at x: enum papayahelm_align. A call without it sets lines left
  *   line_height             pixels from a line's baseline down to the next one's, 0 to 65,535 (else status 5); a font's default
  *                           is in its header
  *   skip                    1 to pass over characters that the font has no glyph for, 0 to refuse them with status 7. A font that
@@ -83,7 +85,8 @@ enum papayahelm_align { PAPAYAHELM_ALIGN_LEFT = 0, PAPAYAHELM_ALIGN_CENTER = 1, 
 enum papayahelm_out {
     /* the character that was refused (statuses 7 and 8), else 0 */
     PAPAYAHELM_CODE_POINT = 0,
-    /* where the next glyph would stand, relative to the first; both 0 for a font box and for aligned measuring */
+    /* where the next glyph would stand: x relative to the start of its line, y to the first line; both 0 for a font box and for
+     * aligned measuring and drawing */
     PAPAYAHELM_ADVANCE_X = 1,
     PAPAYAHELM_ADVANCE_Y = 2,
     /* 1 if there is a bounding box; 0 if not, since no glyph has a pixel, and then the next four are 0 */
@@ -149,8 +152,8 @@ uint32_t papayahelm_font_box(const uint8_t *font, size_t font_len, uint32_t anch
 uint32_t papayahelm_measure(const uint8_t *font, size_t font_len, const uint8_t *text, size_t text_len, int32_t x, int32_t y,
                             uint32_t anchor, uint32_t line_height, uint32_t skip, int64_t *out, size_t out_len);
 
-/* Measures a text whose lines are aligned, each for itself (`align` is one of enum papayahelm_align): the bounding box or none, and
- * no advance. Statuses 0, 1, 2, 4, 5, 7, 8, 255. */
+/* Measures a text whose lines are aligned, each for itself: the bounding box or none, and no advance. If papayahelm_draw_aligned
+ * succeeds, skip being 0, the answer is the same, and no pixel outside the box changes. Statuses 0, 1, 2, 4, 5, 7, 8, 255. */
 uint32_t papayahelm_measure_aligned(const uint8_t *font, size_t font_len, const uint8_t *text, size_t text_len, int32_t x,
                                     int32_t y, uint32_t anchor, uint32_t align, uint32_t line_height, uint32_t skip,
                                     int64_t *out, size_t out_len);
@@ -162,6 +165,15 @@ uint32_t papayahelm_draw(const uint8_t *font, size_t font_len, const uint8_t *te
                          uint32_t anchor, uint32_t line_height, uint32_t skip, uint32_t background, uint8_t fg, uint8_t bg,
                          size_t width, size_t height, uint8_t *buffer, size_t buffer_len, int64_t *out, size_t out_len);
 
+/* Draws a text whose lines are aligned, each for itself, as papayahelm_measure_aligned measures them: the bounding box or none, and
+ * no advance. PAPAYAHELM_ALIGN_LEFT draws as papayahelm_draw does. With the other two each line is measured before its first
+ * character is drawn: a 7 or 8 met in measuring leaves the buffer as the earlier lines drew it, and an 8 met in a glyph's pixels
+ * leaves the characters before it drawn. After the statuses 1 to 6 and 255 the buffer is as it was. Statuses 0 to 8, 255. */
+uint32_t papayahelm_draw_aligned(const uint8_t *font, size_t font_len, const uint8_t *text, size_t text_len, int32_t x, int32_t y,
+                                 uint32_t anchor, uint32_t align, uint32_t line_height, uint32_t skip, uint32_t background,
+                                 uint8_t fg, uint8_t bg, size_t width, size_t height, uint8_t *buffer, size_t buffer_len,
+                                 int64_t *out, size_t out_len);
+
 /* The redraw step: the next reading in place of the one that stands, whole or not at all. It tests both texts for the causes 1 to
  * 6; fills the old text's bounding box with `clear_color`, if the old text is one that draws; and draws the new text if each of its
  * characters can be drawn. No character is skipped. The answer is the new text's; its sums count each of its characters once, and
@@ -169,10 +181,10 @@ uint32_t papayahelm_draw(const uint8_t *font, size_t font_len, const uint8_t *te
  *   0              the new text, which stands now
  *   7, 8           the new text too: the old one is cleared, and nothing of the new one is drawn
  *   1 .. 6, 255    the same old text as before, which still stands: nothing has changed
- * Before the first reading it is the empty text. Font, place, anchor, line height, clear_color and framebuffer stay the same from
- * step to step; fg, bg and background may change. Statuses 0 to 8, 255. */
+ * Before the first reading it is the empty text. Font, place, anchor, align, line height, clear_color and framebuffer stay the same
+ * from step to step; fg, bg and background may change. Statuses 0 to 8, 255. */
 uint32_t papayahelm_redraw(const uint8_t *font, size_t font_len, const uint8_t *old_text, size_t old_text_len,
-                           const uint8_t *new_text, size_t new_text_len, int32_t x, int32_t y, uint32_t anchor,
+                           const uint8_t *new_text, size_t new_text_len, int32_t x, int32_t y, uint32_t anchor, uint32_t align,
                            uint32_t line_height, uint32_t background, uint8_t fg, uint8_t bg, uint8_t clear_color,
                            size_t width, size_t height, uint8_t *buffer, size_t buffer_len, int64_t *out, size_t out_len);
 
@@ -188,13 +200,14 @@ struct papayahelm_screen {
     size_t width, height;
     uint8_t *buffer;
     size_t buffer_len;
+    uint32_t align; /* last, so that an initialiser without it keeps its meaning: left */
 };
 
 /* papayahelm_redraw with texts that end in a zero byte. `out` has room for PAPAYAHELM_OUT_LEN numbers. */
 static inline uint32_t papayahelm_show(const struct papayahelm_screen *s, const char *old_text, const char *new_text,
                                        int64_t *out) {
     return papayahelm_redraw(s->font, s->font_len, (const uint8_t *)old_text, strlen(old_text), (const uint8_t *)new_text,
-                             strlen(new_text), s->x, s->y, s->anchor, s->line_height, s->background, s->fg, s->bg,
+                             strlen(new_text), s->x, s->y, s->anchor, s->align, s->line_height, s->background, s->fg, s->bg,
                              s->clear_color, s->width, s->height, s->buffer, s->buffer_len, out, PAPAYAHELM_OUT_LEN);
 }
 

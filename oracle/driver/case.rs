@@ -38,7 +38,7 @@ pub enum Call {
     Measure,
     Aligned(usize),
     Draw(Ink),
-    /// aligned drawing, of which only Left has a counterpart: plain drawing
+    /// aligned drawing to the left; the other alignments the Rust measures by another path
     DrawAligned(Ink),
     /// the redraw step, which the Rust has not: step.rs makes it of drawings
     Redraw(Ink),

@@ -73,11 +73,13 @@ pub fn call(case: &Case, call: Call) -> Outcome {
         }
         Call::Draw(ink) => reported(font.render(&case.text, position, anchor, color_of(ink), &mut framebuffer), text_answer),
         Call::DrawAligned(ink) => {
-            let report = font.render(&case.text, position, anchor, color_of(ink), &mut framebuffer);
-            reported(report, |d| Answer::Bounds(d.bounding_box.map(area)))
+            let left = HorizontalAlignment::Left;
+            let report = font.render_aligned(&case.text, position, anchor, left, color_of(ink), &mut framebuffer);
+            reported(report, |b| Answer::Bounds(b.map(area)))
         }
         Call::Redraw(ink) => {
-            let place = Place { position, vertical_pos: anchor, color: color_of(ink), background: case.clear_color };
+            let place =
+                Place { vertical_pos: anchor, background: case.clear_color, ..Place::new(position, color_of(ink)) };
             reported(font.redraw(&case.old_text, &case.text, place, &mut framebuffer), text_answer)
         }
     };

@@ -5,8 +5,9 @@ use core::fmt;
 /// Why a call is refused. Its [`Display`](fmt::Display) says it in words.
 ///
 /// After the numbers 1 to 6 nothing that was lent has changed. After 7 and 8
-/// [`render`](crate::FontRenderer::render) has drawn the characters before the refused one, and
-/// [`redraw`](crate::FontRenderer::redraw) has cleared the old text and drawn nothing.
+/// [`render`](crate::FontRenderer::render) has drawn the characters before the refused one,
+/// [`render_aligned`](crate::FontRenderer::render_aligned) those or the lines before its line alone,
+/// and [`redraw`](crate::FontRenderer::redraw) has cleared the old text and drawn nothing.
 #[derive(Clone, Copy, Debug, PartialEq, Eq, Hash)]
 #[non_exhaustive]
 pub enum Error {

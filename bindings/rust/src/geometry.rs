@@ -54,8 +54,8 @@ impl Rectangle {
 /// What measuring or drawing a text comes to.
 #[derive(Clone, Copy, Debug, Default, PartialEq, Eq, Hash)]
 pub struct RenderedDimensions {
-    /// Where the next glyph would stand, relative to the first. A newline sets x to 0 and adds the
-    /// line height to y.
+    /// Where the next glyph would stand: x relative to the start of its line, y to the first line.
+    /// A newline sets x to 0 and adds the line height to y.
     pub advance: Point,
     /// The smallest area that holds all of the text's glyphs, or `None` where none of them has a
     /// pixel, as for a space.

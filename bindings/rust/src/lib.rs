@@ -43,6 +43,34 @@
 //! # }
 //! ```
 //!
+//! # Aligned lines
+//!
+//! [`FontRenderer::render_aligned`] draws each line of a text with its left side, its middle or its
+//! right side at the x that it is given, and answers with the box that
+//! [`get_rendered_dimensions_aligned`](FontRenderer::get_rendered_dimensions_aligned) measures.
+//! Readings stand so by their [`Place`], as under an icon:
+//!
+//! ```
+//! use papayahelm::{FontColor, FontRenderer, Framebuffer, HorizontalAlignment, Place, Point};
+//!
+//! # // Font T of the tests: "-" and "4".
+//! # const BYTES: [u8; 35] = [
+//! #     2, 0, 2, 2, 3, 3, 2, 3, 3, 2, 3, 0, 0, 3, 0, 3, 0, 0, 10, 0, 10, 0, 12,
+//! #     45, 5, 138, 62, 2, 52, 5, 146, 60, 73, 0, 0,
+//! # ];
+//! # fn main() -> Result<(), papayahelm::Error> {
+//! # let bytes = &BYTES;
+//! let font = FontRenderer::new_from_raw_data(bytes)?;
+//! let mut panel = Framebuffer { width: 32, height: 16, pixels: &mut [0; 32 * 16] };
+//! let place = Place::new(Point::new(16, 12), FontColor::Transparent(1))
+//!     .with_horizontal_align(HorizontalAlignment::Center);
+//! let drawn = font.redraw("", "-4", place, &mut panel).into_result()?;
+//! let area = drawn.bounding_box.expect("it has pixels");
+//! assert_eq!((area.top_left.x, area.size.width), (14, 5)); // columns 14 to 18
+//! # Ok(())
+//! # }
+//! ```
+//!
 //! # Records looked at
 //!
 //! Each call on a text answers with a [`Report`]: its result, and beside it how many glyph records

@@ -63,6 +63,28 @@ unsafe extern "C" {
         out_len: usize,
     ) -> u32;
 
+    pub fn papayahelm_draw_aligned(
+        font: *const u8,
+        font_len: usize,
+        text: *const u8,
+        text_len: usize,
+        x: i32,
+        y: i32,
+        anchor: u32,
+        align: u32,
+        line_height: u32,
+        skip: u32,
+        background: u32,
+        fg: u8,
+        bg: u8,
+        width: usize,
+        height: usize,
+        buffer: *mut u8,
+        buffer_len: usize,
+        out: *mut i64,
+        out_len: usize,
+    ) -> u32;
+
     pub fn papayahelm_redraw(
         font: *const u8,
         font_len: usize,
@@ -73,6 +95,7 @@ unsafe extern "C" {
         x: i32,
         y: i32,
         anchor: u32,
+        align: u32,
         line_height: u32,
         background: u32,
         fg: u8,

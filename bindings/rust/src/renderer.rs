@@ -116,6 +116,9 @@ impl<'a> FontRenderer<'a> {
     /// first the empty text, then what [`standing`] says. The font, the place and the framebuffer's
     /// size stay the same from step to step; the colour of the text may change.
     ///
+    /// The lines of both are set by [`place.horizontal_align`](Place::horizontal_align). The advance
+    /// is that of the last line, from where this line begins.
+    ///
     /// # Errors
     ///
     /// All that [`Error`] lists.
@@ -143,6 +146,7 @@ impl<'a> FontRenderer<'a> {
                 place.position.x,
                 place.position.y,
                 place.vertical_pos as u32,
+                place.horizontal_align as u32,
                 self.line_height,
                 background,
                 fg,
@@ -208,6 +212,59 @@ impl<'a> FontRenderer<'a> {
         report(status, &out, dimensions)
     }
 
+    /// Draws a text whose lines are aligned, each for itself, and answers with its bounding box, or
+    /// `None` where it has no pixel.
+    ///
+    /// With [`Left`](HorizontalAlignment::Left) it draws as [`render`](Self::render) does. With the
+    /// other two each line is measured before its first character is drawn.
+    ///
+    /// # Errors
+    ///
+    /// All that [`Error`] lists. After [`GlyphNotFound`](Error::GlyphNotFound) and
+    /// [`FontEnds`](Error::FontEnds) the lines before the refused one are drawn; of that line
+    /// nothing if measuring it was refused, else the characters before the refused one. After the
+    /// others nothing is drawn.
+    pub fn render_aligned(
+        &self,
+        text: impl AsRef<[u8]>,
+        position: Point,
+        vertical_pos: VerticalPosition,
+        horizontal_align: HorizontalAlignment,
+        color: FontColor,
+        framebuffer: &mut Framebuffer<'_>,
+    ) -> Report<Option<Rectangle>> {
+        let text = text.as_ref();
+        let (background, fg, bg) = color.parts();
+        let mut out: Reply = [0; LEN];
+        // SAFETY: each pointer comes from a slice and stands beside that slice's length. The pixels
+        // and `out` are borrowed mutably, so that nothing else overlaps them. The library tests all
+        // other arguments.
+        let status = unsafe {
+            raw::papayahelm_draw_aligned(
+                self.data.as_ptr(),
+                self.data.len(),
+                text.as_ptr(),
+                text.len(),
+                position.x,
+                position.y,
+                vertical_pos as u32,
+                horizontal_align as u32,
+                self.line_height,
+                self.ignore_unknown_chars.into(),
+                background,
+                fg,
+                bg,
+                framebuffer.width,
+                framebuffer.height,
+                framebuffer.pixels.as_mut_ptr(),
+                framebuffer.pixels.len(),
+                out.as_mut_ptr(),
+                out.len(),
+            )
+        };
+        report(status, &out, bounding_box)
+    }
+
     /// What [`render`](Self::render) would answer.
     ///
     /// If drawing the text succeeds, no character being skipped, this gives the same advance and
@@ -247,7 +304,8 @@ impl<'a> FontRenderer<'a> {
     }
 
     /// The bounding box of a text whose lines are aligned, each for itself, or `None` where it has
-    /// no pixel.
+    /// no pixel: what [`render_aligned`](Self::render_aligned) would answer. What holds of the two
+    /// plain calls holds of these, with every alignment.
     ///
     /// # Errors
     ///

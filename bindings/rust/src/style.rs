@@ -61,6 +61,8 @@ pub struct Place {
     pub position: Point,
     /// Which height of the reading stands at `position.y`.
     pub vertical_pos: VerticalPosition,
+    /// Which part of each of its lines stands at `position.x`.
+    pub horizontal_align: HorizontalAlignment,
     /// What the reading is drawn in.
     pub color: FontColor,
     /// The value that the old reading's bounding box is filled with.
@@ -71,6 +73,20 @@ impl Place {
     /// Readings whose baseline begins at `position`, cleared with 0.
     #[must_use]
     pub const fn new(position: Point, color: FontColor) -> Self {
-        Self { position, vertical_pos: VerticalPosition::Baseline, color, background: 0 }
+        Self {
+            position,
+            vertical_pos: VerticalPosition::Baseline,
+            horizontal_align: HorizontalAlignment::Left,
+            color,
+            background: 0,
+        }
+    }
+
+    /// Sets which part of each line stands at the place's x: the middle, for readings centred under
+    /// an icon.
+    #[must_use]
+    pub const fn with_horizontal_align(mut self, horizontal_align: HorizontalAlignment) -> Self {
+        self.horizontal_align = horizontal_align;
+        self
     }
 }

@@ -19,6 +19,9 @@ const ANCHORS: [VerticalPosition; 4] = [
     VerticalPosition::Bottom,
 ];
 
+const ALIGNS: [HorizontalAlignment; 3] =
+    [HorizontalAlignment::Left, HorizontalAlignment::Center, HorizontalAlignment::Right];
+
 const INK: FontColor = FontColor::Transparent(1);
 const INK_ON_PAPER: FontColor = FontColor::WithBackground { fg: 1, bg: 2 };
 const HERE: Point = Point::new(10, 20);
@@ -181,6 +184,10 @@ fn line_height_and_skipping_are_settings() {
     let drawn =
         skipping.render("-A4", Point::new(0, 7), VerticalPosition::Baseline, INK, &mut panel);
     assert_eq!(drawn.result, Ok(dimensions((6, 0), Some(area(0, 4, 5, 3)))));
+    let (at, center) = (Point::new(4, 7), HorizontalAlignment::Center);
+    let drawn =
+        skipping.render_aligned("-A4", at, VerticalPosition::Baseline, center, INK, &mut panel);
+    assert_eq!(drawn.result, Ok(Some(area(2, 4, 5, 3))));
     // the redraw step skips nothing
     let place = Place::new(Point::new(0, 7), INK);
     let refused = skipping.redraw("", "-A4", place, &mut panel);
@@ -227,6 +234,92 @@ fn renders() {
     );
     let answer = font(T).render("4", Point::new(0, 9), VerticalPosition::Baseline, INK, &mut panel);
     assert!(answer.result.is_ok() && picture(&panel) == ["100", "000"]);
+}
+
+/// Each line is moved by the offset that aligned measuring uses, so that the box is the measured
+/// one.
+#[test]
+fn renders_aligned() {
+    let at = Point::new(5, 0);
+    let drawn = |text: &str, align, color, bytes: &[u8]| {
+        let mut panel = Framebuffer { width: 10, height: 8, pixels: &mut [0; 80] };
+        let answer =
+            font(bytes).render_aligned(text, at, VerticalPosition::Top, align, color, &mut panel);
+        let measured =
+            font(bytes).get_rendered_dimensions_aligned(text, at, VerticalPosition::Top, align);
+        assert_eq!(answer, measured);
+        (answer.result.unwrap(), picture(&panel))
+    };
+    let expected = [
+        [
+            "0000000000",
+            "0000011000",
+            "0000000010",
+            "0000000011",
+            "0000000000",
+            "0000000000",
+            "0000010000",
+            "0000011000",
+        ],
+        [
+            "0000000000",
+            "0001100000",
+            "0000001000",
+            "0000001100",
+            "0000000000",
+            "0000000000",
+            "0000100000",
+            "0000110000",
+        ],
+        [
+            "0000000000",
+            "1100000000",
+            "0001000000",
+            "0001100000",
+            "0000000000",
+            "0000000000",
+            "0001000000",
+            "0001100000",
+        ],
+    ];
+    for (align, (left, rows)) in ALIGNS.into_iter().zip([5, 3, 0].into_iter().zip(expected)) {
+        assert_eq!(
+            drawn("-4\n4", align, INK, T),
+            (Some(area(left, 1, 5, 7)), rows.map(String::from).to_vec())
+        );
+        assert_eq!(drawn("\n", align, INK, T), (None, vec!["0000000000".to_string(); 8]));
+    }
+    let (bounding_box, rows) = drawn("4", HorizontalAlignment::Right, INK_ON_PAPER, &changed(1, 1));
+    assert_eq!(bounding_box, Some(area(3, 2, 2, 2)));
+    assert_eq!(rows[2..4], ["0001200000", "0001100000"]);
+}
+
+/// A line that is centred or set right is measured before its first character is drawn.
+#[test]
+fn a_refused_line_is_not_begun() {
+    let drawn = |bytes: &[u8], text: &str, align| {
+        let mut panel = Framebuffer { width: 16, height: 25, pixels: &mut [0; 16 * 25] };
+        let anchor = VerticalPosition::Baseline;
+        let answer = font(bytes).render_aligned(text, HERE, anchor, align, INK, &mut panel);
+        let set = |(at, pixel): (usize, &u8)| (*pixel == 1).then_some((at % 16, at / 16));
+        let pixels: Vec<_> = panel.pixels.iter().enumerate().filter_map(set).collect();
+        (answer.result, (answer.steps.records, answer.steps.entries), pixels)
+    };
+    let [left, center, right] = ALIGNS.map(|align| drawn(T, "-\n4A", align));
+    let missing =
+        |pixels: &[(usize, usize)]| (Err(Error::GlyphNotFound('A')), (4, 0), pixels.to_vec());
+    assert_eq!(left, missing(&[(10, 17), (11, 17), (10, 22), (10, 23), (11, 23)]));
+    assert_eq!(center, missing(&[(9, 17), (10, 17)]));
+    assert_eq!(right, missing(&[(8, 17), (9, 17)]));
+
+    // "4" can be measured, but not drawn; what is missing behind it is met first in measuring
+    let [left, center, right] = ALIGNS.map(|align| drawn(&T[..32], "4\u{10000}", align));
+    assert_eq!(left, (Err(Error::FontEnds('4')), (0, 0), vec![]));
+    assert_eq!(center, (Err(Error::GlyphNotFound('\u{10000}')), (2, 0), vec![]));
+    assert_eq!(right, center);
+    // and where all can be measured, the characters before the refused one are drawn
+    let center = drawn(&T[..32], "-4", HorizontalAlignment::Center);
+    assert_eq!(center, (Err(Error::FontEnds('4')), (0, 0), vec![(8, 17), (9, 17)]));
 }
 
 #[test]
@@ -284,6 +377,40 @@ fn redraws() {
     }
 }
 
+/// The old reading is cleared where it stood: a wide one leaves nothing beside a narrow one.
+#[test]
+fn redraws_aligned() {
+    let anchor = VerticalPosition::Top;
+    for align in ALIGNS {
+        let place = Place {
+            vertical_pos: anchor,
+            background: 3,
+            ..Place::new(Point::new(8, 1), INK).with_horizontal_align(align)
+        };
+        assert_eq!(place.horizontal_align, align);
+        let mut panel = Framebuffer { width: 20, height: 10, pixels: &mut [3; 20 * 10] };
+        let mut shown = "";
+        for text in ["-4-", "4", "-\n4-4", "", "44-\n-", "4-5", "-"] {
+            let answer = font(T).redraw(shown, text, place, &mut panel);
+            let mut alone = Framebuffer { width: 20, height: 10, pixels: &mut [3; 20 * 10] };
+            let expected =
+                font(T).render_aligned(text, place.position, anchor, align, INK, &mut alone);
+            assert_eq!(answer.result.map(|drawn| drawn.bounding_box), expected.result);
+            assert_eq!(answer.steps, expected.steps);
+            if expected.result.is_err() {
+                alone.pixels.fill(3);
+            }
+            assert_eq!(panel, alone, "{text:?} {align:?}");
+            shown = standing(&answer, shown, text);
+        }
+        // the advance is that of the last line, wherever this line begins
+        let answer = font(T).redraw(shown, "-44\n4-", place, &mut panel);
+        assert_eq!(answer.result.unwrap().advance, Point::new(6, 4));
+    }
+    let place = Place::new(HERE, INK);
+    assert_eq!(place, place.with_horizontal_align(HorizontalAlignment::Left));
+}
+
 #[test]
 fn redraws_with_a_background_colour() {
     let mut panel = Framebuffer { width: 4, height: 4, pixels: &mut [0; 16] };
@@ -314,13 +441,14 @@ fn framebuffers_by_their_pixels() {
 }
 
 /// What a call on a text is handed. A test changes what it is about.
-#[derive(Clone)]
+#[derive(Clone, Copy)]
 struct Input<'a> {
     font: &'a [u8],
     line_height: u32,
     skip: bool,
     text: &'a [u8],
     at: Point,
+    align: HorizontalAlignment,
     color: FontColor,
     size: (usize, usize),
     bytes: usize,
@@ -332,6 +460,7 @@ const PLAIN: Input = Input {
     skip: false,
     text: b"-",
     at: Point::new(1, 5),
+    align: HorizontalAlignment::Left,
     color: INK,
     size: (8, 8),
     bytes: 64,
@@ -340,16 +469,27 @@ const PLAIN: Input = Input {
 #[derive(Clone, Copy, PartialEq, Debug)]
 enum Call {
     Measure,
-    Aligned(HorizontalAlignment),
+    MeasureAligned,
     Render,
-    RedrawOld,
+    RenderAligned,
     RedrawNew,
+    RedrawOld,
 }
 
-const ALIGNED: Call = Call::Aligned(HorizontalAlignment::Right);
-const ON_TEXTS: &[Call] = &[Call::Measure, ALIGNED, Call::Render, Call::RedrawOld, Call::RedrawNew];
-const DRAWING: &[Call] = &[Call::Render, Call::RedrawOld, Call::RedrawNew];
-const LETTERS: &[Call] = &[Call::Measure, ALIGNED, Call::Render, Call::RedrawNew];
+const ON_TEXTS: &[Call] = &[
+    Call::Measure,
+    Call::MeasureAligned,
+    Call::Render,
+    Call::RenderAligned,
+    Call::RedrawNew,
+    Call::RedrawOld,
+];
+const DRAWING: &[Call] = ON_TEXTS.split_at(2).1;
+/// The calls that a character of the text can refuse.
+const LETTERS: &[Call] = ON_TEXTS.split_at(5).0;
+const DRAWING_LETTERS: &[Call] = LETTERS.split_at(2).1;
+/// The calls that can skip a character.
+const SKIPPING: &[Call] = LETTERS.split_at(4).0;
 
 /// What a call reports, success being all alike, and what the framebuffer holds afterwards; it was
 /// filled with 9.
@@ -360,15 +500,21 @@ fn reported(call: Call, input: &Input) -> (Report<()>, Vec<u8>) {
     let font = FontRenderer::new_unread(input.font, input.line_height)
         .with_ignore_unknown_chars(input.skip);
     let anchor = VerticalPosition::Baseline;
-    let place = Place { background: 3, ..Place::new(input.at, input.color) };
+    let align = input.align;
+    let place =
+        Place { background: 3, ..Place::new(input.at, input.color) }.with_horizontal_align(align);
     let mut pixels = vec![9; input.bytes];
     let mut panel = Framebuffer { width: input.size.0, height: input.size.1, pixels: &mut pixels };
     let report = match call {
         Call::Measure => plain(font.get_rendered_dimensions(input.text, input.at, anchor)),
-        Call::Aligned(align) => {
+        Call::MeasureAligned => {
             plain(font.get_rendered_dimensions_aligned(input.text, input.at, anchor, align))
         }
         Call::Render => plain(font.render(input.text, input.at, anchor, input.color, &mut panel)),
+        Call::RenderAligned => {
+            let color = input.color;
+            plain(font.render_aligned(input.text, input.at, anchor, align, color, &mut panel))
+        }
         Call::RedrawOld => plain(font.redraw(input.text, "-", place, &mut panel)),
         Call::RedrawNew => plain(font.redraw("-", input.text, place, &mut panel)),
     };
@@ -381,14 +527,14 @@ fn refusal(call: Call, input: &Input) -> (Option<Error>, Vec<u8>) {
     (report.result.err(), pixels)
 }
 
-/// Each of the calls is refused so. After the first six numbers no pixel has changed; only with 7
-/// are the lookups counted.
+/// Each of the calls is refused so, with each alignment. After the first six numbers no pixel has
+/// changed; only with 7 are the lookups counted.
 fn refused(calls: &[Call], input: &Input, error: Error) {
-    for call in calls {
-        let (found, pixels) = reported(*call, input);
-        assert_eq!(found.result, Err(error), "{call:?}");
-        assert!(error.number() > 6 || pixels.iter().all(|pixel| *pixel == 9), "{call:?}");
-        assert!(error.number() == 7 || found.steps == LookupSteps::default(), "{call:?}");
+    for (call, align) in calls.iter().flat_map(|call| ALIGNS.map(|align| (call, align))) {
+        let (found, pixels) = reported(*call, &Input { align, ..*input });
+        assert_eq!(found.result, Err(error), "{call:?} {align:?}");
+        assert!(error.number() > 6 || pixels.iter().all(|pixel| *pixel == 9), "{call:?} {align:?}");
+        assert!(error.number() == 7 || found.steps == LookupSteps::default(), "{call:?} {align:?}");
     }
 }
 
@@ -466,6 +612,7 @@ fn refuses_7_glyph_not_found() {
     // "-" is drawn before "A" is refused, but by a step that shows all or nothing
     let input = Input { text: b"-A", ..PLAIN };
     assert!(refusal(Call::Render, &input).1.contains(&1));
+    assert!(refusal(Call::RenderAligned, &input).1.contains(&1));
     let cleared = refusal(Call::RedrawNew, &input).1;
     assert!(cleared.contains(&3) && !cleared.contains(&1));
 }
@@ -474,12 +621,12 @@ fn refuses_7_glyph_not_found() {
 fn refuses_8_font_ends() {
     let cut = Input { font: &T[..33], text: b"A", ..PLAIN };
     refused(LETTERS, &cut, Error::FontEnds('A'));
-    refused(&LETTERS[..3], &Input { skip: true, ..cut }, Error::FontEnds('A'));
+    refused(SKIPPING, &Input { skip: true, ..cut }, Error::FontEnds('A'));
     refused(LETTERS, &Input { text: b"\0", ..PLAIN }, Error::FontEnds('\0'));
     // "4" can be measured, but not drawn
     let runs = Input { font: &T[..32], text: b"-4", ..PLAIN };
     assert_eq!(refusal(Call::Measure, &runs).0, None);
-    refused(&[Call::Render, Call::RedrawNew], &runs, Error::FontEnds('4'));
+    refused(DRAWING_LETTERS, &runs, Error::FontEnds('4'));
     assert!(!refusal(Call::RedrawNew, &runs).1.contains(&1));
     assert_eq!(refusal(Call::RedrawOld, &runs).0, None);
 }
@@ -494,20 +641,17 @@ fn steps_are_handed_up() {
     let found = [&T[..], &[0, 4, 255, 255, 1, 0, 6, 138, 62, 2]].concat();
     let missing = |ch| Err(Error::GlyphNotFound(ch));
     let brings = |font, skip, text: &str, result, records, entries| {
-        let input = Input { font, skip, text: text.as_bytes(), ..PLAIN };
         let steps = LookupSteps { records, entries };
-        let aligns =
-            [HorizontalAlignment::Left, HorizontalAlignment::Center, HorizontalAlignment::Right];
-        let mut calls = aligns.map(Call::Aligned).to_vec();
-        calls.extend([Call::Measure, Call::Render]);
-        // the step skips nothing
-        calls.extend((!skip).then_some(Call::RedrawNew));
-        for call in calls {
-            assert_eq!(reported(call, &input).0, Report { result, steps }, "{text:?} {call:?}");
+        for align in ALIGNS {
+            let input = Input { font, skip, text: text.as_bytes(), align, ..PLAIN };
+            for call in if skip { SKIPPING } else { LETTERS } {
+                let found = reported(*call, &input).0;
+                assert_eq!(found, Report { result, steps }, "{text:?} {call:?} {align:?}");
+            }
+            // the old text of a step is not counted: "-" is the first record
+            let minus = Report { result: Ok(()), steps: LookupSteps { records: 1, entries: 0 } };
+            assert_eq!(reported(Call::RedrawOld, &input).0, minus, "{text:?} {align:?}");
         }
-        // the old text of a step is not counted: "-" is the first record
-        let minus = Report { result: Ok(()), steps: LookupSteps { records: 1, entries: 0 } };
-        assert_eq!(reported(Call::RedrawOld, &input).0, minus, "{text:?}");
     };
     brings(T, false, "", Ok(()), 0, 0);
     brings(T, false, "-4", Ok(()), 3, 0);
@@ -530,8 +674,9 @@ fn steps_are_handed_up() {
     // "4" can be measured, but not drawn
     let runs = Input { font: &T[..32], text: b"4", ..PLAIN };
     let four = Report { result: Ok(()), steps: LookupSteps { records: 2, entries: 0 } };
-    assert_eq!([Call::Measure, ALIGNED].map(|call| reported(call, &runs).0), [four; 2]);
-    refused(&[Call::Render, Call::RedrawNew], &runs, Error::FontEnds('4'));
+    let measured = [Call::Measure, Call::MeasureAligned].map(|call| reported(call, &runs).0);
+    assert_eq!(measured, [four; 2]);
+    refused(DRAWING_LETTERS, &runs, Error::FontEnds('4'));
 }
 
 /// The causes are tested in the order of their numbers.
@@ -544,6 +689,7 @@ fn the_first_cause_is_the_answer() {
         skip: false,
         text: b"A\xFF",
         at: HERE,
+        align: HorizontalAlignment::Left,
         color: INK_ON_PAPER,
         size: (0, 0),
         bytes: 1,
@@ -559,11 +705,7 @@ fn the_first_cause_is_the_answer() {
     refused(DRAWING, &all, Error::PositionOrLineHeight);
     let all = Input { line_height: 4, ..all };
     refused(DRAWING, &all, Error::BackgroundColorNotSupported);
-    refused(
-        &[Call::Render, Call::RedrawNew],
-        &Input { color: INK, ..all },
-        Error::GlyphNotFound('A'),
-    );
+    refused(DRAWING_LETTERS, &Input { color: INK, ..all }, Error::GlyphNotFound('A'));
 }
 
 #[test]

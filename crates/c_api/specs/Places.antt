@@ -10,6 +10,7 @@ abbrev pub placeBy : Meaning → ℤ → ℤ → ℕ → ℕ → ℕ → ℕ →
 placeBy m x y lineHeight fg bg background framebuffer = record {
   position = point x y;
   style = styleOf m fg bg;
+  «horizontal_align» = m .«horizontal_align»;
   «line_height» = lineHeight;
   background = background;
   framebuffer = framebuffer;

@@ -7,7 +7,7 @@ ghost use mathlib.Core.Path.{_≡_};
 ghost use lib.ListN.{length};
 ghost use Rattle.definitions.specs.Font.{u8g2};
 ghost use Rattle.definitions.specs.Framebuffer.{sized};
-ghost use Rattle.definitions.specs.Calls.{openFont, fontBoundingBox, request, plain, measure, measureAligned, draw, drawBuffer};
+ghost use Rattle.definitions.specs.Calls.{openFont, fontBoundingBox, request, plain, measure, measureAligned, draw, drawBuffer, drawAligned};
 ghost use Rattle.redraw_checks.specs.Drawing.{asked, groundOf};
 ghost use Rattle.redraw.specs.Redraw.{redrawn, redrawnBuffer};
 ghost use Rattle.c_codes.specs.Codes.{meaningOf, inkOf, placedBy};
@@ -29,6 +29,7 @@ use measuring::rendered_dimensions::get_rendered_dimensions;
 use measuring::rendered_dimensions_aligned::get_rendered_dimensions_aligned;
 use redraw::reading::redraw;
 use renderer::render::render;
+use renderer::render_aligned::render_aligned;
 use types::framebuffer::Framebuffer;
 use types::geometry::Point;
 use types::place::Place;
@@ -184,6 +185,59 @@ pub extern "C" fn papayahelm_draw(
     store(out, of_dimensions(result), steps)
 }
 
+// Draws a text whose lines are aligned.
+#[no_mangle]
+pub extern "C" fn papayahelm_draw_aligned(
+    font: &[u8],
+    text: &[u8],
+    x: i32,
+    y: i32,
+    anchor: u32,
+    align: u32,
+    line_height: u32,
+    skip: u32,
+    background: u32,
+    fg: u8,
+    bg: u8,
+    width: usize,
+    height: usize,
+    buffer: &mut [u8],
+    out: &mut [i64],
+) -> u32
+    ensures answered { λ r. ⌜ Answers (meaningOf anchor align skip background (length (now (out .entry))))
+        (λ m. withSums (now (font .entry)) (now (text .entry)) alignedReply (drawAligned (u8g2 (now (font .entry)))
+        (request (now (text .entry)) (placedBy m x y «line_height») (m .«vertical_pos») (m .«horizontal_align»))
+        (inkOf (m .background) fg bg) (sized width height) (now (buffer .entry)))) r (now (out .entry)) (now (out .exit)) ⌝ }
+    ensures shown { λ r. ⌜ now (buffer .exit) ≡ drawnBy (meaningOf anchor align skip background (length (now (out .entry))))
+        (λ m. drawBuffer (u8g2 (now (font .entry))) (request (now (text .entry)) (placedBy m x y «line_height»)
+        (m .«vertical_pos») (m .«horizontal_align»)) (inkOf (m .background) fg bg) (sized width height)
+        (now (buffer .entry))) (now (buffer .entry)) ⌝ }
+{
+    let Codes::Known(m) = known_codes(anchor, align, skip, background, out.len()) else {
+        return BAD_ARGUMENT;
+    };
+    let horizontal_align = m.horizontal_align;
+    let style = style_of(m, fg, bg);
+    let placement = Placement {
+        position: Point { x, y },
+        line_height,
+        ignore_unknown_chars: m.skip,
+    };
+    let framebuffer = Framebuffer { width, height };
+    let report = render_aligned(
+        font,
+        text,
+        placement,
+        style,
+        horizontal_align,
+        framebuffer,
+        buffer,
+    );
+    let result = report.result;
+    let steps = report.steps;
+    store(out, of_bounding_box(result), steps)
+}
+
 // Clears the old text's reading with one colour and draws the new text's, whole or not at all.
 #[no_mangle]
 pub extern "C" fn papayahelm_redraw(
@@ -193,6 +247,7 @@ pub extern "C" fn papayahelm_redraw(
     x: i32,
     y: i32,
     anchor: u32,
+    align: u32,
     line_height: u32,
     background: u32,
     fg: u8,
@@ -203,25 +258,27 @@ pub extern "C" fn papayahelm_redraw(
     buffer: &mut [u8],
     out: &mut [i64],
 ) -> u32
-    ensures answered { λ r. ⌜ Answers (meaningOf anchor 0 0 background (length (now (out .entry))))
+    ensures answered { λ r. ⌜ Answers (meaningOf anchor align 0 background (length (now (out .entry))))
         (λ m. withSums (now (font .entry)) (now («new_text» .entry)) textReply (redrawn (now (font .entry))
         (now («old_text» .entry))
         (asked (placeBy m x y «line_height» fg bg «clear_color» (sized width height)) (now («new_text» .entry)))
         (groundOf (placeBy m x y «line_height» fg bg «clear_color» (sized width height)) (now (buffer .entry))))) r
         (now (out .entry)) (now (out .exit)) ⌝ }
-    ensures shown { λ r. ⌜ now (buffer .exit) ≡ drawnBy (meaningOf anchor 0 0 background (length (now (out .entry))))
+    ensures shown { λ r. ⌜ now (buffer .exit) ≡ drawnBy (meaningOf anchor align 0 background (length (now (out .entry))))
         (λ m. redrawnBuffer (now (font .entry)) (now («old_text» .entry))
         (asked (placeBy m x y «line_height» fg bg «clear_color» (sized width height)) (now («new_text» .entry))) «clear_color»
         (groundOf (placeBy m x y «line_height» fg bg «clear_color» (sized width height)) (now (buffer .entry))))
         (now (buffer .entry)) ⌝ }
 {
-    let Codes::Known(m) = known_codes(anchor, 0, 0, background, out.len()) else {
+    let Codes::Known(m) = known_codes(anchor, align, 0, background, out.len()) else {
         return BAD_ARGUMENT;
     };
+    let horizontal_align = m.horizontal_align;
     let style = style_of(m, fg, bg);
     let place = Place {
         position: Point { x, y },
         style,
+        horizontal_align,
         line_height,
         background: clear_color,
         framebuffer: Framebuffer { width, height },
