@@ -549,7 +549,8 @@ def aligned(label, font, text, *wants, **more):
         case('draw aligned %s, %s' % (name, label), DRAW_ALIGNED, font, text, want=want, align=align, **more)
 
 
-aligned('-4', T, '-4', 'ok 10 17 5 3', 'ok 8 17 5 3', 'ok 5 17 5 3', x=10, y=20, size=(16, 20))
+PLACE = {'x': 10, 'y': 20, 'size': (16, 24)}
+aligned('-4', T, '-4', 'ok 10 17 5 3', 'ok 8 17 5 3', 'ok 5 17 5 3', **PLACE)
 aligned('lines', T, '-4\n4-\n\n-', x=7, y=4, size=(14, 14), fill=3)
 aligned('lines with background', GROUND, '4\n-4\n-', x=6, y=4, size=(12, 10), ink=(1, 2), fill=5)
 for text in ('', '\n', '\n-4', '-\n\n-4', '-4\n', '\n\n-\n\n'):
@@ -566,9 +567,12 @@ aligned('negative advance', F12, '-4', 'ok 0 3 3 1', 'ok -1 3 3 1', 'ok -1 3 3 1
 aligned('a line that ends before its start', F12, '4-\n-', x=4, y=4)
 aligned('negative advance with background', but(F12, (1, 1)), '-4\n4-', x=4, y=4, ink=(1, 2), fill=3)
 
-# the Rust measures these lines by another path, and moves them otherwise
+# the Rust measures these lines by another path, and moves or draws them otherwise
 aligned('a carriage return before the newline', F10, '\r\n\r', 'ok 0 1 2 5', 'ok -1 1 2 5', 'ok -2 1 2 5', y=4)
 aligned('a glyph without height behind the line', F13, '-!', 'ok 0 3 2 1', 'ok -1 3 2 1', 'ok -5 3 2 1', y=4)
+aligned('spaces behind the line', K + bytes([32, 4, 128, 60]) + dash(45) + END, '-  ', 'ok 0 -3 2 1', 'ok -1 -3 2 1',
+        'ok -8 -3 2 1')
+aligned('a carriage return that is missing', T, '-\r\n4', 'no 7 13', **PLACE)
 
 # a refused letter on each line, first on it and behind others
 for name, font, refused, want in (('7', T, 'A', 'no 7 65'), ('8 in the lookup', T[:33], 'A', 'no 8 65'),
@@ -585,7 +589,10 @@ aligned('8 in the lookup behind cut runs', CUT, '-4A', 'no 8 52', 'no 8 65', 'no
 # the data of its "4", which are cut off in the runs, begin with the record of "I", which is cut off in the fields
 TWO_CUTS = but(CUT[:30], (18, 7)) + bytes([73, 9, 252])
 aligned('8 in the fields behind cut runs', TWO_CUTS, '-4I', 'no 8 52', 'no 8 73', 'no 8 73', x=4, y=4, fill=2)
-aligned('7 on the second line', T, '-\n4A', 'no 7 65 records 4 entries 0', x=10, y=20, size=(13, 24), sums=True)
+aligned('7 on the second line', T, '-\n4A', 'no 7 65 records 4 entries 0', sums=True, **PLACE)
+aligned('8 on the second line', T[:33], '-\n4A', 'no 8 65', **PLACE)
+aligned('cut runs on the second line', CUT, '-\n-4', 'no 8 52', **PLACE)
+aligned('skipping, -A4', T, '-A4', 'ok 10 17 5 3', 'ok 8 17 5 3', 'ok 5 17 5 3', skip=True, **PLACE)
 aligned('skipping', T, '-A4\nA\nĀ-\U00010000', x=6, y=3, line=2, size=(12, 7), fill=2, skip=True)
 aligned('all letters skipped', T, 'A\nĀA', 'ok none', fill=2, skip=True)
 aligned('skipping, 7 behind cut runs', CUT, '4\U00010000', 'no 8 52', y=4, fill=2, skip=True)
@@ -640,9 +647,10 @@ def redraw_aligned(label, font, old, new, *wants, **more):
 
 
 MIDST = {'x': 4, 'y': 4}
-redraw_aligned('- over -4', T, '-4', '-', 'ok 3 0 3 1 2 1', 'ok 3 0 2 1 2 1', **MIDST)
+redraw_aligned('- over -4', T, '-4', '-', 'ok 3 0 9 17 2 1', 'ok 3 0 8 17 2 1', **PLACE)
+redraw_aligned('the first reading', T, '', '-4', 'ok 6 0 8 17 5 3', 'ok 6 0 5 17 5 3', **PLACE)
 redraw_aligned('-4 over 4-, with background', GROUND, '4-', '-4', 'ok 6 0 2 1 5 3', 'ok 6 0 -1 1 5 3', ink=(1, 2), **MIDST)
-redraw_aligned('the first reading, of two lines', T, '', '-4\n-', 'ok 3 4 2 1 5 5', 'ok 3 4 -1 1 5 5', **MIDST)
+redraw_aligned('the first reading, of two lines', T, '', '-4\n-', 'ok 3 4 8 17 5 5', 'ok 3 4 5 17 5 5', **PLACE)
 redraw_aligned('one line over two', T, '-\n4-', '4\n', None, **MIDST)
 redraw_aligned('no reading any more', T, '-4', '', 'ok 0 0 none', **MIDST)
 redraw_aligned('negative advance', F12, '-4', '4-', None, **MIDST)
