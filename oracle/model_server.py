@@ -18,20 +18,24 @@ def words(answer):
 
 for line in sys.stdin:
     fields = line.split()
-    kind, which, x, y, anchor, height, skip, fg, bg, w, h = map(int, fields[:11])
-    font, text, buffer = (bytes.fromhex(v[1:]) for v in fields[11:])
-    out = []
+    kind, anchor, align, ground, x, y, height, skip, fg, bg, clear, w, h = map(int, fields[:13])
+    font, text, old, buffer = (bytes.fromhex(v[1:]) for v in fields[13:])
+    ink, cells, out = (fg, bg) if ground else (fg,), bytearray(buffer), []
     if kind == 0:
         answer = m.open_font(font)
     elif kind == 1:
-        answer = m.font_box(font, which)
+        answer = m.font_box(font, anchor)
     elif kind == 2:
         answer = m.measure(font, text, x, y, anchor, height, skip)
     elif kind == 3:
-        answer = m.measure_aligned(font, text, x, y, anchor, which, height, skip)
+        answer = m.measure_aligned(font, text, x, y, anchor, align, height, skip)
+    elif kind == 4:
+        answer = m.draw(font, text, x, y, anchor, ink, height, skip, w, h, cells)
+    elif kind == 5:
+        answer = m.redraw(font, old, text, x, y, anchor, ink, height, clear, w, h, cells, align)
     else:
-        cells = bytearray(buffer)
-        answer = m.draw(font, text, x, y, anchor, (fg, bg) if which else (fg,), height, skip, w, h, cells)
+        answer = m.draw_aligned(font, text, x, y, anchor, align, ink, height, skip, w, h, cells)
+    if kind >= 4:
         out.append('b' + cells.hex())
     if kind >= 2:
         out += map(str, m.sums(font, text, answer))

@@ -13,7 +13,8 @@ import make_font
 import model as m
 import oracle_cases
 
-OPEN, FONT_BOX, MEASURE, ALIGNED, DRAW, REDRAW = range(6)
+OPEN, FONT_BOX, MEASURE, ALIGNED, DRAW, REDRAW, DRAW_ALIGNED = range(7)
+ALIGNMENTS = 'Left', 'Center', 'Right'
 # added to the kind of a case that prints the sums of the lookups' steps too
 SUMS = 16
 
@@ -47,6 +48,7 @@ F9W = bytes([1, 0, 2, 2, 8, 3, 2, 3, 3]) + TAIL + bytes([45, 9, 2, 209, 71, 0])
 F10 = K + bytes([10, 5, 138, 62, 2, 13, 5, 138, 62, 2, 0, 0])
 F11 = K + bytes([33, 5, 24, 40, 0, 45, 5, 138, 62, 2, 0, 0])
 F12 = bytes([1, 0, 2, 2, 3, 3, 3, 3, 3]) + TAIL + bytes([45, 6, 74, 57, 4, 0, 52, 6, 75, 121, 6, 0, 0, 0])
+F13 = bytes([1, 0, 2, 2, 3, 3, 3, 3, 3]) + TAIL + bytes([45, 6, 10, 121, 4, 0, 33, 6, 3, 121, 0, 0, 0, 0])
 F14 = T + bytes([0, 4, 255, 255, 0, 0, 0])
 F15 = T + bytes([0, 4, 255, 255, 1, 0, 6, 138, 62, 2])
 
@@ -104,8 +106,10 @@ def case(label, kind, font, text=b'', x=0, y=0, anchor=0, align=0, line=4, skip=
         panel = bytearray(before)
         if kind == DRAW:
             answer = m.draw(font, text, x, y, anchor, ink, line, skip, width, height, panel)
+        elif kind == DRAW_ALIGNED:
+            answer = m.draw_aligned(font, text, x, y, anchor, align, ink, line, skip, width, height, panel)
         else:
-            answer = m.redraw(font, old, text, x, y, anchor, ink, line, clear, width, height, panel)
+            answer = m.redraw(font, old, text, x, y, anchor, ink, line, clear, width, height, panel, align)
         lines = show_panel(panel, before, width, height)
     said = say(answer)
     if sums:
@@ -286,7 +290,7 @@ look('5 before letters', T, 'A', 'no 5 0', x=1048577)
 
 # ---- aligned measuring
 
-for align, name in enumerate(('Left', 'Center', 'Right')):
+for align, name in enumerate(ALIGNMENTS):
     for text in ('', '-', '-4', '-\n-4', '-4\n', '\n-4', 'A', '-\nA', '\n\n'):
         case('%s, %r' % (name, text), ALIGNED, T, text, x=10, y=20, align=align)
         case('%s, skipping, %r' % (name, text), ALIGNED, T, text, x=10, y=20, align=align, skip=True)
@@ -421,7 +425,8 @@ redraw('6 before letters', T, '-4', 'A', 'no 6 0', ink=(1, 2))
 def summed(label, font, text, outcome, records, entries, calls=(MEASURE,), **more):
     """The outcome is 'ok', or the refusal's number and code point."""
     want = ('ok ..' if outcome == 'ok' else 'no ' + outcome) + ' records %d entries %d' % (records, entries)
-    names = {MEASURE: 'sums', ALIGNED: 'sums aligned', DRAW: 'sums drawn', REDRAW: 'sums redrawn'}
+    names = {MEASURE: 'sums', ALIGNED: 'sums aligned', DRAW: 'sums drawn', REDRAW: 'sums redrawn',
+             DRAW_ALIGNED: 'sums drawn aligned'}
     settings = {'y': 3, 'size': (6, 4)}
     settings.update(more)
     for kind in calls:
@@ -430,7 +435,7 @@ def summed(label, font, text, outcome, records, entries, calls=(MEASURE,), **mor
 
 def summed_by_lines(label, font, text, *wanted, **more):
     """Measured with each alignment, and drawn."""
-    for align, name in enumerate(('Left', 'Center', 'Right')):
+    for align, name in enumerate(ALIGNMENTS):
         summed('%s, %s' % (name, label), font, text, *wanted, calls=(ALIGNED,), align=align, **more)
     summed(label, font, text, *wanted, calls=(DRAW,), **more)
 
@@ -533,6 +538,131 @@ summed_step('refused by 6', T, '-', '-4', '6 0', 0, 0, ink=(1, 2))
 
 summed('the longest jump table, U+0100', LONGEST, 'Ā', '7 256', 0, 262135)
 summed('the longest chain', K + bytes([1]) * 1048552 + bytes(1), '--', 'ok', 2097104, 0, skip=True)
+
+# ---- aligned drawing
+
+
+def aligned(label, font, text, *wants, **more):
+    """Drawn with each alignment. Where answers are wanted it is one of all three, or one of each."""
+    for align, name in enumerate(ALIGNMENTS):
+        want = wants[align % len(wants)] if wants else None
+        case('draw aligned %s, %s' % (name, label), DRAW_ALIGNED, font, text, want=want, align=align, **more)
+
+
+PLACE = {'x': 10, 'y': 20, 'size': (16, 24)}
+aligned('-4', T, '-4', 'ok 10 17 5 3', 'ok 8 17 5 3', 'ok 5 17 5 3', **PLACE)
+aligned('lines', T, '-4\n4-\n\n-', x=7, y=4, size=(14, 14), fill=3)
+aligned('lines with background', GROUND, '4\n-4\n-', x=6, y=4, size=(12, 10), ink=(1, 2), fill=5)
+for text in ('', '\n', '\n-4', '-\n\n-4', '-4\n', '\n\n-\n\n'):
+    aligned('%r' % text, T, text, x=6, y=3, line=2, size=(12, 9))
+for anchor, name in enumerate(('Baseline', 'Top', 'Center', 'Bottom')):
+    aligned('anchor ' + name, T, '-4\n-', x=5, y=7, size=(10, 14), anchor=anchor)
+
+# lines without a box have an advance all the same, and it may be negative
+aligned('a line without a box', F11, '!\n-!', x=5, y=4, size=(9, 8))
+aligned('an empty glyph before the line', F11, '!-\n!!', x=5, y=4, size=(9, 8))
+aligned('no line has a box', F11, '!\n\n!!', 'ok none', fill=4)
+aligned('no box and a negative advance', F8 + bytes(1), '-', 'ok none')
+aligned('negative advance', F12, '-4', 'ok 0 3 3 1', 'ok -1 3 3 1', 'ok -1 3 3 1', y=4)
+aligned('a line that ends before its start', F12, '4-\n-', x=4, y=4)
+aligned('negative advance with background', but(F12, (1, 1)), '-4\n4-', x=4, y=4, ink=(1, 2), fill=3)
+
+# the Rust measures these lines by another path, and moves or draws them otherwise
+aligned('a carriage return before the newline', F10, '\r\n\r', 'ok 0 1 2 5', 'ok -1 1 2 5', 'ok -2 1 2 5', y=4)
+aligned('a glyph without height behind the line', F13, '-!', 'ok 0 3 2 1', 'ok -1 3 2 1', 'ok -5 3 2 1', y=4)
+aligned('spaces behind the line', K + bytes([32, 4, 128, 60]) + dash(45) + END, '-  ', 'ok 0 -3 2 1', 'ok -1 -3 2 1',
+        'ok -8 -3 2 1')
+aligned('a carriage return that is missing', T, '-\r\n4', 'no 7 13', **PLACE)
+
+# a refused letter on each line, first on it and behind others
+for name, font, refused, want in (('7', T, 'A', 'no 7 65'), ('8 in the lookup', T[:33], 'A', 'no 8 65'),
+                                  ('8 in the fields', T[:31], '4', 'no 8 52'), ('8 in the runs', CUT, '4', 'no 8 52')):
+    for text in ('?-\n-\n--', '-?-\n-\n--', '-\n?--\n-', '-\n--?\n-', '-\n--\n?-', '--\n-\n-?'):
+        aligned('%s, %r' % (name, text), font, text.replace('?', refused), want, x=5, y=3, line=2, size=(11, 5), fill=2)
+# .. and behind one of which the runs are cut off: measuring does not see that one
+aligned('7 behind cut runs', CUT, '4\U00010000', 'no 8 52 records 0 entries 0', 'no 7 65536 records 2 entries 0',
+        'no 7 65536 records 2 entries 0', y=4, fill=2, sums=True)
+aligned('7 behind cut runs, on the second line', CUT, '-\n-4-\U00010000', 'no 8 52', 'no 7 65536', 'no 7 65536', x=5, y=3, line=2,
+        size=(11, 5), fill=2)
+aligned('7 on the line behind cut runs', CUT, '4\n\U00010000', 'no 8 52', y=4, fill=2)
+aligned('8 in the lookup behind cut runs', CUT, '-4A', 'no 8 52', 'no 8 65', 'no 8 65', x=4, y=4, fill=2)
+# the data of its "4", which are cut off in the runs, begin with the record of "I", which is cut off in the fields
+TWO_CUTS = but(CUT[:30], (18, 7)) + bytes([73, 9, 252])
+aligned('8 in the fields behind cut runs', TWO_CUTS, '-4I', 'no 8 52', 'no 8 73', 'no 8 73', x=4, y=4, fill=2)
+aligned('7 on the second line', T, '-\n4A', 'no 7 65 records 4 entries 0', sums=True, **PLACE)
+aligned('8 on the second line', T[:33], '-\n4A', 'no 8 65', **PLACE)
+aligned('cut runs on the second line', CUT, '-\n-4', 'no 8 52', **PLACE)
+aligned('skipping, -A4', T, '-A4', 'ok 10 17 5 3', 'ok 8 17 5 3', 'ok 5 17 5 3', skip=True, **PLACE)
+aligned('skipping', T, '-A4\nA\nĀ-\U00010000', x=6, y=3, line=2, size=(12, 7), fill=2, skip=True)
+aligned('all letters skipped', T, 'A\nĀA', 'ok none', fill=2, skip=True)
+aligned('skipping, 7 behind cut runs', CUT, '4\U00010000', 'no 8 52', y=4, fill=2, skip=True)
+aligned('skipping does not hide 8', T, '-\n-A\0', 'no 8 0', x=5, y=4, fill=2, skip=True)
+
+# the lines leave the panel, or never reach it
+for x, y in ((-1, 2), (9, 3), (4, 10), (-30, 4), (4, -9)):
+    aligned('lines at %d, %d' % (x, y), GROUND, '-4\n4', x=x, y=y, ink=(1, 2), fill=5)
+aligned('cut runs far off the panel', CUT, '-\n4', 'no 8 52', x=1000, y=-1000, fill=5)
+aligned('wider than the panel', WIDE, '-', x=4, y=4, ink=(1, 2), fill=5)
+# HUGE has a font box that is too large
+aligned('255 x 255 pixels', but(HUGE, (9, 127), (10, 127)), '-', 'ok 130 0 255 255', 'ok 3 0 255 255', 'ok 127 0 255 255',
+        x=130, y=255, ink=(1, 2), size=(256, 256), fill=5)
+aligned('a diagonal', FULL, '-\n-', x=100, y=100, line=150, size=(256, 256), fill=5)
+aligned('4096 letters', T, '4' * 4096, 'ok 12287 0 12287 2', 'ok 6144 0 12287 2', 'ok 0 0 12287 2', x=12287, y=2, size=(8, 2))
+for x in (1048576, -1048576):
+    aligned('x %d' % x, T, '-4\n-', x=x, y=4)
+aligned('line height 65535, Bottom', T, '-\n\n4', x=4, y=8, line=65535, anchor=3)
+
+for label, font, text, number, more in (('1 before 3', T[:22], 'A', 1, {'size': (0, 0)}),
+                                        ('2 before 3', but(T, (4, 9)), 'A', 2, {'size': (0, 0)}),
+                                        ('3 before 4', T, b'\xff', 3, {'length': 63, 'x': 1048577, 'line': 65536}),
+                                        ('4 before 5', T, b'-\xff', 4, {'x': 1048577, 'line': 65536}),
+                                        ('5 before 6', T, 'A', 5, {'x': 1048577}),
+                                        ('line height before 6', T, 'A', 5, {'line': 65536}),
+                                        ('6 before letters', T, 'A', 6, {})):
+    aligned(label, font, text, 'no %d 0 records 0 entries 0' % number, ink=(1, 2), fill=4, sums=True, **more)
+
+
+def summed_aligned(label, font, text, *wanted, **more):
+    for align, name in enumerate(ALIGNMENTS):
+        summed('%s, %s' % (name, label), font, text, *wanted, calls=(DRAW_ALIGNED,), align=align, **more)
+
+
+summed_aligned('-4', T, '-4', 'ok', 3, 0)
+summed_aligned('lines with skipped letters', F15, '-A\n\n4Ā\n\U00010000', 'ok', 5, 1, skip=True)
+summed_aligned('newlines alone', T, '\n\n', 'ok', 0, 0)
+summed_aligned('7 in the middle', F15, '4ĀA-', '7 65', 4, 1)
+summed_aligned('7 first on the third line', F15, '4\nĀ\nA-', '7 65', 4, 1)
+summed_aligned('the same letter missing twice', T, '-A-A', '7 65', 2, 0)
+summed_aligned('8 in the lookup behind lines', T[:33], '-\n4\nA', '8 65', 0, 0)
+summed_aligned('8 in the fields behind lines', T[:31], '-\n-4', '8 52', 0, 0)
+summed_aligned('8 in the runs behind lines', CUT, '-\n-4', '8 52', 0, 0)
+
+# ---- the redraw step with an alignment
+
+
+def redraw_aligned(label, font, old, new, *wants, **more):
+    """With Center and Right; the step with Left stands above."""
+    for align in (1, 2):
+        redraw('%s, %s' % (ALIGNMENTS[align], label), font, old, new, wants[(align - 1) % len(wants)], align=align, **more)
+
+
+MIDST = {'x': 4, 'y': 4}
+redraw_aligned('- over -4', T, '-4', '-', 'ok 3 0 9 17 2 1', 'ok 3 0 8 17 2 1', **PLACE)
+redraw_aligned('the first reading', T, '', '-4', 'ok 6 0 8 17 5 3', 'ok 6 0 5 17 5 3', **PLACE)
+redraw_aligned('-4 over 4-, with background', GROUND, '4-', '-4', 'ok 6 0 2 1 5 3', 'ok 6 0 -1 1 5 3', ink=(1, 2), **MIDST)
+redraw_aligned('the first reading, of two lines', T, '', '-4\n-', 'ok 3 4 8 17 5 5', 'ok 3 4 5 17 5 5', **PLACE)
+redraw_aligned('one line over two', T, '-\n4-', '4\n', None, **MIDST)
+redraw_aligned('no reading any more', T, '-4', '', 'ok 0 0 none', **MIDST)
+redraw_aligned('negative advance', F12, '-4', '4-', None, **MIDST)
+redraw_aligned('off the panel', GROUND, '-4-', '4-', None, x=8, y=1, ink=(1, 2))
+redraw_aligned('7 in the new text', T, '4-', '-\n4A', 'no 7 65 records 4 entries 0', sums=True, **MIDST)
+redraw_aligned('8 in the new text', CUT, '--', '-\n4', 'no 8 52 records 0 entries 0', sums=True, **MIDST)
+redraw_aligned('7 behind cut runs', CUT, '--', '4\U00010000', 'no 7 65536 records 2 entries 0', sums=True, **MIDST)
+redraw('7 behind cut runs', CUT, '--', '4\U00010000', 'no 8 52 records 0 entries 0', sums=True, **MIDST)
+redraw_aligned('over a text that does not draw', CUT, '-\n4', '-', 'ok .. records 1 entries 0', sums=True, **MIDST)
+redraw_aligned('3 before the old text', T, bytes([255]), '-', 'no 3 0', length=63)
+redraw_aligned('4 of the old text', T, bytes([45, 255]), '-', 'no 4 0', x=1048577, ink=(1, 2))
+redraw_aligned('6 before letters', T, '-4', 'A', 'no 6 0', ink=(1, 2))
 
 # ---- what the Rust answered
 

@@ -1,6 +1,7 @@
 """The rules of docs/SPECIFICATION.md, written a second time in Python, to work out what the program replay must print.
 
 It is written from the rules alone, but for `redraw`, our own step made of drawings, and shares nothing with the crates.
+Aligned drawing is written from the words of change request A2.
 cases.py beside it writes the stored outputs. A refusal is ('no', number, code point). The sums of the lookups' steps stand
 beside an answer and are worked out of it: `sums`.
 """
@@ -180,16 +181,14 @@ def place_fault(x, y, line):
     return None if ok else ('no', 5, 0)
 
 
-def letter(f, c, skip, runs=False):
-    """The glyph, and its pixels if they are asked for; None where it is unknown and skipped."""
+def letter(f, c, skip):
+    """The glyph; None where it is unknown and skipped."""
     try:
-        g = glyph(f, c)
+        return glyph(f, c)
     except Refused as r:
         if skip and r.args[0] == 7:
             return None
         raise
-    ps = pixels(f, g) if runs and g[0] * g[1] else []
-    return g, ps
 
 
 def measure(f, text, x, y, anchor, line, skip):
@@ -204,13 +203,33 @@ def measure(f, text, x, y, anchor, line, skip):
             if c == 10:
                 ax, ay = 0, ay + line
                 continue
-            got = letter(f, c, skip)
-            if got:
-                box = join(box, box_at(x + ax, y + ay, got[0]))
-                ax += got[0][4]
+            g = letter(f, c, skip)
+            if g:
+                box = join(box, box_at(x + ax, y + ay, g))
+                ax += g[4]
     except Refused as r:
         return ('no',) + r.args
     return ('ok', (ax, ay), box)
+
+
+def glyphs_of(f, row, skip):
+    """The glyphs of a line, each with the advance before it. A letter is looked up only when its glyph is asked for."""
+    ax = 0
+    for ch in row:
+        g = letter(f, ord(ch), skip)
+        if g:
+            yield ax, g
+            ax += g[4]
+
+
+def shift_of(align, glyphs):
+    """By how much a line is moved, its box and its advance being counted from the line's start."""
+    own, ax = None, 0
+    for gx, g in glyphs:
+        own, ax = join(own, box_at(gx, 0, g)), gx + g[4]
+    if align == MIDDLE and own:
+        return -(own[2] // 2 + own[0])
+    return -(ax - 1) if align == RIGHT else 0
 
 
 def measure_aligned(f, text, x, y, anchor, align, line, skip):
@@ -222,20 +241,8 @@ def measure_aligned(f, text, x, y, anchor, align, line, skip):
     box = None
     try:
         for number, row in enumerate(string.split('\n')):
-            ax, glyphs = 0, []
-            for ch in row:
-                got = letter(f, ord(ch), skip)
-                if got:
-                    glyphs.append((ax, got[0]))
-                    ax += got[0][4]
-            own = None
-            for gx, g in glyphs:
-                own = join(own, box_at(gx, 0, g))
-            shift = 0
-            if align == MIDDLE and own:
-                shift = -(own[2] // 2 + own[0])
-            if align == RIGHT:
-                shift = -(ax - 1)
+            glyphs = list(glyphs_of(f, row, skip))
+            shift = shift_of(align, glyphs)
             for gx, g in glyphs:
                 box = join(box, box_at(x + shift + gx, y + number * line, g))
     except Refused as r:
@@ -243,8 +250,16 @@ def measure_aligned(f, text, x, y, anchor, align, line, skip):
     return ('ok', box)
 
 
-def draw(f, text, x, y, anchor, ink, line, skip, width, height, panel):
-    """ink is (colour,) or (foreground, ground). The panel is changed in place."""
+def paint(f, g, box, ink, width, height, panel):
+    """All of the glyph's runs are read before its first pixel is set."""
+    for i, bit in enumerate(pixels(f, g)):
+        px, py = box[0] + i % g[0], box[1] + i // g[0]
+        if 0 <= px < width and 0 <= py < height and (bit or len(ink) == 2):
+            panel[py * width + px] = ink[0] if bit else ink[1]
+
+
+def draw_lines(f, text, x, y, anchor, align, ink, line, skip, width, height, panel):
+    """What `draw` and `draw_aligned` have in common. The advance is that of the last line, from the line's own start."""
     fault = font_fault(f)
     if not fault and not (1 <= width <= 256 and 1 <= height <= 256 and len(panel) == width * height):
         fault = ('no', 3, 0)
@@ -253,37 +268,44 @@ def draw(f, text, x, y, anchor, ink, line, skip, width, height, panel):
         fault = ('no', 6, 0)
     if fault:
         return fault
-    cs = [ord(ch) for ch in text.decode('utf-8')]
-    y += offset(anchor, cs.count(10) * line, f)
-    ax, ay, box = 0, 0, None
+    string = text.decode('utf-8')
+    y += offset(anchor, string.count('\n') * line, f)
+    box = None
     try:
-        for c in cs:
-            if c == 10:
-                ax, ay = 0, ay + line
-                continue
-            got = letter(f, c, skip, runs=True)
-            if not got:
-                continue
-            g, ps = got
-            own = box_at(x + ax, y + ay, g)
-            if own:
-                for i, bit in enumerate(ps):
-                    px, py = own[0] + i % g[0], own[1] + i // g[0]
-                    if 0 <= px < width and 0 <= py < height and (bit or len(ink) == 2):
-                        panel[py * width + px] = ink[0] if bit else ink[1]
-            box = join(box, own)
-            ax += g[4]
+        for number, row in enumerate(string.split('\n')):
+            glyphs, shift, ax = glyphs_of(f, row, skip), 0, 0
+            if align != LEFT:
+                # the line is measured before its first letter is drawn
+                glyphs = list(glyphs)
+                shift = shift_of(align, glyphs)
+            for gx, g in glyphs:
+                own = box_at(x + shift + gx, y + number * line, g)
+                if own:
+                    paint(f, g, own, ink, width, height, panel)
+                box, ax = join(box, own), gx + g[4]
     except Refused as r:
         return ('no',) + r.args
-    return ('ok', (ax, ay), box)
+    return ('ok', (ax, number * line), box)
 
 
-def redraw(f, old, new, x, y, anchor, ink, line, clear, width, height, panel, missing=0):
+def draw(f, text, x, y, anchor, ink, line, skip, width, height, panel):
+    """ink is (colour,) or (foreground, ground). The panel is changed in place."""
+    return draw_lines(f, text, x, y, anchor, LEFT, ink, line, skip, width, height, panel)
+
+
+def draw_aligned(f, text, x, y, anchor, align, ink, line, skip, width, height, panel):
+    """The box or none, and no advance. Each line is moved by the offset that aligned measuring uses; Left draws as `draw` does,
+    letter by letter."""
+    answer = draw_lines(f, text, x, y, anchor, align, ink, line, skip, width, height, panel)
+    return answer if answer[0] == 'no' else ('ok', answer[2])
+
+
+def redraw(f, old, new, x, y, anchor, ink, line, clear, width, height, panel, align=LEFT, missing=0):
     """The step from one reading to the next, made of drawings. The causes 1 to 6 of both texts come first. Then the old text's
-    box is filled, but for the `missing` last columns, if that text draws, and the new text is drawn if all of it does. The panel is
-    changed in place."""
+    box is filled, but for the `missing` last columns, if that text draws, and the new text is drawn if all of it does, both with
+    the alignment. The answer has an advance, that of the last line from the line's own start. The panel is changed in place."""
     def drawn(text, on):
-        return draw(f, text, x, y, anchor, ink, line, False, width, height, on)
+        return draw_lines(f, text, x, y, anchor, align, ink, line, False, width, height, on)
 
     first = drawn(old, bytearray(panel))
     causes = [answer for answer in (first, drawn(new, bytearray(panel))) if answer[0] == 'no' and answer[1] <= 6]
@@ -302,9 +324,9 @@ def redraw(f, old, new, x, y, anchor, ink, line, clear, width, height, panel, mi
 
 
 def sums(f, text, answer):
-    """The steps of a text's lookups, added up: what `measure`, `measure_aligned` and `draw` hand up beside this answer, and
-    `redraw` for its new text. Font, text and answer decide them, and no alignment. They are those of all letters in a success,
-    of those up to the missing one with 7, and of none with another refusal. A newline brings nothing."""
+    """The steps of a text's lookups, added up: what `measure`, `measure_aligned`, `draw` and `draw_aligned` hand up beside this
+    answer, and `redraw` for its new text. Font, text and answer decide them, and no alignment. They are those of all letters in
+    a success, of those up to the missing one with 7, drawn or not, and of none with another refusal. A newline brings nothing."""
     records = entries = 0
     if answer[0] == 'ok' or answer[1] == 7:
         for c in map(ord, text.decode('utf-8')):

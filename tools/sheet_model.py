@@ -1,7 +1,7 @@
 #!/usr/bin/env python3
 """The sheet written a second time, with model.py: prints and writes, in a folder with font.bin, what the program sheet does.
 
-    sheet_model.py [baseline|top|center|bottom] [at X Y] [narrow]
+    sheet_model.py [baseline|top|center|bottom] [align left|center|right] [at X Y] [narrow]
 
 The tests hold the program's words and its file sheet.cells to this one's.
 """
@@ -10,6 +10,7 @@ import sys
 import model
 
 ANCHORS = {'baseline': model.BASELINE, 'top': model.TOP, 'center': model.CENTER, 'bottom': model.BOTTOM}
+ALIGNS = {'left': model.LEFT, 'center': model.MIDDLE, 'right': model.RIGHT}
 MARGIN = 3
 INK, BACKGROUND = 0, 255
 CAUSES = {
@@ -37,7 +38,7 @@ def cause(answer):
 
 
 def arguments(words):
-    anchor, at, narrow = model.BASELINE, None, False
+    anchor, align, at, narrow = model.BASELINE, model.LEFT, None, False
     words = list(words)
     while words:
         word = words.pop(0)
@@ -45,19 +46,26 @@ def arguments(words):
             anchor = ANCHORS[word]
         elif word == 'narrow':
             narrow = True
+        elif word == 'align' and words and words[0] in ALIGNS:
+            align = ALIGNS[words.pop(0)]
         elif word == 'at' and len(words) >= 2:
             at = int(words.pop(0)), int(words.pop(0))
             if max(map(abs, at)) > 1048576:
                 return None
         else:
             return None
-    return anchor, at, narrow
+    return anchor, align, at, narrow
 
 
-def place_for(font, anchor, at):
+def boxes_at(font, x, y, anchor, align):
+    """The boxes of the readings that have one."""
+    answers = [model.measure_aligned(font, text.encode(), x, y, anchor, align, 0, False) for text in READINGS]
+    return [answer[1] for answer in answers if answer[0] == 'ok' and answer[1]]
+
+
+def place_for(font, anchor, align, at):
     """The place of the readings and the framebuffer's size."""
-    boxes = [model.measure(font, text.encode(), 0, 0, anchor, 0, False) for text in READINGS]
-    boxes = [box[2] for box in boxes if box[0] == 'ok' and box[2]] + [(0, 0, 0, 0)]
+    boxes = boxes_at(font, 0, 0, anchor, align) + [(0, 0, 0, 0)]
     if not at:
         at = tuple(MARGIN + min(1000, -min(box[i] for box in boxes)) for i in (0, 1))
     ends = [max(box[i] + box[i + 2] for box in boxes) for i in (0, 1)]
@@ -74,23 +82,21 @@ def seen(box, width, height):
     return 'p' if left < width and top < height and 0 < left + w and 0 < top + h else 'n'
 
 
-def run(font, anchor, at, narrow):
+def run(font, anchor, align, at, narrow):
     """For each reading its answer, how it is seen, how many pixels differ, and the screen."""
-    x, y, width, height = place_for(font, anchor, at)
+    x, y, width, height = place_for(font, anchor, align, at)
     ground = bytearray(96 + i % 101 for i in range(width * height))
-    for text in READINGS:
-        answer = model.measure(font, text.encode(), x, y, anchor, 0, False)
-        left, top, w, h = answer[0] == 'ok' and answer[2] or (0, 0, 0, 0)
+    for left, top, w, h in boxes_at(font, x, y, anchor, align):
         for row in range(max(0, top), min(height, top + h)):
             for column in range(max(0, left), min(width, left + w)):
                 ground[row * width + column] = BACKGROUND
     screen, old, steps = bytearray(ground), '', []
     for text in READINGS:
         answer = model.redraw(font, old.encode(), text.encode(), x, y, anchor, (INK,), 0, BACKGROUND, width, height, screen,
-                              int(narrow))
+                              align, int(narrow))
         alone = bytearray(ground)
         if answer[0] == 'ok':
-            model.draw(font, text.encode(), x, y, anchor, (INK,), 0, False, width, height, alone)
+            model.draw_aligned(font, text.encode(), x, y, anchor, align, (INK,), 0, False, width, height, alone)
         if answer[0] == 'ok' or answer[1] >= 7:
             old = text
         differing = 0 if screen == alone else sum(a != b for a, b in zip(screen, alone))
@@ -119,7 +125,8 @@ def report(steps):
 def main():
     asked = arguments(sys.argv[1:])
     if not asked:
-        print('sheet: the arguments are an anchor (baseline, top, center, bottom), at X Y (from -1048576 to 1048576) and narrow')
+        print('sheet: the arguments are an anchor (baseline, top, center, bottom), align (left, center, right), '
+              'at X Y (from -1048576 to 1048576) and narrow')
         return
     with open('font.bin', 'rb') as file:
         font = file.read()

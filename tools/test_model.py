@@ -1,4 +1,6 @@
-"""Tests of tools/model.py: tools/test.sh runs them. The steps of lookups keep their bounds and add up, in random fonts."""
+"""Tests of tools/model.py: tools/test.sh runs them. The steps of lookups keep their bounds and add up, in random fonts; aligned
+drawing does what change request A2 says of it.
+"""
 import random
 import sys
 import unittest
@@ -8,6 +10,9 @@ from unittest import mock
 sys.path.insert(0, str(Path(__file__).resolve().parent))
 import model  # noqa: E402
 
+ROOT = Path(__file__).resolve().parent.parent
+T = (ROOT / 'fonts/t.bin').read_bytes()
+ALIGNMENTS = model.LEFT, model.MIDDLE, model.RIGHT
 CODES = [0, 10, 45, 64, 65, 96, 97, 255, 256, 257, 258, 65535, 65536, 0x10FFFF]
 
 
@@ -67,8 +72,10 @@ class Steps(unittest.TestCase):
                 'measure': lambda: model.measure(font, text, 0, 0, 0, 4, skip),
                 'draw': lambda: model.draw(font, text, 0, 0, 0, (1,), 4, skip, 4, 4, bytearray(16)),
             }
-            for align in range(3):
+            for align in ALIGNMENTS:
                 calls[align] = lambda align=align: model.measure_aligned(font, text, 0, 0, 0, align, 4, skip)
+                calls['draw', align] = lambda align=align: model.draw_aligned(font, text, 0, 0, 0, align, (1,), 4, skip, 4, 4,
+                                                                              bytearray(16))
             for name, call in calls.items():
                 made = []
 
@@ -83,12 +90,91 @@ class Steps(unittest.TestCase):
                 met.add((name, outcome))
                 expected = (0, 0) if outcome == 8 else tuple(map(sum, zip(*made))) or (0, 0)
                 self.assertEqual(model.sums(font, text, answer), expected, (name, font.hex(), text))
-        self.assertEqual(len(met), 15, met)
+        # of each call a success, 7 and 8
+        self.assertEqual(len(met), 3 * len(calls), met)
 
     def test_other_refusals_bring_nothing(self):
-        font = (Path(__file__).resolve().parent.parent / 'fonts/t.bin').read_bytes()
         for number in (1, 2, 3, 4, 5, 6, 8):
-            self.assertEqual(model.sums(font, b'-4', ('no', number, 0)), (0, 0))
+            self.assertEqual(model.sums(T, b'-4', ('no', number, 0)), (0, 0))
+
+
+def aligned(font, text, align, x=10, y=20, ink=(1,), skip=False, size=(16, 24)):
+    """Aligned drawing on zeros: the answer, the sums, and the pixels that were set, as (column, row)."""
+    panel = bytearray(size[0] * size[1])
+    answer = model.draw_aligned(font, text.encode(), x, y, model.BASELINE, align, ink, 4, skip, *size, panel)
+    return answer, model.sums(font, text.encode(), answer), {(i % size[0], i // size[0]) for i, v in enumerate(panel) if v}
+
+
+class Aligned(unittest.TestCase):
+    # "-" at (10, 20) with each alignment
+    DASHES = [{(left, 17), (left + 1, 17)} for left in (10, 9, 8)]
+
+    def test_a_line_is_moved_as_in_measuring(self):
+        self.assertEqual([aligned(T, '-4', align)[0] for align in ALIGNMENTS], [('ok', (left, 17, 5, 3)) for left in (10, 8, 5)])
+        self.assertEqual([aligned(T, '-', align)[2] for align in ALIGNMENTS], self.DASHES)
+
+    def test_a_later_missing_letter_beats_an_earlier_cut_glyph(self):
+        # of T cut to 32 bytes "4" can be measured but not drawn
+        answers = [aligned(T[:32], '4\U00010000', align) for align in ALIGNMENTS]
+        self.assertEqual(answers[0], (('no', 8, 52), (0, 0), set()))
+        self.assertEqual(answers[1:], [(('no', 7, 65536), (2, 0), set())] * 2)
+
+    def test_nothing_of_a_line_with_a_missing_letter_is_drawn(self):
+        answers = [aligned(T, '-\n4A', align) for align in ALIGNMENTS]
+        self.assertEqual([answer[:2] for answer in answers], [(('no', 7, 65), (4, 0))] * 3)
+        four = aligned(T, '\n4', model.LEFT)[2]
+        self.assertEqual([answer[2] for answer in answers], [self.DASHES[0] | four] + self.DASHES[1:])
+
+    def test_a_cut_glyph_stops_the_line_where_it_stands(self):
+        # the runs are no part of measuring, so that the letters before it are drawn
+        for align, dash in zip(ALIGNMENTS, ({(10, 17), (11, 17)}, {(8, 17), (9, 17)}, {(5, 17), (6, 17)})):
+            self.assertEqual(aligned(T[:32], '-4', align), (('no', 8, 52), (0, 0), dash))
+
+    def test_laws(self):
+        dice = random.Random(3)
+        letters_of_t = 45, 45, 52, 10, 65536
+        met = set()
+        for _ in range(6000):
+            # one font of three is T, cut where its "4" ends or a little before
+            font = dice.choice((random_font(dice), random_font(dice), T[:dice.randint(31, 35)]))
+            text = ''.join(map(chr, dice.choices(dice.choice((CODES, letters_of_t)), k=dice.randint(0, 6)))).encode()
+            skip = dice.random() < 0.5
+            place = dice.randint(-4, 12), dice.randint(-4, 12), dice.randint(0, 3)
+            plain, outcomes = bytearray(64), []
+            drawn = model.draw(font, text, *place, (1,), 4, skip, 8, 8, plain)
+            for align in ALIGNMENTS:
+                panel = bytearray(64)
+                answer = model.draw_aligned(font, text, *place, align, (1,), 4, skip, 8, 8, panel)
+                note = font.hex(), text, place, align
+                measured = model.measure_aligned(font, text, *place, align, 4, skip)
+                if answer[0] == 'ok':
+                    self.assertEqual(answer, measured, note)
+                    left, top, w, h = answer[1] or (0, 0, 0, 0)
+                    outside = [v for i, v in enumerate(panel) if not (0 <= i % 8 - left < w and 0 <= i // 8 - top < h)]
+                    self.assertFalse(any(outside), note)
+                elif align != model.LEFT and b'\n' not in text and measured[0] == 'no':
+                    self.assertEqual((answer, panel), (measured, bytearray(64)), note)
+                if align == model.LEFT:
+                    self.assertEqual((answer[0], answer[-1], panel), (drawn[0], drawn[-1], plain), note)
+                outcomes.append(answer[0] if answer[0] == 'ok' else answer[1])
+            met.add(tuple(outcomes))
+        # they part where a letter behind a cut glyph is missing
+        self.assertEqual(met, {('ok',) * 3, (7, 7, 7), (8, 8, 8), (8, 7, 7)})
+
+    def test_the_step_takes_an_alignment(self):
+        def step(old, new, font=T, **align):
+            panel = bytearray(16 * 24)
+            model.draw_aligned(font, old, 10, 20, 0, align.get('align', 0), (1,), 4, False, 16, 24, panel)
+            answer = model.redraw(font, old, new, 10, 20, 0, (1,), 4, 0, 16, 24, panel, **align)
+            return answer, {(i % 16, i // 16) for i, v in enumerate(panel) if v}
+
+        self.assertEqual(step(b'-4', b'-'), (('ok', (3, 0), (10, 17, 2, 1)), self.DASHES[0]))
+        for align in ALIGNMENTS:
+            self.assertEqual(step(b'-4', b'-', align=align), (('ok', (3, 0), (10 - align, 17, 2, 1)), self.DASHES[align]))
+            self.assertEqual(step(b'-', b'-A', align=align), (('no', 7, 65), set()))
+            # the advance is the last line's, from its own start
+            self.assertEqual(step(b'', b'-4\n-', align=align)[0][1], (3, 4))
+            self.assertEqual(step(b'', b'-4\n', align=align)[0][1], (0, 4))
 
 
 if __name__ == '__main__':

@@ -30,7 +30,7 @@ pub enum Ink {
     WithBackground,
 }
 
-/// The calls of a round: each anchor, alignment and ink where the call has one.
+/// The calls of a round, with an anchor, an alignment (Left, Center, Right) and an ink where they have one.
 #[derive(Clone, Copy, PartialEq, Eq, Debug)]
 pub enum Call {
     Open,
@@ -38,14 +38,14 @@ pub enum Call {
     Measure,
     Aligned(usize),
     Draw(Ink),
-    /// aligned drawing to the left; the other alignments the Rust measures by another path
-    DrawAligned(Ink),
-    /// the redraw step, which the Rust has not: step.rs makes it of drawings
-    Redraw(Ink),
+    /// aligned drawing, of which the Rust judges Left alone: it measures the lines of the others by another path
+    DrawAligned(usize, Ink),
+    /// the redraw step, which the Rust has not: step.rs makes it of plain drawings
+    Redraw(usize, Ink),
 }
 
 impl Call {
-    pub const NAMES: [&'static str; 8] = [
+    pub const NAMES: [&'static str; 12] = [
         "open",
         "font box",
         "measure",
@@ -53,9 +53,14 @@ impl Call {
         "draw, transparent",
         "draw, background",
         "draw aligned, Left",
-        "redraw",
+        "draw aligned, Center",
+        "draw aligned, Right",
+        "redraw, Left",
+        "redraw, Center",
+        "redraw, Right",
     ];
 
+    /// those that are compared with the Rust
     pub const ALL: [Call; 15] = [
         Call::Open,
         Call::FontBox(0),
@@ -68,10 +73,22 @@ impl Call {
         Call::Aligned(2),
         Call::Draw(Ink::Transparent),
         Call::Draw(Ink::WithBackground),
-        Call::DrawAligned(Ink::Transparent),
-        Call::DrawAligned(Ink::WithBackground),
-        Call::Redraw(Ink::Transparent),
-        Call::Redraw(Ink::WithBackground),
+        Call::DrawAligned(0, Ink::Transparent),
+        Call::DrawAligned(0, Ink::WithBackground),
+        Call::Redraw(0, Ink::Transparent),
+        Call::Redraw(0, Ink::WithBackground),
+    ];
+
+    /// those that the Rust is no judge of
+    pub const OURS: [Call; 8] = [
+        Call::DrawAligned(1, Ink::Transparent),
+        Call::DrawAligned(1, Ink::WithBackground),
+        Call::DrawAligned(2, Ink::Transparent),
+        Call::DrawAligned(2, Ink::WithBackground),
+        Call::Redraw(1, Ink::Transparent),
+        Call::Redraw(1, Ink::WithBackground),
+        Call::Redraw(2, Ink::Transparent),
+        Call::Redraw(2, Ink::WithBackground),
     ];
 
     pub fn name(self) -> usize {
@@ -82,14 +99,14 @@ impl Call {
             Call::Aligned(_) => 3,
             Call::Draw(Ink::Transparent) => 4,
             Call::Draw(Ink::WithBackground) => 5,
-            Call::DrawAligned(_) => 6,
-            Call::Redraw(_) => 7,
+            Call::DrawAligned(align, _) => 6 + align,
+            Call::Redraw(align, _) => 9 + align,
         }
     }
 
     pub fn ink(self) -> Option<Ink> {
         match self {
-            Call::Draw(ink) | Call::DrawAligned(ink) | Call::Redraw(ink) => Some(ink),
+            Call::Draw(ink) | Call::DrawAligned(_, ink) | Call::Redraw(_, ink) => Some(ink),
             _ => None,
         }
     }
@@ -153,7 +170,7 @@ impl Case {
             return Some(3);
         }
         let bad = |text: &[u8]| text.len() > 4096 || std::str::from_utf8(text).is_err();
-        if bad(&self.text) || matches!(call, Call::Redraw(_)) && bad(&self.old_text) {
+        if bad(&self.text) || matches!(call, Call::Redraw(..)) && bad(&self.old_text) {
             return Some(4);
         }
         let places = -1_048_576..=1_048_576;

@@ -23,7 +23,7 @@ pub enum Verdict {
     Different(String),
 }
 
-fn outcome_name(answer: &Answer) -> &'static str {
+pub fn outcome_name(answer: &Answer) -> &'static str {
     match answer {
         Answer::Open(_) => "ok",
         Answer::FontBox(_) | Answer::Text { bounds: Some(_), .. } | Answer::Bounds(Some(_)) => "ok with a box",
@@ -70,7 +70,7 @@ pub fn verdict(case: &Case, call: Call, ours: &Outcome, measured: &Outcome) -> V
     // a step is counted by whether there was a reading to clear
     let mut over = "";
     let rust = match call {
-        Call::Redraw(ink) => {
+        Call::Redraw(_, ink) => {
             let step = step::of_drawings(case, ink, rust_side::call);
             match &step.old {
                 Answer::Panicked { site, .. } if LISTED.contains(&site.as_str()) && !case.has_width_8() => {
@@ -154,7 +154,9 @@ impl Tally {
             }
             println!("  {n:>9}  {what}");
         }
-        println!("where the Rust panicked and ours is number 8");
+        if !self.sites.is_empty() {
+            println!("where the Rust panicked and ours is number 8");
+        }
         for (site, n) in &self.sites {
             println!("  {n:>9}  {site}");
         }

@@ -72,14 +72,13 @@ pub fn call(case: &Case, call: Call) -> Outcome {
             reported(report, |b| Answer::Bounds(b.map(area)))
         }
         Call::Draw(ink) => reported(font.render(&case.text, position, anchor, color_of(ink), &mut framebuffer), text_answer),
-        Call::DrawAligned(ink) => {
-            let left = HorizontalAlignment::Left;
-            let report = font.render_aligned(&case.text, position, anchor, left, color_of(ink), &mut framebuffer);
+        Call::DrawAligned(align, ink) => {
+            let report = font.render_aligned(&case.text, position, anchor, ALIGNS[align], color_of(ink), &mut framebuffer);
             reported(report, |b| Answer::Bounds(b.map(area)))
         }
-        Call::Redraw(ink) => {
-            let place =
-                Place { vertical_pos: anchor, background: case.clear_color, ..Place::new(position, color_of(ink)) };
+        Call::Redraw(align, ink) => {
+            let (horizontal_align, background) = (ALIGNS[align], case.clear_color);
+            let place = Place { position, vertical_pos: anchor, horizontal_align, color: color_of(ink), background };
             reported(font.redraw(&case.old_text, &case.text, place, &mut framebuffer), text_answer)
         }
     };

@@ -20,6 +20,7 @@ mod step;
 mod sums;
 
 use case::{Call, Case, Outcome};
+use compare::Verdict;
 
 fn run(seed: u64, count: u64, mut ours: impl FnMut(&Case, Call) -> Outcome) -> bool {
     let mut cases = generate::Cases::new(seed);
@@ -38,23 +39,26 @@ fn run(seed: u64, count: u64, mut ours: impl FnMut(&Case, Call) -> Outcome) -> b
     tally.different.is_empty()
 }
 
-/// Compares the library with the model on every case.
+/// Compares the library with the model on every case, with each alignment.
 fn own(seed: u64, count: u64, mut model: model_side::Model) -> bool {
     let mut cases = generate::Cases::new(seed);
-    let mut different = 0;
+    let mut tally = compare::Tally::default();
     for _ in 0..count {
         let case = cases.next();
         let measured = linked::call(&case, Call::Measure);
-        for call in Call::ALL {
+        for call in Call::ALL.into_iter().chain(Call::OURS) {
             let ours = linked::call(&case, call);
-            if !ours.same(&model.call(&case, call)) || sums::wrong(&case, call, &ours, &measured).is_some() {
-                different += 1;
+            let name = compare::outcome_name(&ours.answer).to_string();
+            let same = ours.same(&model.call(&case, call)) && sums::wrong(&case, call, &ours, &measured).is_none();
+            if !same {
                 println!("{call:?}\n{case}");
             }
+            tally.add(&case, call, if same { Verdict::Same(name) } else { Verdict::Different(name) });
         }
     }
-    println!("seed {seed}, {count} cases, {} calls, {different} differences", count * Call::ALL.len() as u64);
-    different == 0
+    println!("seed {seed}, {count} cases");
+    tally.print();
+    tally.different.is_empty()
 }
 
 fn main() {

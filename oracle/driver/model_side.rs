@@ -4,7 +4,6 @@ use std::io::{BufRead, BufReader, Write};
 use std::process::{Child, ChildStdin, ChildStdout, Command, Stdio};
 
 use crate::case::{Answer, Area, Call, Case, Ink, Outcome};
-use crate::step;
 
 pub struct Model {
     _child: Child,
@@ -26,23 +25,27 @@ impl Model {
     }
 
     pub fn call(&mut self, case: &Case, call: Call) -> Outcome {
-        if let Call::Redraw(ink) = call {
-            return step::of_drawings(case, ink, |c, call| self.call(c, call)).outcome;
-        }
-        let (kind, which) = match call {
-            Call::Open => (0, 0),
-            Call::FontBox(anchor) => (1, anchor),
-            Call::Measure => (2, 0),
-            Call::Aligned(align) => (3, align),
-            Call::Draw(ink) | Call::DrawAligned(ink) | Call::Redraw(ink) => (4, (ink == Ink::WithBackground) as usize),
+        let (kind, anchor, align) = match call {
+            Call::Open => (0, 0, 0),
+            Call::FontBox(anchor) => (1, anchor, 0),
+            Call::Measure => (2, case.anchor, 0),
+            Call::Aligned(align) => (3, case.anchor, align),
+            Call::Draw(_) => (4, case.anchor, 0),
+            Call::Redraw(align, _) => (5, case.anchor, align),
+            Call::DrawAligned(align, _) => (6, case.anchor, align),
         };
+        let ground = (call.ink() == Some(Ink::WithBackground)) as u8;
         let hex = |v: &[u8]| v.iter().map(|b| format!("{b:02x}")).collect::<String>();
-        let buffer: &[u8] = if kind == 4 { &case.buffer } else { &[] };
+        let (old_text, buffer): (&[u8], &[u8]) = match kind {
+            5 => (&case.old_text, &case.buffer),
+            4 | 6 => (&[], &case.buffer),
+            _ => (&[], &[]),
+        };
         writeln!(
             self.to,
-            "{kind} {which} {} {} {} {} {} {} {} {} {} f{} t{} b{}",
-            case.x, case.y, case.anchor, case.line_height, case.skip as u8, case.fg, case.bg, case.width, case.height,
-            hex(&case.font), hex(&case.text), hex(buffer)
+            "{kind} {anchor} {align} {ground} {} {} {} {} {} {} {} {} {} f{} t{} o{} b{}",
+            case.x, case.y, case.line_height, case.skip as u8, case.fg, case.bg, case.clear_color, case.width, case.height,
+            hex(&case.font), hex(&case.text), hex(old_text), hex(buffer)
         )
         .expect("the model reads");
         self.to.flush().expect("the model reads");
@@ -50,7 +53,7 @@ impl Model {
         self.from.read_line(&mut line).expect("the model answers");
         let mut words = line.split_whitespace();
         let mut bytes = Vec::new();
-        if kind == 4 {
+        if kind >= 4 {
             let cells = words.next().expect("the framebuffer");
             bytes = (1..cells.len()).step_by(2).map(|i| u8::from_str_radix(&cells[i..i + 2], 16).unwrap()).collect();
         }
@@ -79,11 +82,10 @@ impl Model {
                 Answer::Open(values)
             }
             Call::FontBox(_) => Answer::FontBox(area(0).expect("a box")),
-            Call::Measure | Call::Draw(_) | Call::Redraw(_) => {
+            Call::Measure | Call::Draw(_) | Call::Redraw(..) => {
                 Answer::Text { advance: (number(0) as i32, number(1) as i32), bounds: area(2) }
             }
-            Call::Aligned(_) => Answer::Bounds(area(0)),
-            Call::DrawAligned(_) => Answer::Bounds(area(2)),
+            Call::Aligned(_) | Call::DrawAligned(..) => Answer::Bounds(area(0)),
         };
         Outcome { answer, buffer: bytes, steps }
     }

@@ -94,7 +94,7 @@ pub fn record(seed: u64, count: u64) {
         }
         case.buffer = filled(case.fg / 2, case.width * case.height);
         for call in Call::ALL {
-            if case.off_limits(call).is_some() || matches!(call, Call::DrawAligned(_) | Call::Redraw(_)) {
+            if case.off_limits(call).is_some() || matches!(call, Call::DrawAligned(..) | Call::Redraw(..)) {
                 continue;
             }
             if case.has_width_8() && !matches!(call, Call::Open | Call::FontBox(_)) {
@@ -120,7 +120,9 @@ pub fn record(seed: u64, count: u64) {
             Call::FontBox(anchor) => (1, anchor, 0, 0),
             Call::Measure => (2, case.anchor, 0, 0),
             Call::Aligned(align) => (3, case.anchor, align, 0),
-            Call::Draw(ink) | Call::DrawAligned(ink) | Call::Redraw(ink) => (4, case.anchor, 0, (ink == Ink::WithBackground) as usize),
+            Call::Draw(ink) | Call::DrawAligned(_, ink) | Call::Redraw(_, ink) => {
+                (4, case.anchor, 0, (ink == Ink::WithBackground) as usize)
+            }
         };
         println!(
             "{kind} | {number} {anchor} {align} {ink} {} {} {} {} {} {} {} {} {} | {} | {} | {} | {}",

@@ -136,9 +136,10 @@ pub unsafe fn lent(font: &[u8]) -> &'static [u8] {
     &*(font as *const [u8])
 }
 
-/// What the Rust answers to a call that is within limits.
+/// What the Rust answers to a call that is within limits, and that it is a judge of.
 pub fn call(case: &Case, call: Call) -> Outcome {
-    if let Call::Redraw(ink) = call {
+    assert!(!Call::OURS.contains(&call));
+    if let Call::Redraw(_, ink) = call {
         return step::of_drawings(case, ink, self::call).outcome;
     }
     // The renderer below lives no longer than this function, and the font longer.
@@ -165,10 +166,10 @@ pub fn call(case: &Case, call: Call) -> Outcome {
         Call::Aligned(align) => renderer()
             .get_rendered_dimensions_aligned(text(), position, anchor, alignment_of(align))
             .map_or_else(missing, |b| Answer::Bounds(b.map(area_of))),
-        Call::Draw(ink) | Call::Redraw(ink) => {
+        Call::Draw(ink) | Call::Redraw(_, ink) => {
             renderer().render(text(), position, anchor, color(ink), &mut display).map_or_else(refusal, text_answer)
         }
-        Call::DrawAligned(ink) => renderer()
+        Call::DrawAligned(_, ink) => renderer()
             .render_aligned(text(), position, anchor, HorizontalAlignment::Left, color(ink), &mut display)
             .map_or_else(refusal, |b| Answer::Bounds(b.map(area_of))),
     }))

@@ -18,7 +18,7 @@ pub fn wrong(case: &Case, call: Call, ours: &Outcome, measured: &Outcome) -> Opt
         return ((records, entries) != (0, 0)).then_some("sums with a refusal other than 7");
     }
     // the step skips nothing, so that its input is another one where the case does
-    let same_input = !(case.skip && matches!(call, Call::Redraw(_)));
+    let same_input = !(case.skip && matches!(call, Call::Redraw(..)));
     if same_input && alike(&ours.answer, &measured.answer) && ours.steps != measured.steps {
         return Some("other sums than measuring has");
     }

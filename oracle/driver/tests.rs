@@ -141,7 +141,7 @@ fn outcome(answer: Answer, steps: Option<(u32, u32)>) -> Outcome {
 fn sums_that_cannot_be() {
     let case = Case { skip: false, ..some_case(vec![0; 31], b"a\nb") };
     let refused = |number, code_point| Answer::Refused { number, code_point };
-    let found = |ours: &Outcome, measured: &Outcome| sums::wrong(&case, Call::Redraw(Ink::Transparent), ours, measured);
+    let found = |ours: &Outcome, measured: &Outcome| sums::wrong(&case, Call::Redraw(0, Ink::Transparent), ours, measured);
     let success = outcome(Answer::Bounds(None), Some((16, 4)));
     assert_eq!(found(&success, &success), None);
     // the answers of two calls are alike in kind, and the sums must be equal
@@ -155,7 +155,7 @@ fn sums_that_cannot_be() {
     assert_eq!(found(&missing(97, (1, 0)), &missing(97, (2, 0))), Some("other sums than measuring has"));
     // a step of a case that skips has another input
     let skips = Case { skip: true, ..case.clone() };
-    assert_eq!(sums::wrong(&skips, Call::Redraw(Ink::Transparent), &drawn((15, 4)), &success), None);
+    assert_eq!(sums::wrong(&skips, Call::Redraw(0, Ink::Transparent), &drawn((15, 4)), &success), None);
     assert!(sums::wrong(&skips, Call::Draw(Ink::Transparent), &drawn((15, 4)), &success).is_some());
     // only 7 has sums among the refusals
     for number in [1, 2, 3, 4, 5, 6, 8] {

@@ -10,6 +10,7 @@ use measuring::rendered_dimensions::get_rendered_dimensions;
 use measuring::rendered_dimensions_aligned::get_rendered_dimensions_aligned;
 use redraw::reading::redraw;
 use renderer::render::render;
+use renderer::render_aligned::render_aligned;
 use types::framebuffer::Framebuffer;
 use types::geometry::BoundingBox;
 use types::geometry::Point;
@@ -135,7 +136,34 @@ fn byte(file: &[u8], at: usize) -> u8 {
     (number(file, at) % 256) as u8
 }
 
-// Draws the text. A step has two, one behind the other: it clears the first and draws the second.
+// The step. Its two texts stand one behind the other: it clears the first and draws the second.
+fn redraw_texts(
+    file: &[u8],
+    at: usize,
+    font: &[u8],
+    texts: &[u8],
+    placement: Placement,
+    style: FontStyle,
+    align: HorizontalAlignment,
+    framebuffer: Framebuffer,
+    buffer: &mut [u8],
+) -> DimensionsReport
+    requires { ⌜ at ≤ 1048576 ⌝ }
+{
+    let old_len = least(number(file, at + 56) as usize, texts.len());
+    let position = placement.position;
+    let place = Place {
+        position,
+        style,
+        horizontal_align: align,
+        line_height: placement.line_height,
+        background: byte(file, at + 60),
+        framebuffer,
+    };
+    redraw(font, &texts[..old_len], &texts[old_len..], place, buffer)
+}
+
+// Draws the text, plain or aligned, or makes the step of two texts; prints the answer.
 fn draw_or_redraw(
     file: &[u8],
     at: usize,
@@ -144,26 +172,39 @@ fn draw_or_redraw(
     placement: Placement,
     style: FontStyle,
     buffer: &mut [u8],
-) -> DimensionsReport
+)
     requires { ⌜ at ≤ 1048576 ⌝ }
 {
+    let kind = number(file, at);
+    let align = horizontal_align(number(file, at + 16));
     let framebuffer = Framebuffer {
         width: number(file, at + 40) as usize,
         height: number(file, at + 44) as usize,
     };
-    if number(file, at) % SUMS == 4 {
-        return render(font, text, placement, style, framebuffer, buffer);
+    match kind % SUMS {
+        4 => print_dimensions(
+            kind,
+            render(font, text, placement, style, framebuffer, buffer),
+        ),
+        6 => print_aligned(
+            kind,
+            render_aligned(font, text, placement, style, align, framebuffer, buffer),
+        ),
+        _ => print_dimensions(
+            kind,
+            redraw_texts(
+                file,
+                at,
+                font,
+                text,
+                placement,
+                style,
+                align,
+                framebuffer,
+                buffer,
+            ),
+        ),
     }
-    let old_len = least(number(file, at + 56) as usize, text.len());
-    let position = placement.position;
-    let place = Place {
-        position,
-        style,
-        line_height: placement.line_height,
-        background: byte(file, at + 60),
-        framebuffer,
-    };
-    redraw(font, &text[..old_len], &text[old_len..], place, buffer)
 }
 
 // Draws on a framebuffer with the contents that the case asks for, and prints the answer and the framebuffer.
@@ -189,8 +230,7 @@ fn answer_draw(
     let height = number(file, at + 44) as usize;
     let fill = byte(file, at + 48);
     framebuffers::fill(&mut buffer[..], fill);
-    let report = draw_or_redraw(file, at, font, text, placement, style, &mut buffer[..]);
-    print_dimensions(number(file, at), report);
+    draw_or_redraw(file, at, font, text, placement, style, &mut buffer[..]);
     framebuffers::print(&buffer[..], fill, width, height);
 }
 

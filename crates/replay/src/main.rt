@@ -65,7 +65,7 @@ fn replay_all(
 }
 
 fn main() {
-    let mut file = [0u8; 262400];
+    let mut file = font_file::buffer();
     let mut font = font_file::buffer();
     let mut text = [0u8; 4200];
     let mut label = [0u8; 128];
