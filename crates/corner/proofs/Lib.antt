@@ -1,2 +1,4 @@
+pub mod AlikeLaws
+pub mod NearLaws
 pub mod WholeLaws
 pub mod CornerLaws
