@@ -17,7 +17,7 @@ use Rattle.corner.specs.Corners.{Measured, Framed}
 pub corner-low : {font text : List ℕ} {s : Setting} {r : Rectangle} → Measured font text s r → (negsuc 1048575 ≤ℤ left r) × (negsuc 1048575 ≤ℤ top r)
 corner-low {font} {text} {s} {r} m =
     let n = near font text s (m .advance) r (m .low) (m .box) in
-    (omega (zarith, n .low), omega (zarith, n .row .low))
+    (omega zarith, omega zarith)
 
 module _ (font text : List ℕ) (s : Setting) (color : FontColor) (r : Rectangle) (x y : ℤ) (p : Framebuffer) (pixels : List ℕ)
     (at-x : x ≡ pos 0 -ℤ left r) (at-y : y ≡ pos 0 -ℤ top r) (m : Measured font text s r) (f : Framed r p (length pixels)) where

@@ -28,17 +28,18 @@ use Rattle.definitions.proofs.Utf8Laws.{utf8-characters, character-count}
 use Rattle.definitions.proofs.Agreement.{dimensions-success}
 use Rattle.definitions.proofs.MovedLaws.{movedPoint, movedDimensions, dimensions-moved, text-moved}
 use Rattle.corner.proofs.AlikeLaws.{AlikeOrCut, alike-or-cut}
-use Rattle.corner.proofs.NearLaws.{Between, Near, NearPlace, near-left, near-text}
+use Rattle.corner.proofs.NearLaws.{Between, Near}
+use Rattle.corner.proofs.NearTexts.{NearPlace, near-left, near-text}
 
 few-characters : (text : List ℕ) → (ltb 4096 (length text) || not (isUtf8 (decode text))) ≡ false → length (codePointsOf text) ≤ 4096
 few-characters text e =
     let l = or-false (ltb 4096 (length text)) (not (isUtf8 (decode text))) e in
     omega (arith, ltb-false 4096 (length text) (l .0), character-count text (utf8-characters (decode text) (not-false (isUtf8 (decode text)) (l .1))))
 
-coordinate-in : {z : ℤ} → Between 1048576 1048576 z → coordinateOff (pos 0 -ℤ z) ≡ false
-coordinate-in {z} h =
-    let a : ltZ (pos 0 -ℤ z) (negsuc 1048575) ≡ false = omega (zarith, h .high, minus (pos 0) z) in
-    let b : ltZ (pos 1048576) (pos 0 -ℤ z) ≡ false = omega (zarith, h .low, minus (pos 0) z) in
+coordinate-in : (z : ℤ) → Between 1048576 1048576 z → coordinateOff (pos 0 -ℤ z) ≡ false
+coordinate-in z h =
+    let a : ltZ (pos 0 -ℤ z) (negsuc 1048575) ≡ false = omega (zarith, minus (pos 0) z) in
+    let b : ltZ (pos 1048576) (pos 0 -ℤ z) ≡ false = omega (zarith, minus (pos 0) z) in
     rw (a, b)
 
 side-in : (n : ℕ) → 1 ≤ n → n ≤ 256 → sideOff n ≡ false
@@ -78,7 +79,7 @@ module _ (font text : List ℕ) (s : Setting) (advance : Point) (r : Rectangle) 
       (near-text font (measuredAnswer (u8g2 font) false) ranges (s .align) (s .«line_height») low (codePointsOf text) (few-characters text (passes .text-in)))
 
   stands : positionCause (opposite r) (s .«line_height») .applies ≡ false
-  stands = rw (coordinate-in (near-left near), coordinate-in (near .row), le-ltb 65535 (s .«line_height») (omega arith))
+  stands = rw (coordinate-in (left r) (near-left near), coordinate-in (top r) (near .from-top), le-ltb 65535 (s .«line_height») (omega arith))
 
   -- what the letters come to, once they are drawn there
   abbrev answers : Outcome RenderedDimensions
