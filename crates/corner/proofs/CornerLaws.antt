@@ -11,7 +11,7 @@ use Rattle.definitions.specs.Calls.{draw, drawBuffer}
 use Rattle.corner.specs.declared.Setting.{Setting}
 use Rattle.corner.specs.Whole.{whole, measuredAtZero, opposite, drawnWhole, shownWhole, boxed, SeenWhole}
 use Rattle.corner.proofs.WholeLaws.{near, seen-whole}
-use Rattle.corner.specs.Corners.{Measured, Framed}
+use Rattle.corner.specs.Corners.{Measured, Framed, CornerDrawn}
 
 -- so that the opposite of the corner fits
 pub corner-low : {font text : List ℕ} {s : Setting} {r : Rectangle} → Measured font text s r → (negsuc 1048575 ≤ℤ left r) × (negsuc 1048575 ≤ℤ top r)
@@ -24,13 +24,7 @@ module _ (font text : List ℕ) (s : Setting) (color : FontColor) (r : Rectangle
   place : point x y ≡ opposite r
   place = cc (at-x, at-y)
 
-  pub call-answers : draw (u8g2 font) (whole text s (point x y)) color p pixels ≡ drawnWhole font text s color r pixels
-  call-answers = rw (place, f .width-is, f .height-is)
-
-  pub call-shows : drawBuffer (u8g2 font) (whole text s (point x y)) color p pixels ≡ shownWhole font text s color r pixels
-  call-shows = rw (place, f .width-is, f .height-is)
-
-  pub call-seen : {o : Outcome RenderedDimensions} → o ≡ drawnWhole font text s color r pixels
+  call-seen : {o : Outcome RenderedDimensions} → o ≡ drawnWhole font text s color r pixels
       → (advance : Point) → measuredAtZero font text s ≡ success (boxed advance r) → SeenWhole advance r o
   call-seen e advance k =
       subst (SeenWhole advance r) (sym e)
@@ -38,3 +32,12 @@ module _ (font text : List ℕ) (s : Setting) (color : FontColor) (r : Rectangle
       (subst (λ (n : ℕ). n ≤ 256) (f .width-is) (f .wide))
       (subst (λ (n : ℕ). n ≤ 256) (f .height-is) (f .high))
       (f .area ∙ rw (f .width-is, f .height-is)))
+
+  -- what the call came to and left
+  module _ {after : List ℕ} {o : Outcome RenderedDimensions} (answered : o ≡ draw (u8g2 font) (whole text s (point x y)) color p pixels)
+      (shown : after ≡ drawBuffer (u8g2 font) (whole text s (point x y)) color p pixels) where
+    answers : o ≡ drawnWhole font text s color r pixels
+    answers = answered ∙ rw (place, f .width-is, f .height-is)
+
+    pub corner-drawn : CornerDrawn font text s color r pixels after o
+    corner-drawn = record { answered = answers; shown = shown ∙ rw (place, f .width-is, f .height-is); seen = call-seen answers }
