@@ -78,10 +78,7 @@ fn draw_input(font: &[u8], options: Options, input: i32) {
 pub fn start(options: Options, input: i32) {
     if !options.known {
         printing::text(
-            b"draw: the arguments are pgm (the image goes into draw.pgm), background (glyphs",
-        );
-        printing::text(
-            b" with a background colour), and left, center or right (the lines are aligned)\n",
+            b"draw: the arguments are pgm (the image goes into draw.pgm), background (behind the glyphs), and left, center or right\n",
         );
         return;
     }
