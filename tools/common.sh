@@ -119,15 +119,20 @@ cause() { # NUMBER CODE POINT
   esac
 }
 
-# What an answer's numbers are.
+# What an answer's numbers are: ok [X Y] LEFT TOP WIDTH HEIGHT, or none for the last four. Only an aligned call leaves X Y out.
 explain() { # ANSWER, PLACE
-  local x y left top width height
-  read -r _ x y left top width height <<< "$1"
-  if [ "$left" = none ]; then
-    say "advance x $x, y $y; no pixel, so no bounding box; $2"
-  else
-    say "advance x $x, y $y; bounding box left $left, top $top, width $width, height $height; $2"
+  local numbers advance="no advance, since the lines are aligned" box="no pixel, so no bounding box"
+  read -ra numbers <<< "${1#ok }"
+  case ${#numbers[@]} in
+    3 | 6)
+      advance="advance x ${numbers[0]}, y ${numbers[1]}"
+      numbers=("${numbers[@]:2}")
+      ;;
+  esac
+  if [ "${numbers[0]-}" != none ]; then
+    box="bounding box left ${numbers[0]}, top ${numbers[1]}, width ${numbers[2]}, height ${numbers[3]}"
   fi
+  say "$advance; $box; $2"
 }
 
 # Removes the pictures of an earlier run from this folder, so that none can be taken for this run's.

@@ -16,6 +16,8 @@ INK, BACKGROUND = 0, 255
 CAUSES = {
     1: "the font has fewer than 23 or more than 1,048,576 bytes",
     2: "the font's header is damaged",
+    4: "the text has more than 4,096 bytes or is not UTF-8",
+    6: "the font allows no background colour",
     7: "the font has no glyph for ",
     8: "the font ends before the glyph for ",
 }

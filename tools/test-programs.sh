@@ -1,8 +1,8 @@
 #!/usr/bin/env bash
 # Runs measure-text, draw-text and draw-sheet with right and wrong arguments, damaged fonts, and files that cannot be read or
 # written, and compares the exit status and words of what they print: tools/test-programs.sh [model]. With the word model the
-# sheet's program is its model in Python, tools/sheet_model.py; without it the program is held to the model. Ends with 0 only if
-# all is right.
+# sheet's program is its model in Python, tools/sheet_model.py; without it the program is held to the model. The drawing program is
+# held to its model, tools/draw_model.py, either way. Ends with 0 only if all is right.
 set -u
 root=$(dirname "$(dirname "$(readlink -f "$0")")")
 work=$(mktemp -d) || exit 2
@@ -173,6 +173,38 @@ gone draw.png
 mkdir draw.png
 check 2 "draw.png is a folder" "$draw" 5 png
 rmdir draw.png
+
+echo "--- draw-text, aligned"
+lines=$'-1.5°\n\n7. \n '
+check 0 "ok 0 0 25 27" "$draw" "$lines" left
+check 0 "........#####............" "$draw" "$lines" center
+check 0 ".............:#:::.##...." "$draw" "$lines" background right
+check 0 "no advance, since the lines are aligned; bounding box left 0, top 0, width 25, height 27; in gauge.bin" "$draw" "$lines" center
+check 0 "no advance, since the lines are aligned; no pixel, so no bounding box; in gauge.bin" "$draw" $'\n ' right
+check 0 ".............#####......." "$draw" "$lines" left center right
+check 1 "the font has no glyph for '~' (U+007E)" "$draw" $'7\n7~' center
+check 1 "the text takes 599 by 17 pixels" "$draw" "$(printf '7\n%0100d' 5)" right
+check 2 "there is no font file 'centre'" "$draw" 5 centre
+check 0 "the picture is draw.png" "$draw" "$lines" center png
+size_is 100 108 draw.png
+rm draw.png
+
+echo "--- the drawings of the program and those of the model"
+for font in gauge t symbols no-background ends header; do
+  for file in "$root/fonts/$font.bin" "$font.bin"; do
+    [ ! -e "$file" ] || cp "$file" font.bin
+  done
+  for words in "" left center right "background right"; do
+    right=yes
+    for text in "$lines" $'-4\n4\n--' $'\n\n' $' 7\n-\n~' $'7\n\xff' "$(printf '1\n%0100d' 5)"; do
+      # shellcheck disable=SC2086
+      "$programs/draw" $words < <(printf '%s' "$text") > "$work/said"
+      # shellcheck disable=SC2086
+      python3 -B "$root/tools/draw_model.py" $words < <(printf '%s' "$text") | cmp - "$work/said" || right=no
+    done
+    report "$right" "the same words and pictures: $font $words"
+  done
+done
 
 echo "--- draw-sheet"
 check 0 "901 readings: 901 seen whole, 0 in part, 0 not at all, 0 refused; 0 with a difference" "$sheet"

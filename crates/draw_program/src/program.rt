@@ -15,8 +15,14 @@ use types::error::Error;
 use types::geometry::RenderedDimensions;
 use types::geometry::Size;
 
-fn answer(dimensions: RenderedDimensions) {
-    printing::dimensions(dimensions);
+// The call's answer: an aligned one has no advance.
+fn answer(dimensions: RenderedDimensions, aligned: bool) {
+    if aligned {
+        let bounding_box = dimensions.bounding_box;
+        printing::bounding_box(bounding_box);
+    } else {
+        printing::dimensions(dimensions);
+    }
     printing::text(b"\n");
 }
 
@@ -31,12 +37,12 @@ fn show_pixels(size: Size, pgm: bool, pixels: &[u8])
     print_rows(pixels, size.width as usize, size.height as usize);
 }
 
-fn show_drawn(dimensions: RenderedDimensions, size: Size, pgm: bool, buffer: &[u8])
+fn show_drawn(dimensions: RenderedDimensions, size: Size, options: Options, buffer: &[u8])
     requires { ⌜ Small size × (length (now buffer) ≡ 65536) ⌝ }
 {
-    answer(dimensions);
+    answer(dimensions, options.aligned);
     let n = (size.width as usize) * (size.height as usize);
-    show_pixels(size, pgm, &buffer[..n]);
+    show_pixels(size, options.pgm, &buffer[..n]);
 }
 
 fn show_too_large(size: Size) {
@@ -47,14 +53,14 @@ fn show_too_large(size: Size) {
     printing::text(b" pixels, and a framebuffer has at most 256 by 256\n");
 }
 
-fn show(drawing: DrawResult, pgm: bool, buffer: &[u8])
+fn show(drawing: DrawResult, options: Options, buffer: &[u8])
     requires { ⌜ Showable drawing × (length (now buffer) ≡ 65536) ⌝ }
 {
     match drawing {
         DrawResult::Refused(error) => printing::refusal_line(error),
-        DrawResult::Blank(dimensions) => answer(dimensions),
+        DrawResult::Blank(dimensions) => answer(dimensions, options.aligned),
         DrawResult::TooLarge(rectangle) => show_too_large(rectangle.size),
-        DrawResult::Drawn(dimensions, size) => show_drawn(dimensions, size, pgm, buffer),
+        DrawResult::Drawn(dimensions, size) => show_drawn(dimensions, size, options, buffer),
     }
 }
 
@@ -63,14 +69,16 @@ fn draw_input(font: &[u8], options: Options, input: i32) {
     let mut text = [0u8; 4097];
     let n = io::read_full(input, &mut text);
     let mut buffer = [EMPTY; 65536];
-    let drawing = draw_whole(font, &text[..n], color(options.background), &mut buffer);
-    show(drawing, options.pgm, &buffer);
+    let align = options.align;
+    let color = color(options.background);
+    let drawing = draw_whole(font, &text[..n], align, color, &mut buffer);
+    show(drawing, options, &buffer);
 }
 
 pub fn start(options: Options, input: i32) {
-    if !options.right {
+    if !options.known {
         printing::text(
-            b"draw: the arguments are pgm (the image goes into draw.pgm) and background (glyphs with a background colour)\n",
+            b"draw: the arguments are pgm (the image goes into draw.pgm), background (behind the glyphs), and left, center or right\n",
         );
         return;
     }

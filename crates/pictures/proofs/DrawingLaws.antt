@@ -10,6 +10,7 @@ use Rattle.definitions.specs.Text.{dimensions}
 use Rattle.definitions.specs.Limits.{textCause, positionCause}
 use Rattle.definitions.specs.Font.{u8g2}
 use Rattle.definitions.specs.Calls.{openFont, measuredText, measure}
+use Rattle.corner.specs.declared.Setting.{Setting}
 use Rattle.corner.specs.Whole.{roomFor, atZero, whole, measuredAtZero, SeenWhole}
 use Rattle.definitions.proofs.OpenedLaws.{opened, open-refused}
 use Rattle.corner.specs.Corners.{Measured, Framed, CornerDrawn}
@@ -26,11 +27,11 @@ module _ (r : Rectangle) (before : List ℕ) (wide : r .size .width ≤ 256) (hi
   pub framed : Framed r (roomFor r) (length (take (area r) before))
   framed = record { width-is = refl; height-is = refl; wide = wide; high = high; area = part-length }
 
-  module _ {font text : List ℕ} {lineHeight : ℕ} (color : FontColor) (m : Measured font text lineHeight r) where
+  module _ {font text : List ℕ} {s : Setting} (color : FontColor) (m : Measured font text s r) where
     -- the call's answer, read, and the pixels it left
     pub called : {after : List ℕ} {answer o : Outcome RenderedDimensions} → answer ≡ o
-        → CornerDrawn font text lineHeight color r (take (area r) before) after answer
-        → Called font text lineHeight color before (after ++ drop (area r) before) r o
+        → CornerDrawn font text s color r (take (area r) before) after answer
+        → Called font text s color before (after ++ drop (area r) before) r o
     called {after} {answer} {o} is c = record {
       advance = m .advance;
       measured = m .box;
@@ -42,13 +43,13 @@ module _ (r : Rectangle) (before : List ℕ) (wide : r .size .width ≤ 256) (hi
     }
 
 -- a drawing that succeeded
-pub is-drawn : {font text before after : List ℕ} {lineHeight : ℕ} {color : FontColor} {r : Rectangle} {d : RenderedDimensions}
-    → Called font text lineHeight color before after r (success d) → IsDrawn font text lineHeight color before after d (r .size)
+pub is-drawn : {font text before after : List ℕ} {s : Setting} {color : FontColor} {r : Rectangle} {d : RenderedDimensions}
+    → Called font text s color before after r (success d) → IsDrawn font text s color before after d (r .size)
 is-drawn {r = r} c = record { box = r; size-is = refl; called = c }
 
 -- a measuring that succeeded with a box
-pub measured-box : {font text : List ℕ} {lineHeight : ℕ} {answer : Outcome RenderedDimensions} {d : RenderedDimensions} {r : Rectangle}
-    → lineHeight ≤ 128 → answer ≡ measuredAtZero font text lineHeight → answer ≡ success d → d .«bounding_box» ≡ Some r → Measured font text lineHeight r
+pub measured-box : {font text : List ℕ} {s : Setting} {answer : Outcome RenderedDimensions} {d : RenderedDimensions} {r : Rectangle}
+    → s .«line_height» ≤ 128 → answer ≡ measuredAtZero font text s → answer ≡ success d → d .«bounding_box» ≡ Some r → Measured font text s r
 measured-box {d = d} low call is box = record {
   low = low;
   advance = d .advance;
@@ -57,12 +58,12 @@ measured-box {d = d} low call is box = record {
 
 -- ---- an opened font
 
-module _ (font text : List ℕ) (lineHeight : ℕ) where
-  pub opening-refused : {n c : ℕ} → openFont font ≡ refused n c → measuredAtZero font text lineHeight ≡ refused n c
+module _ (font text : List ℕ) (s : Setting) where
+  pub opening-refused : {n c : ℕ} → openFont font ≡ refused n c → measuredAtZero font text s ≡ refused n c
   unfolding measure
   opening-refused {n} {c} e =
       open-refused font
-      (unlessRefused (textCause text ∷ positionCause atZero lineHeight ∷ []) (dimensions (measuredText (u8g2 font) (whole text lineHeight atZero))))
+      (unlessRefused (textCause text ∷ positionCause atZero (s .«line_height») ∷ []) (dimensions (measuredText (u8g2 font) (whole text s atZero))))
       n c e
 
 low-height : (b : ℕ) → b < 256 → pos 0 ≤ℤ signed8 b → natAbs (signed8 b +ℤ pos 1) ≤ 128

@@ -3,10 +3,12 @@ ghost use mathlib.Core.Path.{_≡_};
 ghost use Prim.Native.Nat.{_≤_};
 ghost use lib.ListN.{length};
 ghost use Rattle.definitions.specs.Header.{header};
+ghost use Rattle.corner.specs.Whole.{settingOf};
 ghost use Rattle.pictures.specs.Drawings.{Buffered, IsDrawing};
+use corner::Setting;
 use corner::draw_at_corner;
 use font_reader::new_from_raw_data;
-use measuring::rendered_dimensions::get_rendered_dimensions;
+use measuring::aligned_dimensions::aligned_dimensions;
 use types::error::Error;
 use types::framebuffer::Framebuffer;
 use types::geometry::BoundingBox;
@@ -17,6 +19,7 @@ use types::geometry::Size;
 use types::results::DimensionsResult;
 use types::results::FontReaderResult;
 use types::style::FontColor;
+use types::style::HorizontalAlignment;
 use types::style::Placement;
 use types::style::VerticalPosition;
 
@@ -34,13 +37,13 @@ pub enum DrawResult {
 fn draw_box(
     font: &[u8],
     text: &[u8],
-    line_height: u32,
+    setting: Setting,
     rectangle: Rectangle,
     color: FontColor,
     buffer: &mut [u8],
 ) -> DrawResult
-    requires { ⌜ Buffered (now font) (now text) «line_height» rectangle (length (now buffer)) ⌝ }
-    ensures { λ r. ⌜ IsDrawing (now (font .entry)) (now (text .entry)) «line_height» color (now (buffer .entry))
+    requires { ⌜ Buffered (now font) (now text) setting rectangle (length (now buffer)) ⌝ }
+    ensures { λ r. ⌜ IsDrawing (now (font .entry)) (now (text .entry)) setting color (now (buffer .entry))
         (now (buffer .exit)) r ⌝ }
 {
     let size = rectangle.size;
@@ -56,7 +59,7 @@ fn draw_box(
     let answer = draw_at_corner(
         font,
         text,
-        line_height,
+        setting,
         rectangle,
         color,
         Framebuffer { width, height },
@@ -72,20 +75,21 @@ fn draw_box(
 fn draw_measured(
     font: &[u8],
     text: &[u8],
-    line_height: u32,
+    setting: Setting,
     color: FontColor,
     buffer: &mut [u8],
 ) -> DrawResult
-    requires { ⌜ («line_height» ≤ 128) × (length (now buffer) ≡ 65536) ⌝ }
-    ensures { λ r. ⌜ IsDrawing (now (font .entry)) (now (text .entry)) «line_height» color (now (buffer .entry))
+    requires { ⌜ (setting .«line_height» ≤ 128) × (length (now buffer) ≡ 65536) ⌝ }
+    ensures { λ r. ⌜ IsDrawing (now (font .entry)) (now (text .entry)) setting color (now (buffer .entry))
         (now (buffer .exit)) r ⌝ }
 {
     let placement = Placement {
         position: Point { x: 0, y: 0 },
-        line_height,
+        line_height: setting.line_height,
         ignore_unknown_chars: false,
     };
-    let measured = get_rendered_dimensions(font, text, placement, VerticalPosition::Baseline);
+    let align = setting.align;
+    let measured = aligned_dimensions(font, text, placement, VerticalPosition::Baseline, align);
     let result = measured.result;
     match result {
         DimensionsResult::Err(error) => DrawResult::Refused(error),
@@ -94,21 +98,34 @@ fn draw_measured(
             match bounding_box {
                 BoundingBox::None => DrawResult::Blank(dimensions),
                 BoundingBox::Some(rectangle) => {
-                    draw_box(font, text, line_height, rectangle, color, buffer)
+                    draw_box(font, text, setting, rectangle, color, buffer)
                 }
             }
         }
     }
 }
 
-// Draws the text with the font's default line height, into the beginning of a buffer for the largest framebuffer.
-pub fn draw_whole(font: &[u8], text: &[u8], color: FontColor, buffer: &mut [u8]) -> DrawResult
+// Draws the text, its lines aligned and the font's default line height apart, into the beginning of a buffer for the largest
+// framebuffer. A plain text is aligned Left.
+pub fn draw_whole(
+    font: &[u8],
+    text: &[u8],
+    align: HorizontalAlignment,
+    color: FontColor,
+    buffer: &mut [u8],
+) -> DrawResult
     requires { ⌜ length (now buffer) ≡ 65536 ⌝ }
-    ensures { λ r. ⌜ IsDrawing (now (font .entry)) (now (text .entry)) (header (now (font .entry)) .«line_height») color
-        (now (buffer .entry)) (now (buffer .exit)) r ⌝ }
+    ensures { λ r. ⌜ IsDrawing (now (font .entry)) (now (text .entry))
+        (settingOf (header (now (font .entry)) .«line_height») align) color (now (buffer .entry)) (now (buffer .exit)) r ⌝ }
 {
     match new_from_raw_data(font) {
         FontReaderResult::Err(error) => DrawResult::Refused(error),
-        FontReaderResult::Ok(head) => draw_measured(font, text, head.line_height, color, buffer),
+        FontReaderResult::Ok(head) => {
+            let setting = Setting {
+                line_height: head.line_height,
+                align,
+            };
+            draw_measured(font, text, setting, color, buffer)
+        }
     }
 }

@@ -41,16 +41,26 @@ pub fn rectangle(r: Rectangle) {
     unsigned(r.size.height);
 }
 
+fn box_or_none(b: BoundingBox) {
+    match b {
+        BoundingBox::Some(r) => rectangle(r),
+        BoundingBox::None => text(b" none"),
+    }
+}
+
 // The answer of measuring or drawing: `ok`, the advance, and the bounding box or `none`.
 pub fn dimensions(d: RenderedDimensions) {
     text(b"ok");
     signed(d.advance.x);
     signed(d.advance.y);
-    let bounding_box = d.bounding_box;
-    match bounding_box {
-        BoundingBox::Some(r) => rectangle(r),
-        BoundingBox::None => text(b" none"),
-    }
+    let b = d.bounding_box;
+    box_or_none(b);
+}
+
+// .. of an aligned call, which has no advance
+pub fn bounding_box(b: BoundingBox) {
+    text(b"ok");
+    box_or_none(b);
 }
 
 fn code_point(c: u32) {

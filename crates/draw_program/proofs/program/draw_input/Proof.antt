@@ -10,5 +10,5 @@ show-requires c κs = (showable _ _ _ _ _ _ (c .before .before .draw-whole .resu
 pub draw-input-spec : {M : Type 1} → statement M
 draw-input-spec =
     tie.close
-    (tie.spec (λ c. search needs) (λ c κs. search needs) (λ c. search needs) (λ c. search needs) (λ c κs. search needs)
+    (tie.spec (λ c. search needs) (λ c κs. search needs) (λ c κs. search needs) (λ c. search needs) (λ c. search needs)
     (λ c. search needs) (λ c κs. search needs) (λ c. search needs) show-requires (λ c. search needs))

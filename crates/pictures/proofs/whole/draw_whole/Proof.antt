@@ -2,6 +2,7 @@
 use Rattle.integers.proofs.Prelude.{refl, sym, ap, subst, _∙_, inl, ℕ, arith, needs}
 use Rattle.definitions.specs.Header.{header}
 use Rattle.definitions.specs.Calls.{fontReaderOutcome}
+use Rattle.corner.specs.Whole.{settingOf}
 use Rattle.pictures.proofs.DrawingLaws.{opening-refused, is-default, default-low}
 use Rattle.pictures.specs.Drawings.{IsDrawing}
 use Rattle.pictures.proofs.whole.draw_whole.Statement.{statement}
@@ -18,7 +19,7 @@ returns c =
     let s = c .before .before .before .before .before .before .before in
     let font = s .args .font .now in
     let refused = sym (c .before .before .before .new-from-raw-data .ensures) ∙ ap fontReaderOutcome (c .before .error .given .1) in
-    inl (refl, opening-refused font (s .args .text .now) (header font .«line_height») refused)
+    inl (refl, opening-refused font (s .args .text .now) (settingOf (header font .«line_height») (s .args .align)) refused)
 
 returns-2 : tie.Need-returns-2
 returns-2 c =
@@ -26,7 +27,7 @@ returns-2 c =
     let opens = sym (c .before .before .before .before .before .before .before .new-from-raw-data .ensures) ∙ ap fontReaderOutcome (c .before .before .before .before .before .head .given .1) in
     let a = s .args in
     let call = c .before .before .draw-measured in
-    subst (λ (n : ℕ). IsDrawing (a .font .now) (a .text .now) n (a .color) (a .buffer .now) (call .last .1 .1 .1 .1 .0) (call .result))
+    subst (λ (n : ℕ). IsDrawing (a .font .now) (a .text .now) (settingOf n (a .align)) (a .color) (a .buffer .now) (call .last .1 .1 .1 .1 .0) (call .result))
     (is-default (a .font .now) _ opens)
     (call .ensures)
 
