@@ -220,7 +220,12 @@ check 1 "737 in part" "$sheet" "$cut" top at -9 -4
 check 1 "901 not at all" "$sheet" at -100 -100
 check 1 "901 not at all" "$sheet" blank.bin
 check 1 "not all is well" "$sheet" at 250 0 bottom
-for arguments in "at 5" "at 5 x" "at 1048577 0" "at at at" "one.bin two.bin"; do
+check 0 "all is well" "$sheet" align center
+check 0 "all is well" "$sheet" bottom align right center align left
+check 1 "199 seen whole, 702 in part" "$sheet" top align center at 12 3
+check 1 "901 not at all" "$sheet" align right at 0 0
+check 1 "900 with a difference" "$sheet" narrow align right
+for arguments in "at 5" "at 5 x" "at 1048577 0" "at at at" align "align top" "align at 5 5" "one.bin two.bin"; do
   touch sheet.png
   # shellcheck disable=SC2086
   check 2 "usage: " "$sheet" $arguments
@@ -232,7 +237,8 @@ gone sheet.png
 
 if [ "${1-}" != model ]; then
   echo "--- the sheet of the program and that of the model"
-  for arguments in gauge "gauge narrow" "gauge center at 2 3" "gauge at 500 500" "cut top at -9 -4" t "symbols bottom" header blank; do
+  for arguments in gauge "gauge narrow" "gauge center at 2 3" "gauge at 500 500" "cut top at -9 -4" "gauge align center" \
+    "gauge align right narrow" "cut bottom align center at 9 5" t "symbols bottom" header blank; do
     read -r font words <<< "$arguments"
     for file in "$root/fonts/$font.bin" "$root/crates/sheet_runs/data/$font.bin" "$font.bin"; do
       [ ! -e "$file" ] || cp "$file" font.bin

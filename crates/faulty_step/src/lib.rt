@@ -13,7 +13,7 @@ use redraw::reading::draw_reading;
 use redraw::reading::redraw;
 use redraw_checks::StepResult;
 use redraw_checks::check_step;
-use renderer::render::get_drawn_dimensions;
+use renderer::lines::get_drawn_dimensions;
 use types::font_reader::FontReader;
 use types::geometry::BoundingBox;
 use types::geometry::Rectangle;
@@ -60,9 +60,11 @@ fn clear_narrow(
 )
     requires { ⌜ DrawableText (now font) head (now text) pen (place .framebuffer) (length (now screen)) ⌝ }
     ensures { λ r. ⌜ now (screen .exit) ≡ clearedBy (place .framebuffer .width) (place .background)
-        (toFill true (countedWith (now (font .entry)) (now (text .entry)) pen)) (now (screen .entry)) ⌝ }
+        (toFill true (countedWith (now (font .entry)) (now (text .entry)) (place .«horizontal_align») pen))
+        (now (screen .entry)) ⌝ }
 {
-    let drawn = get_drawn_dimensions(font, head, text, pen);
+    let horizontal_align = place.horizontal_align;
+    let drawn = get_drawn_dimensions(font, head, text, pen, horizontal_align);
     let result = drawn.result;
     let DimensionsResult::Ok(dimensions) = result else {
         return;

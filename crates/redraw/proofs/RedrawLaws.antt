@@ -5,15 +5,14 @@ use Rattle.integers.proofs.Prelude.{_≡_, refl, sym, ap, subst, _∙_, Bool, t
 use Rattle.integers.proofs.Prelude.{_≤_, _<_, arith, eqb, ltb, pos, length, eqb-false, ne-eqb}
 use Rattle.integers.proofs.Choices.{impossible}
 use Rattle.integers.specs.Integers.{pick}
-use Rattle.definitions.specs.Vocabulary.{Framebuffer, BoundingBox, None, Some, Point, RenderedDimensions}
+use Rattle.definitions.specs.Vocabulary.{Framebuffer, BoundingBox, None, Some, RenderedDimensions}
 use Rattle.definitions.specs.Refusals.{Outcome, success, refused, Cause, unlessRefused, anyApplies}
 use Rattle.definitions.specs.Header.{fontCauses}
 use Rattle.definitions.specs.Geometry.{InsideBox}
-use Rattle.definitions.specs.Font.{u8g2, drawnAnswer, pixelsOf}
+use Rattle.definitions.specs.Font.{u8g2, pixelsOf}
 use Rattle.definitions.specs.Picture.{keep, put, Picture, covers, textPicture}
 use Rattle.definitions.specs.Framebuffer.{over, shown, sideOff, framebufferCause}
-use Rattle.definitions.specs.Text.{joinAll, point, dimensions}
-use Rattle.definitions.specs.TextSteps.{measureFrom, drawFrom, start}
+use Rattle.definitions.specs.Text.{joinAll, dimensions}
 use Rattle.definitions.specs.Limits.{textCause, positionCause, backgroundCause}
 use Rattle.definitions.specs.Calls.{codePointsOf, origin, drawCauses, drawnText, draw, drawBuffer}
 use Rattle.definitions.specs.Agreement.{Ground, on, WithinLimits, pixel, KeptOutside, width, height}
@@ -23,14 +22,15 @@ use Rattle.definitions.proofs.PictureLaws.{covers-inside, inside-covers}
 use Rattle.definitions.proofs.RefusalLaws.{or-false, none-applies, succeeded}
 use Rattle.definitions.proofs.CausesLaws.{LimitsPass, limits-pass, limits-off, draw-passes, draw-off}
 use Rattle.definitions.proofs.ComesLaws.{comes-stopped}
-use Rattle.definitions.proofs.TextLaws.{measure-from, draw-from}
 use Rattle.definitions.proofs.LetterRefusals.{Late, late, late-drawn}
 use Rattle.definitions.proofs.Agreement.{alone, size}
 use Rattle.framebuffer.specs.Areas.{fillPicture}
 use Rattle.framebuffer.proofs.RowLaws.{row-of-pixel}
 use Rattle.redraw_checks.proofs.ChecksLaws.{StepPasses, step-passes}
 use Rattle.redraw.specs.Redraw.{wholeOr, readingOn, AllOf, clearedBy, cleared, redrawn, redrawnBuffer, taken}
-use Rattle.redraw_checks.specs.Checks.{redrawCauses, originOf, stepOf, checkedStep}
+use Rattle.renderer.specs.declared.letters.Context.{Context}
+use Rattle.renderer.specs.Texts.{countedWith, drawnWith}
+use Rattle.redraw_checks.specs.Checks.{redrawCauses, penOf, stepOf, checkedStep}
 
 -- Of what `redraw` ensures: the answer, what is shown, and what that leaves of a reading.
 abbrev pub shown-by : {A B C : Type 0} → A × (B × C) → B
@@ -52,7 +52,7 @@ length-after font r p =
 
 module _ (font : List ℕ) (r : Drawing) (p : Ground) (d : RenderedDimensions) (within : WithinLimits (u8g2 font) (asks r) p)
     (succeeded : drawn font r p ≡ success d) where
-  kept : KeptOutside p (after font r p) d
+  kept : KeptOutside p (after font r p) (d .«bounding_box»)
   kept = alone (u8g2 font) (asks r) refl (r .color) p d within succeeded .first-kept
 
   module _ (color : ℕ) (ground : AllOf color p (d .«bounding_box»)) where
@@ -181,7 +181,7 @@ module _ (font : List ℕ) (r : Drawing) (p : Ground) where
   drawn-late e =
       let l = drawnText (u8g2 font) (asks r) in
       ap taken (none-applies (dimensions l) causesOf e)
-      ∙ late-taken (dimensions l) (late-drawn font false (r .lineHeight) (origin (u8g2 font) (asks r)) (point (pos 0) (pos 0)) (joinAll (l .glyphs)) (codePointsOf (r .text)))
+      ∙ late-taken (dimensions l) (late-drawn font false (r .lineHeight) (r .align) (origin (u8g2 font) (asks r)) (codePointsOf (r .text)) (joinAll (l .glyphs)))
 
   module _ (old : List ℕ) (fine : textCause old .applies ≡ false) where
     -- The old text being one that can be drawn, the step is refused as the drawing is ..
@@ -195,22 +195,15 @@ module _ (font : List ℕ) (r : Drawing) (p : Ground) where
         let l = dimensions (drawnText (u8g2 font) (asks r)) in
         rw fine (twice l causesOf)
 
-  -- a drawing to which no cause applies, letter by letter
+  -- a drawing to which no cause applies
   module _ (unrefused : anyApplies causesOf ≡ false) where
-    abbrev at : Point
-    at = origin (u8g2 font) (asks r)
-
-    pub answer-by-letters : measureFrom (drawnAnswer (u8g2 font) false) (r .lineHeight) at start (codePointsOf (r .text)) ≡ drawn font r p
+    pub answer-laid : dimensions (drawnText (u8g2 font) (asks r)) ≡ drawn font r p
     unfolding draw
-    answer-by-letters =
-        measure-from (drawnAnswer (u8g2 font) false) (r .lineHeight) at (codePointsOf (r .text)) start
-        ∙ sym (none-applies (dimensions (drawnText (u8g2 font) (asks r))) causesOf unrefused)
+    answer-laid = sym (none-applies (dimensions (drawnText (u8g2 font) (asks r))) causesOf unrefused)
 
-    pub bytes-by-letters : drawFrom (width p) (r .color) (pixelsOf (u8g2 font)) (drawnAnswer (u8g2 font) false) (r .lineHeight) at start (p .before) (codePointsOf (r .text)) ≡ after font r p
+    pub bytes-laid : shown (width p) (textPicture (r .color) (pixelsOf (u8g2 font)) (drawnText (u8g2 font) (asks r) .glyphs)) (p .before) ≡ after font r p
     unfolding drawBuffer
-    bytes-by-letters =
-        draw-from (width p) (r .color) (pixelsOf (u8g2 font)) (drawnAnswer (u8g2 font) false) (r .lineHeight) at (codePointsOf (r .text)) start (p .before)
-        ∙ rw unrefused
+    bytes-laid = rw unrefused
 
 -- ---- the step, as the code goes
 
@@ -261,24 +254,27 @@ module _ (font old : List ℕ) (new : Drawing) (background : ℕ) (p : Ground) w
         (length-cleared (width p) background (toFill (drawn font (withText old new) p)) (p .before)) ∙ limited .size-in in
         with-part (new .text) bare (limited .text-in) size
 
-    abbrev letters : List ℕ → Outcome RenderedDimensions
-    letters text = measureFrom (drawnAnswer (u8g2 font) false) (new .lineHeight) (originOf font text new) start (codePointsOf text)
+    -- what the code counts and draws: the texts by their pens
+    abbrev counted : List ℕ → Outcome RenderedDimensions
+    counted text = countedWith font text (new .align) (penOf font text new)
 
-    abbrev lettersOn : List ℕ → List ℕ
-    lettersOn bytes = drawFrom (width p) (new .color) (pixelsOf (u8g2 font)) (drawnAnswer (u8g2 font) false) (new .lineHeight)
-        (originOf font (new .text) new) start bytes (codePointsOf (new .text))
+    abbrev context : Context
+    context = record { color = new .color; framebuffer = p .framebuffer }
 
-    pub answers : {answer : Outcome RenderedDimensions} → answer ≡ letters (new .text) → answer ≡ redrawn font old new p
+    abbrev newOn : List ℕ → List ℕ
+    newOn bytes = drawnWith font (new .text) (new .align) (penOf font (new .text) new) context bytes
+
+    pub answers : {answer : Outcome RenderedDimensions} → answer ≡ counted (new .text) → answer ≡ redrawn font old new p
     unfolding redrawn
-    answers e = e ∙ answer-by-letters font new p new-off ∙ sym (none-applies (drawn font new p) (redrawCauses font old new p) unrefused)
+    answers e = e ∙ answer-laid font new p new-off ∙ sym (none-applies (drawn font new p) (redrawCauses font old new p) unrefused)
 
-    pub leaves : {between exit : List ℕ} → between ≡ clearedBy (width p) background (toFill (letters old)) (p .before)
-        → exit ≡ wholeOr (letters (new .text)) (lettersOn between) between
+    pub leaves : {between exit : List ℕ} → between ≡ clearedBy (width p) background (toFill (counted old)) (p .before)
+        → exit ≡ wholeOr (counted (new .text)) (newOn between) between
         → exit ≡ pick (anyApplies (redrawCauses font old new p)) (p .before) (readingOn font new bare)
     leaves {between} e h =
-        let found : between ≡ bare .before = e ∙ ap (λ (o : Outcome RenderedDimensions). clearedBy (width p) background (toFill o) (p .before)) (answer-by-letters font (withText old new) p old-off) in
+        let found : between ≡ bare .before = e ∙ ap (λ (o : Outcome RenderedDimensions). clearedBy (width p) background (toFill o) (p .before)) (answer-laid font (withText old new) p old-off) in
         h
-        ∙ ap (λ (b : List ℕ). wholeOr (letters (new .text)) (lettersOn b) b) found
-        ∙ ap (λ (o : Outcome RenderedDimensions). wholeOr o (lettersOn (bare .before)) (bare .before)) (answer-by-letters font new bare bare-off)
-        ∙ ap (λ (l : List ℕ). wholeOr (drawn font new bare) l (bare .before)) (bytes-by-letters font new bare bare-off)
+        ∙ ap (λ (b : List ℕ). wholeOr (counted (new .text)) (newOn b) b) found
+        ∙ ap (λ (o : Outcome RenderedDimensions). wholeOr o (newOn (bare .before)) (bare .before)) (answer-laid font new bare bare-off)
+        ∙ ap (λ (l : List ℕ). wholeOr (drawn font new bare) l (bare .before)) (bytes-laid font new bare bare-off)
         ∙ rw unrefused

@@ -2,16 +2,17 @@
 use Rattle.integers.proofs.Prelude.{_≡_, refl, sym, ap, subst, _∙_, Bool, true, false, _||_, not, List, [], _∷_, _++_, map, ℕ, _*_, arith, eqb, pos}
 use Rattle.integers.proofs.Prelude.{length}
 use Rattle.integers.specs.Integers.{pick}
-use Rattle.definitions.specs.Vocabulary.{None, RenderedDimensions, FontColor, Transparent}
+use Rattle.definitions.specs.Vocabulary.{None, Point, RenderedDimensions, FontColor, Transparent, HorizontalAlignment}
+use Rattle.types.specs.declared.style.HorizontalAlignment.the-variants.{Left, Center, Right}
 use Rattle.definitions.specs.Refusals.{Outcome, success, refused, unlessRefused, anyApplies}
 use Rattle.definitions.specs.Header.{fontCauses}
 use Rattle.definitions.specs.Utf8.{decodeFrom}
-use Rattle.definitions.specs.Picture.{keep, textPicture}
+use Rattle.definitions.specs.Picture.{textPicture}
 use Rattle.definitions.specs.Framebuffer.{shown, framebufferCause, sideOff}
-use Rattle.definitions.specs.Text.{joinAll, point, letters, lines, lineByLine, dimensions}
+use Rattle.definitions.specs.Text.{Answer, joinAll, Layout, point, letters, lines, lineByLine, alignedLine, dimensions}
 use Rattle.definitions.specs.Limits.{textCause, positionCause, backgroundOff, backgroundCause}
-use Rattle.definitions.specs.Font.{u8g2}
-use Rattle.definitions.specs.Calls.{placed, plain, drawnText, draw, drawBuffer}
+use Rattle.definitions.specs.Font.{u8g2, pixelsOf}
+use Rattle.definitions.specs.Calls.{drawnText, draw, drawBuffer}
 use Rattle.redraw_checks.specs.Drawing.{Drawing, asks, after}
 use Rattle.definitions.proofs.FramebufferLaws.{shown-blank}
 use Rattle.definitions.proofs.RefusalLaws.{succeeded}
@@ -38,8 +39,18 @@ same-color f bytes text c d allows also =
     ∷ positionCause (f .position) (f .lineHeight)
     ∷ record { number = 6; applies = b }
     ∷ [])
-    (dimensions (drawnText (u8g2 (f .font)) (plain text (placed (f .position) (f .lineHeight) false) (f .anchor)))))
+    (dimensions (drawnText (u8g2 (f .font)) (asks (inSetting f (readingOf text c))))))
     (allows ∙ sym also)
+
+-- a line without letters, in any alignment
+abbrev noGlyphs : Layout
+noGlyphs = record { glyphs = []; advance = success (point (pos 0) (pos 0)) }
+
+no-letters : (a : HorizontalAlignment) (measured answers : ℕ → Answer) (origin : Point) → alignedLine a measured answers origin (point (pos 0) (pos 0)) [] ≡ noGlyphs
+unfolding letters
+no-letters Left measured answers origin = refl
+no-letters Center measured answers origin = refl
+no-letters Right measured answers origin = refl
 
 -- ---- what every step keeps
 
@@ -192,14 +203,22 @@ module _ (f : Setting) (ground : List ℕ) where
       all-show rs (stepOn f s r) (sized-next z r (next-old z r) (length-step s r)) (shown-next z h r (clear .0)) (clear .1)
       ∙ ap (λ (old : Reading). showing f ground (lastTaken f ground old rs)) (next-old z r)
 
-  -- The text without letters shows nothing, in any colour.
+  -- The text without letters has no glyphs ..
+  bare-text : (color : FontColor) → drawnText (u8g2 (f .font)) (asks (inSetting f (readingOf [] color))) ≡ noGlyphs
+  unfolding lines lineByLine decodeFrom
+  bare-text color = no-letters (f .align) _ _ _
+
+  abbrev painted : FontColor → Layout → List ℕ
+  painted color l = shown (f .framebuffer .width) (textPicture color (pixelsOf (u8g2 (f .font))) (l .glyphs)) ground
+
+  -- .. and shows nothing, in any colour.
   bare-drawn : (color : FontColor) → after (f .font) (inSetting f (readingOf [] color)) (groundIn f ground) ≡ ground
-  unfolding drawBuffer letters lines lineByLine decodeFrom textPicture
+  unfolding drawBuffer textPicture
   bare-drawn color = by (anyApplies (causesOf (f .font) (inSetting f (readingOf [] color)) (groundIn f ground)))
     where
-      by : (b : Bool) → pick b ground (shown (f .framebuffer .width) (λ column row. keep) ground) ≡ ground
+      by : (b : Bool) → pick b ground (painted color (drawnText (u8g2 (f .font)) (asks (inSetting f (readingOf [] color))))) ≡ ground
       by true = refl
-      by false = shown-blank (f .framebuffer .width) ground
+      by false = ap (painted color) (bare-text color) ∙ shown-blank (f .framebuffer .width) ground
 
   pub nothing-shown : (color : FontColor) → readingOn (f .font) (inSetting f (readingOf [] color)) (groundIn f ground) ≡ ground
   nothing-shown color = whole (alone f ground (readingOf [] color))
@@ -209,10 +228,10 @@ module _ (f : Setting) (ground : List ℕ) where
       whole (refused n c) = refl
 
   pub bare-shown : Shown (bare ground)
-  unfolding draw letters lines lineByLine decodeFrom joinAll
+  unfolding draw joinAll
   bare-shown = record {
     is = sym (nothing-shown (Transparent 0));
-    clear = λ d e. no-box d (succeeded _ d (causesOf (f .font) (inSetting f (bare ground .old)) (groundIn f ground)) e .1);
+    clear = λ d e. no-box d (sym (ap dimensions (bare-text (Transparent 0))) ∙ succeeded _ d (causesOf (f .font) (inSetting f (bare ground .old)) (groundIn f ground)) e .1);
   }
     where
       no-box : (d : RenderedDimensions) → success record { advance = point (pos 0) (pos 0); «bounding_box» = None } ≡ success d

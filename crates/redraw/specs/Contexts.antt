@@ -1,7 +1,7 @@
 -- What a place is drawn with, and on what.
 use Prim.Native.Nat.{ℕ}
 use Rattle.definitions.specs.Vocabulary.{Place}
-use Rattle.renderer.specs.declared.render.Context.{Context}
+use Rattle.renderer.specs.declared.letters.Context.{Context}
 use Rattle.renderer.specs.CharAnswers.{Fits}
 
 abbrev pub contextOf : Place → Context

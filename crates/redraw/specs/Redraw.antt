@@ -28,8 +28,9 @@ wholeOr (refused n c) drawing ground = ground
 
 -- A checked text is counted, and shown whole or not at all.
 pub record ReadingDrawn (font text : List ℕ) (pen : Pen) (place : Place) (before after : List ℕ) (r : DimensionsReport) : Type 0 where
-  pub told : TextCounted font text pen r
-  pub shown : after ≡ wholeOr (countedWith font text pen) (drawnWith font text pen (contextOf place) before) before
+  pub told : TextCounted font text (place .«horizontal_align») pen r
+  pub shown : after
+      ≡ wholeOr (countedWith font text (place .«horizontal_align») pen) (drawnWith font text (place .«horizontal_align») pen (contextOf place) before) before
 
 -- What a reading shows on a ground: the ground with the text drawn on it if drawing the text succeeds, and the ground as it was if
 -- it does not.

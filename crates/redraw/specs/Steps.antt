@@ -4,7 +4,7 @@ use mathlib.Core.Bool.{false}
 use mathlib.Core.List.{List, [], _∷_}
 use Prim.Native.Nat.{ℕ}
 use Rattle.integers.specs.Integers.{pick}
-use Rattle.definitions.specs.Vocabulary.{Framebuffer, Point, RenderedDimensions, FontColor, Transparent, VerticalPosition, Place}
+use Rattle.definitions.specs.Vocabulary.{Framebuffer, Point, RenderedDimensions, FontColor, Transparent, HorizontalAlignment, VerticalPosition, Place}
 use Rattle.definitions.specs.Refusals.{Outcome, success}
 use Rattle.definitions.specs.Font.{u8g2}
 use Rattle.definitions.specs.Limits.{backgroundOff}
@@ -17,6 +17,7 @@ pub record Setting : Type 0 where
   pub font : List ℕ
   pub position : Point
   pub anchor : VerticalPosition
+  pub align : HorizontalAlignment
   pub lineHeight : ℕ
   pub background : ℕ
   pub framebuffer : Framebuffer
@@ -26,6 +27,7 @@ settingOf font place = record {
   font = font;
   position = place .position;
   anchor = place .style .«vertical_pos»;
+  align = place .«horizontal_align»;
   lineHeight = place .«line_height»;
   background = place .background;
   framebuffer = place .framebuffer;
@@ -40,7 +42,14 @@ abbrev pub readingOf : List ℕ → FontColor → Reading
 readingOf text color = record { text = text; color = color }
 
 abbrev pub inSetting : Setting → Reading → Drawing
-inSetting f r = record { text = r .text; position = f .position; anchor = f .anchor; color = r .color; lineHeight = f .lineHeight }
+inSetting f r = record {
+  text = r .text;
+  position = f .position;
+  anchor = f .anchor;
+  align = f .align;
+  color = r .color;
+  lineHeight = f .lineHeight;
+}
 
 abbrev pub groundIn : Setting → List ℕ → Ground
 groundIn f bytes = on (f .framebuffer) bytes

@@ -13,9 +13,9 @@ use framebuffer::fill::fill_box;
 use lookup_sums::refused;
 use redraw_checks::StepResult;
 use redraw_checks::check_step;
-use renderer::render::Context;
-use renderer::render::draw_text;
-use renderer::render::get_drawn_dimensions;
+use renderer::letters::Context;
+use renderer::lines::draw_aligned;
+use renderer::lines::get_drawn_dimensions;
 use types::font_reader::FontReader;
 use types::place::Place;
 use types::results::DimensionsReport;
@@ -33,9 +33,10 @@ fn clear_reading(
 )
     requires { ⌜ DrawableText (now font) head (now text) pen (place .framebuffer) (length (now buffer)) ⌝ }
     ensures { λ r. ⌜ now (buffer .exit) ≡ clearedBy (place .framebuffer .width) (place .background)
-        (countedWith (now (font .entry)) (now (text .entry)) pen) (now (buffer .entry)) ⌝ }
+        (countedWith (now (font .entry)) (now (text .entry)) (place .«horizontal_align») pen) (now (buffer .entry)) ⌝ }
 {
-    let drawn = get_drawn_dimensions(font, head, text, pen);
+    let horizontal_align = place.horizontal_align;
+    let drawn = get_drawn_dimensions(font, head, text, pen, horizontal_align);
     let result = drawn.result;
     let DimensionsResult::Ok(dimensions) = result else {
         return;
@@ -58,7 +59,8 @@ pub fn draw_reading(
     ensures { λ r. ⌜ ReadingDrawn (now (font .entry)) (now (text .entry)) pen place (now (buffer .entry)) (now (buffer .exit))
         r ⌝ }
 {
-    let expected = get_drawn_dimensions(font, head, text, pen);
+    let horizontal_align = place.horizontal_align;
+    let expected = get_drawn_dimensions(font, head, text, pen, horizontal_align);
     let result = expected.result;
     let DimensionsResult::Ok(_) = result else {
         return expected;
@@ -67,7 +69,7 @@ pub fn draw_reading(
     let color = style.color;
     let framebuffer = place.framebuffer;
     let context = Context { color, framebuffer };
-    draw_text(font, head, text, pen, context, buffer)
+    draw_aligned(font, head, text, pen, horizontal_align, context, buffer)
 }
 
 // Clears the old text's reading and draws the new text's, or refuses to. Causes 1 to 6 are tested for both texts before a pixel

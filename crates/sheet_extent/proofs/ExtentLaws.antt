@@ -4,7 +4,7 @@ use Rattle.integers.proofs.Prelude.{ℤ, pos, negsuc, natAbs, _+ℤ_, _-ℤ_, m
 use Rattle.integers.proofs.Choices.{impossible}
 use Rattle.integers.specs.Integers.{minZ, maxZ}
 use Rattle.integers.proofs.Laws.{zarith, up, down, plus, minus, size, min-is, max-is, range, stored}
-use Rattle.definitions.specs.Vocabulary.{Framebuffer, BoundingBox, None, Some, Point, Rectangle, RenderedDimensions, Transparent, VerticalPosition, Place}
+use Rattle.definitions.specs.Vocabulary.{Framebuffer, BoundingBox, None, Some, Point, Rectangle, RenderedDimensions, Transparent, HorizontalAlignment, VerticalPosition, Place}
 use Rattle.definitions.specs.Refusals.{Outcome, success, refused}
 use Rattle.definitions.specs.Geometry.{left, top, right, bottom, InsideBox}
 use Rattle.definitions.specs.TextSteps.{movedBox}
@@ -14,7 +14,7 @@ use Rattle.sheet_extent.specs.declared.values.Wanted.{Wanted}
 use Rattle.sheet_extent.specs.declared.values.Wanted.the-variants.{Seen}
 use Rattle.definitions.specs.Font.{u8g2}
 use Rattle.definitions.specs.Framebuffer.{sized}
-use Rattle.definitions.specs.Calls.{placed, plain}
+use Rattle.definitions.specs.Calls.{placed, request}
 use Rattle.definitions.proofs.MovedLaws.{measured-at-zero}
 use Rattle.sheet_ground.specs.Readings.{readingText, PlaceFits}
 use Rattle.sheet_extent.specs.Extent.{atOrigin, widened, withBox, withReading, extentOf, Within, HoldsReadings, NearEdge, NearExtent, AllMeasured}
@@ -93,26 +93,26 @@ other-reading : (e : Extent) (o : Outcome RenderedDimensions) (q : Rectangle) �
 other-reading e (success d) q w = other-box e (d .«bounding_box») q w
 other-reading e (refused n c) q w = w
 
-module _ (font : List ℕ) (v : VerticalPosition) where
-  holds-next : (n : ℕ) (e : Extent) → HoldsReadings n font v e → HoldsReadings (suc n) font v (withReading e (atOrigin font v n))
+module _ (font : List ℕ) (v : VerticalPosition) (a : HorizontalAlignment) where
+  holds-next : (n : ℕ) (e : Extent) → HoldsReadings n font v a e → HoldsReadings (suc n) font v a (withReading e (atOrigin font v a n))
   holds-next n e holds k h d m r b = by (decLt k n)
     where
-      by : Dec (k < n) → Within r (withReading e (atOrigin font v n))
-      by (yes p) = other-reading e (atOrigin font v n) r (holds k p d m r b)
+      by : Dec (k < n) → Within r (withReading e (atOrigin font v a n))
+      by (yes p) = other-reading e (atOrigin font v a n) r (holds k p d m r b)
       by (no p) =
           let last : k ≡ n = omega arith in
-          let here : atOrigin font v n ≡ success d = ap (atOrigin font v) (sym last) ∙ m in
+          let here : atOrigin font v a n ≡ success d = ap (atOrigin font v a) (sym last) ∙ m in
           subst (λ (o : Outcome RenderedDimensions). Within r (withReading e o)) (sym here) (own-box e (d .«bounding_box») r b)
 
-  pub all-between : (n : ℕ) → HoldsReadings n font v (extentOf font v n)
+  pub all-between : (n : ℕ) → HoldsReadings n font v a (extentOf font v a n)
   unfolding extentOf
   all-between zero = λ k h. absurd (omega arith)
-  all-between (suc n) = holds-next n (extentOf font v n) (all-between n)
+  all-between (suc n) = holds-next n (extentOf font v a n) (all-between n)
 
   -- as the loop goes
   pub record MeasuredTo (k : ℕ) (e : Extent) : Type 0 where
     pub within : k ≤ 901
-    pub edges : e ≡ extentOf font v k
+    pub edges : e ≡ extentOf font v a k
     pub near : NearExtent e
 
   pub no-readings : MeasuredTo 0 record { left = pos 0; top = pos 0; right = pos 0; bottom = pos 0 }
@@ -121,16 +121,16 @@ module _ (font : List ℕ) (v : VerticalPosition) where
       let zero : NearEdge (pos 0) = record { low = omega zarith; high = omega zarith } in
       record { within = omega arith; edges = refl; near = record { left = zero; top = zero; right = zero; bottom = zero } }
 
-  pub next-reading : (k : ℕ) {e next : Extent} → e ≡ extentOf font v k → next ≡ withReading e (atOrigin font v k) → next ≡ extentOf font v (k + 1)
+  pub next-reading : (k : ℕ) {e next : Extent} → e ≡ extentOf font v a k → next ≡ withReading e (atOrigin font v a k) → next ≡ extentOf font v a (k + 1)
   unfolding extentOf
   next-reading k e h =
       let suc-is : suc k ≡ k + 1 = omega arith in
-      h ∙ ap (λ (x : Extent). withReading x (atOrigin font v k)) e ∙ ap (extentOf font v) suc-is
+      h ∙ ap (λ (x : Extent). withReading x (atOrigin font v a k)) e ∙ ap (extentOf font v a) suc-is
 
-  pub all-readings : {k : ℕ} {e : Extent} → k ≡ 901 → MeasuredTo k e → AllMeasured font v e
+  pub all-readings : {k : ℕ} {e : Extent} → k ≡ 901 → MeasuredTo k e → AllMeasured font v a e
   all-readings {k} {e} all m =
-      let is : e ≡ extentOf font v 901 = m .edges ∙ ap (extentOf font v) all in
-      record { edges = is; between = subst (HoldsReadings 901 font v) (sym is) (all-between 901); near = m .near }
+      let is : e ≡ extentOf font v a 901 = m .edges ∙ ap (extentOf font v a) all in
+      record { edges = is; between = subst (HoldsReadings 901 font v a) (sym is) (all-between 901); near = m .near }
 
   -- the origin is no further than the last edges
   past-box : (e : Extent) (b : BoundingBox) → (pos 0 ≤ℤ e .right) × (pos 0 ≤ℤ e .bottom) → (pos 0 ≤ℤ withBox e b .right) × (pos 0 ≤ℤ withBox e b .bottom)
@@ -142,10 +142,10 @@ module _ (font : List ℕ) (v : VerticalPosition) where
   past-reading e (success d) h = past-box e (d .«bounding_box») h
   past-reading e (refused n c) h = h
 
-  past-origin : (n : ℕ) → (pos 0 ≤ℤ extentOf font v n .right) × (pos 0 ≤ℤ extentOf font v n .bottom)
+  past-origin : (n : ℕ) → (pos 0 ≤ℤ extentOf font v a n .right) × (pos 0 ≤ℤ extentOf font v a n .bottom)
   unfolding extentOf
   past-origin zero = (omega zarith, omega zarith)
-  past-origin (suc n) = past-reading (extentOf font v n) (atOrigin font v n) (past-origin n)
+  past-origin (suc n) = past-reading (extentOf font v a n) (atOrigin font v a n) (past-origin n)
 
 -- ---- on the framebuffer
 
@@ -153,8 +153,8 @@ side-limits : (z : ℤ) → (1 ≤ sideOf z) × (sideOf z ≤ 256)
 side-limits (pos n) = (omega arith, omega arith)
 side-limits (negsuc n) = (omega arith, omega arith)
 
-place-fits : (v : VerticalPosition) (p : Point) (e : Extent) → PlaceFits (placeAt v p e .framebuffer .width) (placeAt v p e .framebuffer .height)
-place-fits v p e =
+place-fits : (v : VerticalPosition) (a : HorizontalAlignment) (p : Point) (e : Extent) → PlaceFits (placeAt v a p e .framebuffer .width) (placeAt v a p e .framebuffer .height)
+place-fits v a p e =
     let w = side-limits (p .x +ℤ e .right +ℤ pos 3) in
     let h = side-limits (p .y +ℤ e .bottom +ℤ pos 3) in
     record { some-wide = w .0; wide = w .1; some-high = h .0; high = h .1 }
@@ -225,17 +225,17 @@ module _ (first last start : ℤ) (len : ℕ) (column : ℤ) (from : first ≤�
 
 module _ (font : List ℕ) (o : Options) (wanted : o .wanted ≡ Seen) where
   abbrev edges : Extent
-  edges = extentOf font (o .«vertical_pos») 901
+  edges = extentOf font (o .«vertical_pos») (o .«horizontal_align») 901
 
   abbrev there : Place
-  there = placeAt (o .«vertical_pos») (positionFor Seen edges) edges
+  there = placeAt (o .«vertical_pos») (o .«horizontal_align») (positionFor Seen edges) edges
 
   on-framebuffer : Uncut there edges → (b : BoundingBox) → ((r : Rectangle) → b ≡ Some r → Within r edges) → (column row : ℤ)
       → InsideBox column row (movedBox (there .position .x) (there .position .y) b) → OnFramebuffer (there .framebuffer) column row
   on-framebuffer uncut None between column row i = absurd i
   on-framebuffer uncut (Some r) between column row i =
       let w = between r refl in
-      let z = past-origin font (o .«vertical_pos») 901 in
+      let z = past-origin font (o .«vertical_pos») (o .«horizontal_align») 901 in
       let c = seen (edges .left) (edges .right) (left r) (r .size .width) column (w .from-left) (w .to-right) (z .0) (uncut .0) (i .from-left) (i .to-right) in
       let l = seen (edges .top) (edges .bottom) (top r) (r .size .height) row (w .from-top) (w .to-bottom) (z .1) (uncut .1) (i .from-top) (i .to-bottom) in
       record { from-left = c .0; to-right = c .1; from-top = l .0; to-bottom = l .1 }
@@ -243,8 +243,8 @@ module _ (font : List ℕ) (o : Options) (wanted : o .wanted ≡ Seen) where
   pub all-seen : Uncut (placeFor font o) edges → AllSeen font (placeFor font o)
   unfolding placeFor
   all-seen = rw wanted (λ uncut k h d m column row i.
-      let q = measured-at-zero (u8g2 font) (plain (readingText k) (placed (there .position) 0 false) (o .«vertical_pos»)) d m in
-      on-framebuffer uncut (q .0 .«bounding_box») (λ r b. all-between font (o .«vertical_pos») 901 k h (q .0) (q .1 .0) r b) column row
+      let q = measured-at-zero (u8g2 font) (request (readingText k) (placed (there .position) 0 false) (o .«vertical_pos») (o .«horizontal_align»)) d m in
+      on-framebuffer uncut (q .0 .«bounding_box») (λ r b. all-between font (o .«vertical_pos») (o .«horizontal_align») 901 k h (q .0) (q .1 .0) r b) column row
       (subst (InsideBox column row) (q .1 .1) i))
 
 -- ---- as the code goes
@@ -261,23 +261,24 @@ abbrev placeIn : Framebuffer → Options → Point → Place
 placeIn framebuffer o p = record {
   position = p;
   style = record { color = Transparent 0; «vertical_pos» = o .«vertical_pos» };
+  «horizontal_align» = o .«horizontal_align»;
   «line_height» = 0;
   background = 255;
   framebuffer = framebuffer;
 }
 
-pub is-place : (font : List ℕ) (o : Options) {e : Extent} {p : Point} {width height : ℕ} → e ≡ extentOf font (o .«vertical_pos») 901
+pub is-place : (font : List ℕ) (o : Options) {e : Extent} {p : Point} {width height : ℕ} → e ≡ extentOf font (o .«vertical_pos») (o .«horizontal_align») 901
     → p ≡ positionFor (o .wanted) e → width ≡ side (p .x) (e .right) → height ≡ side (p .y) (e .bottom)
     → placeIn (sized width height) o p ≡ placeFor font o
 unfolding placeFor
 is-place font o {e} {p} {width} {height} h i j k =
     ap (λ (n : ℕ). placeIn (sized n height) o p) j
     ∙ ap (λ (n : ℕ). placeIn (sized (side (p .x) (e .right)) n) o p) k
-    ∙ ap (λ (q : Point). placeAt (o .«vertical_pos») q e) i
-    ∙ ap (λ (x : Extent). placeAt (o .«vertical_pos») (positionFor (o .wanted) x) x) h
+    ∙ ap (λ (q : Point). placeAt (o .«vertical_pos») (o .«horizontal_align») q e) i
+    ∙ ap (λ (x : Extent). placeAt (o .«vertical_pos») (o .«horizontal_align») (positionFor (o .wanted) x) x) h
 
 pub fits-for : (font : List ℕ) (o : Options) → PlaceFits (placeFor font o .framebuffer .width) (placeFor font o .framebuffer .height)
 unfolding placeFor
 fits-for font o =
-    let e = extentOf font (o .«vertical_pos») 901 in
-    place-fits (o .«vertical_pos») (positionFor (o .wanted) e) e
+    let e = extentOf font (o .«vertical_pos») (o .«horizontal_align») 901 in
+    place-fits (o .«vertical_pos») (o .«horizontal_align») (positionFor (o .wanted) e) e

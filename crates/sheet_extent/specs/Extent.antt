@@ -6,13 +6,13 @@ use Prim.Native.Nat.{ℕ, zero, suc, _+_, _<_, min, max}
 use lib.IntN.{ℤ, pos, negsuc, _+ℤ_}
 use lib.Signed.{_≤ℤ_}
 use Rattle.integers.specs.Integers.{minZ, maxZ}
-use Rattle.definitions.specs.Vocabulary.{BoundingBox, None, Some, Point, Rectangle, RenderedDimensions, Transparent, VerticalPosition, Place}
+use Rattle.definitions.specs.Vocabulary.{BoundingBox, None, Some, Point, Rectangle, RenderedDimensions, Transparent, HorizontalAlignment, VerticalPosition, Place}
 use Rattle.definitions.specs.Refusals.{Outcome, success, refused}
 use Rattle.definitions.specs.Geometry.{left, top, right, bottom, InsideBox}
 use Rattle.definitions.specs.Text.{point}
 use Rattle.definitions.specs.Font.{u8g2}
 use Rattle.definitions.specs.Framebuffer.{sized}
-use Rattle.definitions.specs.Calls.{placed, plain, measure}
+use Rattle.definitions.specs.Calls.{placed, request, measure}
 use Rattle.redraw_checks.specs.Drawing.{measured}
 use Rattle.sheet_extent.specs.declared.values.Extent.{Extent}
 use Rattle.sheet_extent.specs.declared.values.Options.{Options}
@@ -24,8 +24,8 @@ use Rattle.sight.specs.Sights.{OnFramebuffer}
 -- ---- the edges
 
 -- what a reading measures at (0, 0), in one line
-abbrev pub atOrigin : List ℕ → VerticalPosition → ℕ → Outcome RenderedDimensions
-atOrigin font v k = measure (u8g2 font) (plain (readingText k) (placed (point (pos 0) (pos 0)) 0 false) v)
+abbrev pub atOrigin : List ℕ → VerticalPosition → HorizontalAlignment → ℕ → Outcome RenderedDimensions
+atOrigin font v a k = measure (u8g2 font) (request (readingText k) (placed (point (pos 0) (pos 0)) 0 false) v a)
 
 abbrev pub widened : Extent → Rectangle → Extent
 widened e r = record {
@@ -44,9 +44,9 @@ withReading e (success d) = withBox e (d .«bounding_box»)
 withReading e (refused n c) = e
 
 -- the origin alone, then the boxes of the first k readings
-unfoldable pub extentOf : List ℕ → VerticalPosition → ℕ → Extent
-extentOf font v zero = record { left = pos 0; top = pos 0; right = pos 0; bottom = pos 0 }
-extentOf font v (suc k) = withReading (extentOf font v k) (atOrigin font v k)
+unfoldable pub extentOf : List ℕ → VerticalPosition → HorizontalAlignment → ℕ → Extent
+extentOf font v a zero = record { left = pos 0; top = pos 0; right = pos 0; bottom = pos 0 }
+extentOf font v a (suc k) = withReading (extentOf font v a k) (atOrigin font v a k)
 
 -- The rectangle lies between the edges.
 pub record Within (r : Rectangle) (e : Extent) : Type 0 where
@@ -56,9 +56,9 @@ pub record Within (r : Rectangle) (e : Extent) : Type 0 where
   pub to-bottom : bottom r ≤ℤ e .bottom
 
 -- Each of the first n readings that has a box lies between them.
-abbrev pub HoldsReadings : ℕ → List ℕ → VerticalPosition → Extent → Type 0
-HoldsReadings n font v e =
-    (k : ℕ) → k < n → (d : RenderedDimensions) → atOrigin font v k ≡ success d
+abbrev pub HoldsReadings : ℕ → List ℕ → VerticalPosition → HorizontalAlignment → Extent → Type 0
+HoldsReadings n font v a e =
+    (k : ℕ) → k < n → (d : RenderedDimensions) → atOrigin font v a k ≡ success d
     → (r : Rectangle) → d .«bounding_box» ≡ Some r → Within r e
 
 -- Edges far inside 64 bits, so that a coordinate and the margin can be added.
@@ -73,9 +73,9 @@ pub record NearExtent (e : Extent) : Type 0 where
   pub bottom : NearEdge (e .bottom)
 
 -- The edges of all readings.
-pub record AllMeasured (font : List ℕ) (v : VerticalPosition) (e : Extent) : Type 0 where
-  pub edges : e ≡ extentOf font v 901
-  pub between : HoldsReadings 901 font v e
+pub record AllMeasured (font : List ℕ) (v : VerticalPosition) (a : HorizontalAlignment) (e : Extent) : Type 0 where
+  pub edges : e ≡ extentOf font v a 901
+  pub between : HoldsReadings 901 font v a e
   pub near : NearExtent e
 
 -- ---- place and framebuffer; the margin is 3 pixels
@@ -103,10 +103,11 @@ abbrev pub side : ℤ → ℤ → ℕ
 side start end = sideOf (start +ℤ end +ℤ pos 3)
 
 -- ink 0 on a background of 255
-abbrev pub placeAt : VerticalPosition → Point → Extent → Place
-placeAt v p e = record {
+abbrev pub placeAt : VerticalPosition → HorizontalAlignment → Point → Extent → Place
+placeAt v a p e = record {
   position = p;
   style = record { color = Transparent 0; «vertical_pos» = v };
+  «horizontal_align» = a;
   «line_height» = 0;
   background = 255;
   framebuffer = sized (side (p .x) (e .right)) (side (p .y) (e .bottom));
@@ -114,8 +115,8 @@ placeAt v p e = record {
 
 unfoldable pub placeFor : List ℕ → Options → Place
 placeFor font o =
-    let e = extentOf font (o .«vertical_pos») 901 in
-    placeAt (o .«vertical_pos») (positionFor (o .wanted) e) e
+    let e = extentOf font (o .«vertical_pos») (o .«horizontal_align») 901 in
+    placeAt (o .«vertical_pos») (o .«horizontal_align») (positionFor (o .wanted) e) e
 
 -- ---- all of it is seen
 

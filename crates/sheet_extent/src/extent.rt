@@ -11,6 +11,7 @@ use types::geometry::BoundingBox;
 use types::geometry::Point;
 use types::geometry::Rectangle;
 use types::results::DimensionsResult;
+use types::style::HorizontalAlignment;
 use types::style::Placement;
 use types::style::VerticalPosition;
 
@@ -58,9 +59,16 @@ fn widened(extent: Extent, r: Rectangle) -> Extent
     }
 }
 
-fn with_reading(extent: Extent, font: &[u8], k: usize, vertical_pos: VerticalPosition) -> Extent
+fn with_reading(
+    extent: Extent,
+    font: &[u8],
+    k: usize,
+    vertical_pos: VerticalPosition,
+    horizontal_align: HorizontalAlignment,
+) -> Extent
     requires { ⌜ NearExtent extent ⌝ }
-    ensures { λ r. ⌜ (r ≡ withReading extent (atOrigin (now (font .entry)) «vertical_pos» k)) × NearExtent r ⌝ }
+    ensures { λ r. ⌜ (r ≡ withReading extent (atOrigin (now (font .entry)) «vertical_pos» «horizontal_align» k))
+        × NearExtent r ⌝ }
 {
     let origin = Point { x: 0, y: 0 };
     let placement = Placement {
@@ -68,7 +76,7 @@ fn with_reading(extent: Extent, font: &[u8], k: usize, vertical_pos: VerticalPos
         line_height: 0,
         ignore_unknown_chars: false,
     };
-    let measured = measure_reading(font, k, placement, vertical_pos);
+    let measured = measure_reading(font, k, placement, vertical_pos, horizontal_align);
     let DimensionsResult::Ok(d) = measured else {
         return extent;
     };
@@ -79,8 +87,12 @@ fn with_reading(extent: Extent, font: &[u8], k: usize, vertical_pos: VerticalPos
     widened(extent, r)
 }
 
-pub fn measure_all(font: &[u8], vertical_pos: VerticalPosition) -> Extent
-    ensures { λ r. ⌜ AllMeasured (now (font .entry)) «vertical_pos» r ⌝ }
+pub fn measure_all(
+    font: &[u8],
+    vertical_pos: VerticalPosition,
+    horizontal_align: HorizontalAlignment,
+) -> Extent
+    ensures { λ r. ⌜ AllMeasured (now (font .entry)) «vertical_pos» «horizontal_align» r ⌝ }
 {
     let mut extent = Extent {
         left: 0,
@@ -90,7 +102,7 @@ pub fn measure_all(font: &[u8], vertical_pos: VerticalPosition) -> Extent
     };
     let mut k: usize = 0;
     while k < COUNT {
-        extent = with_reading(extent, font, k, vertical_pos);
+        extent = with_reading(extent, font, k, vertical_pos, horizontal_align);
         k += 1;
     }
     extent

@@ -34,12 +34,14 @@ fn position_for(wanted: Wanted, extent: Extent) -> Point
 // The framebuffer for it. Where all readings are to be seen and no side is cut off at 256 pixels, all are.
 pub fn place_for(font: &[u8], options: Options) -> Place
     ensures place { λ r. ⌜ r ≡ placeFor (now (font .entry)) options ⌝ }
-    ensures seen { λ r. ⌜ (options .wanted ≡ Seen → Uncut r (extentOf (now (font .entry)) (options .«vertical_pos») 901)
+    ensures seen { λ r. ⌜ (options .wanted ≡ Seen → Uncut r (extentOf (now (font .entry)) (options .«vertical_pos»)
+        (options .«horizontal_align») 901)
         → AllSeen (now (font .entry)) r) ⌝ }
 {
     let vertical_pos = options.vertical_pos;
+    let horizontal_align = options.horizontal_align;
     let wanted = options.wanted;
-    let extent = measure_all(font, vertical_pos);
+    let extent = measure_all(font, vertical_pos, horizontal_align);
     let position = position_for(wanted, extent);
     let width = side(position.x, extent.right);
     let height = side(position.y, extent.bottom);
@@ -49,6 +51,7 @@ pub fn place_for(font: &[u8], options: Options) -> Place
             color: FontColor::Transparent(INK),
             vertical_pos,
         },
+        horizontal_align,
         line_height: 0,
         background: BACKGROUND,
         framebuffer: Framebuffer { width, height },

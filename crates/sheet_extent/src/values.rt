@@ -1,5 +1,6 @@
 // Edges, and what the sheet is asked for. There is no code here.
 use types::geometry::Point;
+use types::style::HorizontalAlignment;
 use types::style::VerticalPosition;
 
 // The edges of all readings, drawn at (0, 0).
@@ -19,6 +20,7 @@ pub enum Wanted {
 // What the sheet is asked for. `narrow` puts a fault in: one column too few is filled.
 pub struct Options {
     pub vertical_pos: VerticalPosition,
+    pub horizontal_align: HorizontalAlignment,
     pub wanted: Wanted,
     pub narrow: bool,
 }

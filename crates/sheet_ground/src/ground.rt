@@ -33,12 +33,13 @@ fn clear_reading(font: &[u8], k: usize, place: Place, buffer: &mut [u8])
     let position = place.position;
     let style = place.style;
     let vertical_pos = style.vertical_pos;
+    let horizontal_align = place.horizontal_align;
     let placement = Placement {
         position,
         line_height: place.line_height,
         ignore_unknown_chars: false,
     };
-    let measured = measure_reading(font, k, placement, vertical_pos);
+    let measured = measure_reading(font, k, placement, vertical_pos, horizontal_align);
     let DimensionsResult::Ok(d) = measured else {
         return;
     };

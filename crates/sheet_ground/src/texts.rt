@@ -2,11 +2,12 @@
 ghost use mathlib.Core.Path.{_≡_};
 ghost use lib.ListN.{length};
 ghost use Rattle.definitions.specs.Font.{u8g2};
-ghost use Rattle.definitions.specs.Calls.{plain, measure, dimensionsOutcome};
+ghost use Rattle.definitions.specs.Calls.{request, measure, dimensionsOutcome};
 ghost use Rattle.sheet_ground.specs.Readings.{readingText, ReadingPut};
 use angles::write_angle;
-use measuring::rendered_dimensions::get_rendered_dimensions;
+use measuring::aligned_dimensions::aligned_dimensions;
 use types::results::DimensionsResult;
+use types::style::HorizontalAlignment;
 use types::style::Placement;
 use types::style::VerticalPosition;
 
@@ -28,12 +29,19 @@ pub fn measure_reading(
     k: usize,
     placement: Placement,
     vertical_pos: VerticalPosition,
+    horizontal_align: HorizontalAlignment,
 ) -> DimensionsResult
     ensures { λ r. ⌜ dimensionsOutcome r ≡ measure (u8g2 (now (font .entry)))
-        (plain (readingText k) placement «vertical_pos») ⌝ }
+        (request (readingText k) placement «vertical_pos» «horizontal_align») ⌝ }
 {
     let mut text = [0u8; 6];
     let start = write_reading(k, &mut text);
-    let report = get_rendered_dimensions(font, &text[start..], placement, vertical_pos);
+    let report = aligned_dimensions(
+        font,
+        &text[start..],
+        placement,
+        vertical_pos,
+        horizontal_align,
+    );
     report.result
 }

@@ -1,4 +1,5 @@
-// What the sheet is asked for: an anchor, `narrow`, and `at X Y`, in any order. A later word of a kind replaces an earlier one.
+// What the sheet is asked for: an anchor, an alignment after `align`, since `center` is an anchor too, `narrow`, and `at X Y`, in
+// any order. A later word of a kind replaces an earlier one.
 use crate::number::read_coordinate;
 use crate::values::Asked;
 use crate::values::Next;
@@ -7,17 +8,22 @@ use buffers::is_same;
 use sheet_extent::values::Options;
 use sheet_extent::values::Wanted;
 use types::geometry::Point;
+use types::style::HorizontalAlignment;
 use types::style::VerticalPosition;
 
-fn anchored(options: Options, vertical_pos: VerticalPosition) -> Asked {
-    let wanted = options.wanted;
+fn asked_for(options: Options) -> Asked {
     Asked {
-        options: Options {
-            vertical_pos,
-            wanted,
-            narrow: options.narrow,
-        },
+        options,
         next: Next::Any,
+        right: true,
+    }
+}
+
+// The word is the first of several.
+fn expecting(options: Options, next: Next) -> Asked {
+    Asked {
+        options,
+        next,
         right: true,
     }
 }
@@ -30,7 +36,18 @@ fn wrong(options: Options) -> Asked {
     }
 }
 
-fn with_word(options: Options, word: &[u8]) -> Asked {
+fn anchored(options: Options, vertical_pos: VerticalPosition) -> Asked {
+    let horizontal_align = options.horizontal_align;
+    let wanted = options.wanted;
+    asked_for(Options {
+        vertical_pos,
+        horizontal_align,
+        wanted,
+        narrow: options.narrow,
+    })
+}
+
+fn with_anchor(options: Options, word: &[u8]) -> Asked {
     if is_same(word, b"baseline") {
         return anchored(options, VerticalPosition::Baseline);
     }
@@ -43,25 +60,50 @@ fn with_word(options: Options, word: &[u8]) -> Asked {
     if is_same(word, b"bottom") {
         return anchored(options, VerticalPosition::Bottom);
     }
+    wrong(options)
+}
+
+fn with_word(options: Options, word: &[u8]) -> Asked {
+    if is_same(word, b"align") {
+        return expecting(options, Next::Align);
+    }
     if is_same(word, b"at") {
-        return Asked {
-            options,
-            next: Next::X,
-            right: true,
-        };
+        return expecting(options, Next::X);
     }
     if is_same(word, b"narrow") {
         let vertical_pos = options.vertical_pos;
+        let horizontal_align = options.horizontal_align;
         let wanted = options.wanted;
-        return Asked {
-            options: Options {
-                vertical_pos,
-                wanted,
-                narrow: true,
-            },
-            next: Next::Any,
-            right: true,
-        };
+        return asked_for(Options {
+            vertical_pos,
+            horizontal_align,
+            wanted,
+            narrow: true,
+        });
+    }
+    with_anchor(options, word)
+}
+
+fn aligned(options: Options, horizontal_align: HorizontalAlignment) -> Asked {
+    let vertical_pos = options.vertical_pos;
+    let wanted = options.wanted;
+    asked_for(Options {
+        vertical_pos,
+        horizontal_align,
+        wanted,
+        narrow: options.narrow,
+    })
+}
+
+fn with_align(options: Options, word: &[u8]) -> Asked {
+    if is_same(word, b"left") {
+        return aligned(options, HorizontalAlignment::Left);
+    }
+    if is_same(word, b"center") {
+        return aligned(options, HorizontalAlignment::Center);
+    }
+    if is_same(word, b"right") {
+        return aligned(options, HorizontalAlignment::Right);
     }
     wrong(options)
 }
@@ -69,11 +111,7 @@ fn with_word(options: Options, word: &[u8]) -> Asked {
 fn with_x(options: Options, number: Number) -> Asked {
     match number {
         Number::NotOne => wrong(options),
-        Number::Of(x) => Asked {
-            options,
-            next: Next::Y(x),
-            right: true,
-        },
+        Number::Of(x) => expecting(options, Next::Y(x)),
     }
 }
 
@@ -82,15 +120,13 @@ fn with_y(options: Options, x: i32, number: Number) -> Asked {
         Number::NotOne => wrong(options),
         Number::Of(y) => {
             let vertical_pos = options.vertical_pos;
-            Asked {
-                options: Options {
-                    vertical_pos,
-                    wanted: Wanted::At(Point { x, y }),
-                    narrow: options.narrow,
-                },
-                next: Next::Any,
-                right: true,
-            }
+            let horizontal_align = options.horizontal_align;
+            asked_for(Options {
+                vertical_pos,
+                horizontal_align,
+                wanted: Wanted::At(Point { x, y }),
+                narrow: options.narrow,
+            })
         }
     }
 }
@@ -104,6 +140,7 @@ fn with_next(asked: Asked, word: &[u8]) -> Asked {
     let next = asked.next;
     match next {
         Next::Any => with_word(options, word),
+        Next::Align => with_align(options, word),
         Next::X => with_x(options, read_coordinate(word)),
         Next::Y(x) => with_y(options, x, read_coordinate(word)),
     }
@@ -115,12 +152,13 @@ fn with_argument(asked: Asked, i: usize) -> Asked {
     with_next(asked, &word[..n])
 }
 
-// No word may be missing after `at`.
+// No word may be missing after `align` and `at`.
 fn ended(asked: Asked) -> Asked {
     let next = asked.next;
     let options = asked.options;
     match next {
         Next::Any => asked,
+        Next::Align => wrong(options),
         Next::X => wrong(options),
         Next::Y(_) => wrong(options),
     }
@@ -131,6 +169,7 @@ pub fn read() -> Asked {
     let mut asked = Asked {
         options: Options {
             vertical_pos: VerticalPosition::Baseline,
+            horizontal_align: HorizontalAlignment::Left,
             wanted: Wanted::Seen,
             narrow: false,
         },

@@ -1,9 +1,10 @@
 // What words and digits are read as. There is no code here.
 use sheet_extent::values::Options;
 
-// What the next word is read as: any word, or after `at` the x and then the y of the place.
+// What the next word is read as: any word, after `align` the alignment, or after `at` the x and then the y of the place.
 pub enum Next {
     Any,
+    Align,
     X,
     Y(i32),
 }

@@ -41,8 +41,8 @@ fn fill_sheet(
     Sheet { totals, written }
 }
 
-// The same on buffers for the largest framebuffers, of 256 × 256 pixels. Whatever the font, the anchor and the place, every reading
-// is counted once and, without the fault, none differs and a refused one leaves the field empty.
+// The same on buffers for the largest framebuffers, of 256 × 256 pixels. Whatever the font, the anchor, the alignment and the place,
+// every reading is counted once and, without the fault, none differs and a refused one leaves the field empty.
 pub fn make_sheet(
     font: &[u8],
     options: Options,

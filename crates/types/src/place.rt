@@ -2,10 +2,12 @@
 use crate::framebuffer::Framebuffer;
 use crate::geometry::Point;
 use crate::style::FontStyle;
+use crate::style::HorizontalAlignment;
 
 pub struct Place {
     pub position: Point,
     pub style: FontStyle,
+    pub horizontal_align: HorizontalAlignment,
     pub line_height: u32,
     // what a reading is cleared with
     pub background: u8,

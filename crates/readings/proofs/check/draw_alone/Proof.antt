@@ -1,7 +1,7 @@
 -- A refused drawing is taken back.
 use Rattle.integers.proofs.Prelude.{ap, _∙_, arith, needs}
 use Rattle.buffers.proofs.CopyLaws.{whole}
-use Rattle.definitions.specs.Calls.{dimensionsOutcome}
+use Rattle.definitions.specs.Calls.{boundingBoxOutcome}
 use Rattle.redraw_checks.specs.Drawing.{asked, groundOf}
 use Rattle.readings.proofs.AloneLaws.{drawn-alone, refused-alone}
 use Rattle.readings.proofs.check.draw_alone.Statement.{statement}
@@ -14,16 +14,16 @@ returns : tie.Need-returns
 returns c =
     let s = c .before .before .before .before .before .before .before .before .before .before .before .before .before .before .before .before .before in
     let a = s .args in
-    let r = c .before .before .before .before .render .ensures in
+    let r = c .before .before .before .before .render-aligned .ensures in
     let copied = c .before .before .before .before .before .before .before .before .before .before .before .copy .ensures .1 ∙ whole (a .ground .now) (a .alone .now) (s .pre) in
     drawn-alone (a .font .now) (asked (a .place) (a .text .now)) (groundOf (a .place) (a .ground .now)) copied (r .0) (r .1 .0)
-    (ap dimensionsOutcome (c .enum-told .given .1))
+    (ap boundingBoxOutcome (c .enum-told .given .1))
 
 returns-2 : tie.Need-returns-2
 returns-2 c =
     let s = c .before .before .before .before .before .before .before .before .before .before .before .before .before .before .before .before .before .before .before .before .before in
     let a = s .args in
-    let r = c .before .before .before .before .before .before .before .before .render .ensures in
+    let r = c .before .before .before .before .before .before .before .before .render-aligned .ensures in
     let copied = c .before .before .before .before .before .before .before .before .before .before .before .before .before .before .before .copy .ensures .1
     ∙ whole (a .ground .now) (a .alone .now) (s .pre) in
     let first = c .before .before .before .before .before .before .before .before .before .before .before .before .before .before .alone .given in
@@ -31,7 +31,7 @@ returns-2 c =
     c .before .before .copy2 .ensures .1
     ∙ whole (a .ground .now) _ (omega (arith, s .pre, first, second))
     ∙ refused-alone (a .font .now) (asked (a .place) (a .text .now)) (groundOf (a .place) (a .ground .now)) copied (r .0)
-    (ap dimensionsOutcome (c .before .before .before .before .enum-told2 .given .1))
+    (ap boundingBoxOutcome (c .before .before .before .before .enum-told2 .given .1))
 
 pub draw-alone-spec : {M : Type 1} → statement M
 draw-alone-spec =

@@ -18,7 +18,7 @@ returns-2 c =
     let k = c .before .before .before .before .before .before in
     let g = k .before .before .get-drawn-dimensions .ensures in
     let e = sym (g .counted) ∙ ap dimensionsOutcome (k .enum-told .given .1) in
-    let drawn = c .before .before .draw-text .ensures in
+    let drawn = c .before .before .draw-aligned .ensures in
     record { told = drawn .told; shown = rw e (drawn .shown) }
 
 pub draw-reading-spec : {M : Type 1} → statement M

@@ -78,7 +78,7 @@ returns-2 c =
     let s = entry k in
     let a = s .args in
     let answered = answers (a .font .now) (a .old-text .now) (new s) (a .place .background) (screen s) (λ o. o) (r .unrefused) (rw (r .new-at) at (d .told .counted)) in
-    let between = simp (r .old-at, r .new-at) at (c .before .before .before .before .before .before .clear-reading .ensures) in
+    let between = rw (r .old-at) at (c .before .before .before .before .before .before .clear-reading .ensures) in
     let shown = leaves (a .font .now) (a .old-text .now) (new s) (a .place .background) (screen s) (λ o. o) (r .unrefused) between (rw (r .new-at) at (d .shown)) in
     let summed = d .told .summed ∙ ap (sums (u8g2 (a .font .now)) (a .new-text .now)) answered in
     (answered, (shown, (leaves-reading (setting s) (a .old-text .now) (reading s) answered shown, summed)))

@@ -14,14 +14,14 @@ returns c =
     let s = c .before .before .before .before in
     let a = s .args in
     let e = sym (c .before .before .measure-reading .ensures) ∙ ap dimensionsOutcome (c .enum-told .given .1) in
-    (refused-reading (a .extent) (atOrigin (a .font .now) (a .vertical-pos) (a .k)) e, s .pre)
+    (refused-reading (a .extent) (atOrigin (a .font .now) (a .vertical-pos) (a .horizontal-align) (a .k)) e, s .pre)
 
 returns-2 : tie.Need-returns-2
 returns-2 c =
     let s = c .before .before .before .before .before .before .before in
     let a = s .args in
     let e = sym (c .before .before .before .before .before .measure-reading .ensures) ∙ ap dimensionsOutcome (c .before .before .before .measured .given .1) in
-    (boxless-reading (a .extent) (atOrigin (a .font .now) (a .vertical-pos) (a .k)) e (c .enum-told2 .given .1), s .pre)
+    (boxless-reading (a .extent) (atOrigin (a .font .now) (a .vertical-pos) (a .horizontal-align) (a .k)) e (c .enum-told2 .given .1), s .pre)
 
 returns-3 : tie.Need-returns-3
 returns-3 c =
@@ -29,7 +29,7 @@ returns-3 c =
     let w = c .widened .ensures in
     let e = sym (c .before .before .before .before .before .before .before .measure-reading .ensures) ∙ ap dimensionsOutcome (c .before .before .before .before .before .measured .given .1) in
     let b = c .before .before .bounding-box .given .1 in
-    (w .0 ∙ measured-reading (a .extent) (atOrigin (a .font .now) (a .vertical-pos) (a .k)) e b, w .1)
+    (w .0 ∙ measured-reading (a .extent) (atOrigin (a .font .now) (a .vertical-pos) (a .horizontal-align) (a .k)) e b, w .1)
 
 pub with-reading-spec : {M : Type 1} → statement M
 with-reading-spec =

@@ -18,7 +18,8 @@ returns c =
     let w = c .before .before .before .side .ensures ∙ both side (toZ-ofZ fx) (toZ-ofZ fr) in
     let h = c .side2 .ensures ∙ both side (toZ-ofZ fy) (toZ-ofZ fb) in
     let e = is-place (a .font .now) (a .options) (m .ensures .edges) (p .ensures) w h in
-    (e, λ wanted. subst (λ (q : Place). Uncut q (extentOf (a .font .now) (a .options .«vertical_pos») 901) → AllSeen (a .font .now) q) (sym e) (all-seen (a .font .now) (a .options) wanted))
+    let edges = extentOf (a .font .now) (a .options .«vertical_pos») (a .options .«horizontal_align») 901 in
+    (e, λ wanted. subst (λ (q : Place). Uncut q edges → AllSeen (a .font .now) q) (sym e) (all-seen (a .font .now) (a .options) wanted))
 
 pub place-for-spec : {M : Type 1} → statement M
 place-for-spec =
