@@ -35,7 +35,7 @@ def cause(answer):
     number, c = answer[1:]
     words = CAUSES[number]
     if number >= 7:
-        words += f"'{chr(c)}' (U+{c:04X})"
+        words += f"'{chr(c)}' (U+{c:04X})" if 33 <= c <= 126 else f'U+{c:04X}'
     return words + (' does' if number == 8 else '')
 
 

@@ -42,6 +42,7 @@ check() { # STATUS, WORDS, COMMAND
   while [[ ${1##*/} != *-text && ${1##*/} != draw-sheet ]]; do shift; done
   shown=${*//"$root/"/}
   shown=${shown//"$work/copy/"/}
+  shown=${shown//$'\n'/\\n}
   report "$right" "$wanted ${shown:0:60} | $words"
   [ "$right" = yes ] || { echo "  status $status" && head -n 5 "$work/out" "$work/err"; }
 }
@@ -190,13 +191,13 @@ size_is 100 108 draw.png
 rm draw.png
 
 echo "--- the drawings of the program and those of the model"
-for font in gauge t symbols no-background ends header; do
+for font in gauge t no-background ends; do
   for file in "$root/fonts/$font.bin" "$font.bin"; do
     [ ! -e "$file" ] || cp "$file" font.bin
   done
   for words in "" left center right "background right"; do
     right=yes
-    for text in "$lines" $'-4\n4\n--' $'\n\n' $' 7\n-\n~' $'7\n\xff' "$(printf '1\n%0100d' 5)"; do
+    for text in "$lines" $'-4\n4\n--' $'\n\n' $' 7\n-\n~' $'4\n\n-\n°\xc3\xa9' $'7\n\xff' "$(printf '1\n%0100d' 5)"; do
       # shellcheck disable=SC2086
       "$programs/draw" $words < <(printf '%s' "$text") > "$work/said"
       # shellcheck disable=SC2086
