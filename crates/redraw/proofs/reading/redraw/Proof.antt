@@ -69,6 +69,7 @@ returns c =
     let none = no-sums (u8g2 (a .font .now)) (a .new-text .now) is-refused (checks-early (a .font .now) (a .old-text .now) (new s) (screen s) e) in
     (answered, (shown, (leaves-reading (setting s) (a .old-text .now) (reading s) answered shown, ap (λ (r : DimensionsReport). r .steps) (c .refused .ensures) ∙ none)))
 
+-- `between` is read with either pen, so that clearing the new text (must-fail) is refused by `leaves`.
 returns-2 : tie.Need-returns-2
 unfolding redrawnBuffer
 returns-2 c =
@@ -78,7 +79,7 @@ returns-2 c =
     let s = entry k in
     let a = s .args in
     let answered = answers (a .font .now) (a .old-text .now) (new s) (a .place .background) (screen s) (λ o. o) (r .unrefused) (rw (r .new-at) at (d .told .counted)) in
-    let between = rw (r .old-at) at (c .before .before .before .before .before .before .clear-reading .ensures) in
+    let between = simp (r .old-at, r .new-at) at (c .before .before .before .before .before .before .clear-reading .ensures) in
     let shown = leaves (a .font .now) (a .old-text .now) (new s) (a .place .background) (screen s) (λ o. o) (r .unrefused) between (rw (r .new-at) at (d .shown)) in
     let summed = d .told .summed ∙ ap (sums (u8g2 (a .font .now)) (a .new-text .now)) answered in
     (answered, (shown, (leaves-reading (setting s) (a .old-text .now) (reading s) answered shown, summed)))
