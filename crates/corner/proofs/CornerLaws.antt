@@ -9,7 +9,7 @@ use Rattle.definitions.specs.Text.{point}
 use Rattle.definitions.specs.Font.{u8g2}
 use Rattle.definitions.specs.Calls.{draw, drawBuffer}
 use Rattle.corner.specs.declared.Setting.{Setting}
-use Rattle.corner.specs.Whole.{whole, measuredAtZero, opposite, drawnWhole, shownWhole, boxed, SeenWhole}
+use Rattle.corner.specs.Whole.{whole, measuredAtZero, opposite, drawnWhole, boxed, SeenWhole}
 use Rattle.corner.proofs.WholeLaws.{near, seen-whole}
 use Rattle.corner.specs.Corners.{Measured, Framed, CornerDrawn}
 

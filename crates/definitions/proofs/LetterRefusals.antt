@@ -10,7 +10,8 @@ use Rattle.definitions.specs.Header.{header}
 use Rattle.definitions.specs.Bits.{Read, got, ends, readAt}
 use Rattle.definitions.specs.Lookup.{Search, found, missing, short, search as lookup}
 use Rattle.definitions.specs.Glyph.{unlessEnds, fields, fromSearch, glyph}
-use Rattle.definitions.specs.Text.{Answer, shows, nothing, stops, answer, Layout, point, dimensionsOf, place, letters, Lines, last, first, lines, newline, thenLines, lineByLine, withOffset, alignedLine, aligned}
+use Rattle.definitions.specs.Text.{Answer, shows, nothing, stops, answer, Layout, point, dimensionsOf, place, letters}
+use Rattle.definitions.specs.Text.{Lines, last, first, lines, newline, thenLines, lineByLine, withOffset, alignedLine, aligned}
 use Rattle.definitions.specs.Runs.{Pixels, pixels, cut}
 use Rattle.definitions.specs.Font.{Font, u8g2, withRuns, drawable, measuredAnswer, drawnAnswer}
 

@@ -1,19 +1,18 @@
 -- What the end of a line tells of its letters; and lines one after the other, counted and shown as a loop goes. Assumes nothing.
 use Rattle.integers.proofs.Prelude.{_≡_, refl, sym, ap, subst, _∙_, Bool, true, false, _⊎_, inl, inr, List, [], _∷_, _++_, ℕ, eqb, pos, _+ℤ_}
 use Rattle.integers.proofs.Choices.{impossible}
-use Rattle.definitions.specs.Vocabulary.{BoundingBox, Point, RenderedDimensions, GlyphReader, FontColor, HorizontalAlignment}
+use Rattle.definitions.specs.Vocabulary.{Point, RenderedDimensions, GlyphReader, FontColor, HorizontalAlignment}
 use Rattle.definitions.specs.Refusals.{Outcome, success, refused}
 use Rattle.definitions.specs.Geometry.{join}
 use Rattle.definitions.specs.Runs.{Pixels, pixels, cut}
-use Rattle.definitions.specs.Text.{Answer, shows, nothing, stops, answer, Placed, boxOf, joinAll, Layout, point, before, place, letters, Lines, last, first, newline, thenLines, lineByLine}
+use Rattle.definitions.specs.Text.{Answer, shows, nothing, stops, answer, Placed, boxOf, joinAll, Layout, point, before, place, letters, Lines, last, first, newline, lineByLine}
 use Rattle.definitions.specs.Text.{horizontalOffset, withOffset, movedLine}
 use Rattle.definitions.specs.Font.{Font, measuredAnswer, withRuns, drawable, drawnAnswer}
 use Rattle.definitions.specs.Picture.{boxPicture, textPicture}
 use Rattle.definitions.specs.Framebuffer.{shown}
 use Rattle.definitions.proofs.JoinLaws.{join-assoc}
 use Rattle.definitions.proofs.FramebufferLaws.{shown-shown, shown-blank}
-use Rattle.definitions.proofs.TextLaws.{join-append, dimensionsFrom, Follows, Each}
-use Rattle.definitions.proofs.AlignedLaws.{measured-follows}
+use Rattle.definitions.proofs.TextLaws.{join-append, dimensionsFrom, Each}
 
 -- ---- letters
 

@@ -1,6 +1,6 @@
 -- The ranges of measuring: every number of a checked text stays near 0. Assumes nothing.
 use Rattle.integers.proofs.Prelude.{_≡_, refl, subst, Bool, true, false, _||_, List, _∷_, ℕ, _+_, _*_, _≤_, zero-add, arith, eqb, ℤ}
-use Rattle.integers.proofs.Prelude.{pos, negsuc, negℤ, _+ℤ_, _-ℤ_, _≤ℤ_, length, w8, w32, SFits}
+use Rattle.integers.proofs.Prelude.{pos, negℤ, _+ℤ_, _-ℤ_, _≤ℤ_, length, w8, w32, SFits}
 use Rattle.integers.proofs.Choices.{impossible}
 use Rattle.integers.specs.Integers.{pick}
 use Rattle.integers.proofs.Laws.{zarith, plus, minus, neg, range}

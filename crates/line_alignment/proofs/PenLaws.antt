@@ -47,8 +47,9 @@ module _ (answers : ℕ → Answer) (small : (c : ℕ) (g : GlyphReader) → ans
       let s = small c g e in
       let d = s .advance in
       let next = rest (suc k) (x +ℤ g .advance) (omega arith) (omega (zarith, plus x (g .advance))) (omega (zarith, plus x (g .advance))) in
+      let mine = line-box {x = pos 0 +ℤ x} {y = pos 0 +ℤ pos 0} g (omega (zarith, plus (pos 0) x)) (omega (zarith, plus (pos 0) x)) refl s in
       record {
-        box = line-join (boxAt (pos 0 +ℤ x) (pos 0 +ℤ pos 0) g) (joinAll (letters answers zero (point (x +ℤ g .advance) (pos 0)) l .glyphs)) (line-box {x = pos 0 +ℤ x} {y = pos 0 +ℤ pos 0} g (omega (zarith, plus (pos 0) x)) (omega (zarith, plus (pos 0) x)) refl s) (next .box);
+        box = line-join (boxAt (pos 0 +ℤ x) (pos 0 +ℤ pos 0) g) (joinAll (letters answers zero (point (x +ℤ g .advance) (pos 0)) l .glyphs)) mine (next .box);
         left = next .left;
         right = next .right;
       }

@@ -1,17 +1,14 @@
 -- What the checks leave of a call. Assumes nothing.
-use Rattle.integers.proofs.Prelude.{_≡_, refl, sym, ap, _∙_, Bool, true, false, List, [], _∷_, ℕ, eqb}
-use Rattle.integers.specs.Integers.{pick}
-use Rattle.definitions.specs.Vocabulary.{FontReader, Point, RenderedDimensions, Error}
+use Rattle.integers.proofs.Prelude.{_≡_, sym, ap, _∙_, false, List, ℕ, eqb}
+use Rattle.definitions.specs.Vocabulary.{FontReader, Point, Error}
 use Rattle.types.specs.declared.results.DimensionsReport.{DimensionsReport}
-use Rattle.definitions.specs.Refusals.{Outcome, success, refused, errorNumber, refusal, Cause, unlessRefused}
-use Rattle.definitions.specs.Text.{dimensions}
+use Rattle.definitions.specs.Refusals.{success, refused, errorNumber, refusal}
 use Rattle.definitions.specs.TextSteps.{measureLines}
-use Rattle.definitions.specs.Font.{Font, u8g2, measuredAnswer}
+use Rattle.definitions.specs.Font.{u8g2, measuredAnswer}
 use Rattle.definitions.specs.Calls.{openFont, Request, codePointsOf, origin, measure, dimensionsOutcome}
 use Rattle.definitions.specs.Sums.{sums}
 use Rattle.definitions.proofs.SumsLaws.{no-sums}
 use Rattle.definitions.proofs.TextLaws.{measure-lines}
-use Rattle.definitions.proofs.Utf8Laws.{position}
 use Rattle.checks.proofs.OriginLaws.{tested, origin-is, call-refused, call-goes-on}
 use Rattle.lookup_sums.specs.Reports.{refusedReport}
 use Rattle.measuring.specs.Aligned.{AlignedMeasured}

@@ -1,10 +1,9 @@
 -- The first line of a text, in bytes and in code points. Assumes nothing.
-use Rattle.integers.proofs.Prelude.{_≡_, refl, sym, ap, subst, _∙_, Bool, true, false, List, [], _∷_, _++_, ℕ, zero, suc, _+_, _≤_, _<_, arith, eqb, length, getD, take, drop}
+use Rattle.integers.proofs.Prelude.{_≡_, refl, ap, _∙_, Bool, true, false, List, [], _∷_, _++_, ℕ, suc, _+_, _≤_, _<_, arith, eqb, length, getD, take, drop}
 use Rattle.integers.proofs.Prelude.{add-one, drop-cons, drop-of-length-le, eq-eqb, ne-eqb, eqb-true}
 use Rattle.integers.specs.Integers.{pick}
-use Rattle.integers.proofs.Choices.{impossible}
 use Rattle.definitions.specs.Utf8.{encode, encodeAll, Scalars, nil, cons, characters, decode, newlines}
-use Rattle.definitions.specs.Text.{Lines, last, first, toFirst, lines}
+use Rattle.definitions.specs.Text.{first, lines}
 use Rattle.definitions.proofs.Utf8Laws.{decoded, decode-encodeAll, newlines-encode}
 use Rattle.renderer.specs.Lines.{lineOf, restOf}
 

@@ -1,37 +1,26 @@
--- Drawing a text: the letters, the loop over them, their sums, and what the causes leave of a call. Assumes nothing.
-use Rattle.integers.proofs.Prelude.{_≡_, refl, sym, ap, _∙_, Bool, true, false, List, [], _∷_, _++_, ℕ, _+_, _≤_, eqb, length, drop}
+-- Drawing letters: each of them, the loop over them, and their sums. Assumes nothing.
+use Rattle.integers.proofs.Prelude.{_≡_, refl, sym, ap, _∙_, Bool, List, _∷_, ℕ, _+_, _≤_, eqb, length, drop}
 use Rattle.integers.specs.Integers.{pick}
-use Rattle.definitions.specs.Vocabulary.{FontReader, Framebuffer, Point, RenderedDimensions, GlyphReader, LookupSteps, FontColor, Error}
-use Rattle.types.specs.declared.results.DimensionsReport.{DimensionsReport}
-use Rattle.definitions.specs.Refusals.{Outcome, success, refused, errorNumber, refusal, Cause}
+use Rattle.definitions.specs.Vocabulary.{FontReader, Point, RenderedDimensions, GlyphReader, LookupSteps, FontColor}
+use Rattle.definitions.specs.Refusals.{Outcome, success, refused}
 use Rattle.definitions.specs.Lookup.{noSteps}
-use Rattle.definitions.specs.Header.{header, fontCauses, Opened}
+use Rattle.definitions.specs.Header.{Opened}
 use Rattle.definitions.specs.Utf8.{character, firstCharacter, decode, codePoints}
-use Rattle.definitions.specs.Text.{Answer, shows, dimensions}
-use Rattle.definitions.specs.TextSteps.{step, stepShown, measureFrom, drawFrom, start}
+use Rattle.definitions.specs.Text.{Answer, shows}
+use Rattle.definitions.specs.TextSteps.{step, stepShown, drawFrom}
 use Rattle.definitions.specs.Font.{u8g2, drawnAnswer, pixelsOf}
-use Rattle.definitions.specs.Picture.{textPicture}
-use Rattle.definitions.specs.Framebuffer.{shown, framebufferCause}
-use Rattle.definitions.specs.Limits.{textCause, positionCause, backgroundCause}
-use Rattle.definitions.specs.Calls.{openFont, Request, codePointsOf, origin, drawnText, drawCauses, draw, drawBuffer, dimensionsOutcome}
 use Rattle.definitions.specs.Sums.{plusSteps, brings, sums}
-use Rattle.definitions.proofs.SumsLaws.{no-sums}
 use Rattle.definitions.proofs.LetterRefusals.{drawn-blames}
-use Rattle.definitions.proofs.OpenedLaws.{passes-font}
-use Rattle.definitions.proofs.ComesLaws.{Comes, comes-none, comes-off, comes-on, comes-passed, comes-stopped}
-use Rattle.definitions.proofs.RefusalLaws.{succeeded}
 use Rattle.definitions.proofs.GlyphLaws.{glyph-range}
-use Rattle.definitions.proofs.TextLaws.{measure-from, draw-from, draw-next}
+use Rattle.definitions.proofs.TextLaws.{draw-next}
 use Rattle.definitions.proofs.Utf8Laws.{next}
 use Rattle.answers.proofs.AnswersLaws.{drawn-glyph}
-use Rattle.checks.specs.Origins.{originBy, CheckedLine}
-use Rattle.checks.proofs.OriginLaws.{tested, origin-is}
+use Rattle.checks.specs.Origins.{CheckedLine}
 use Rattle.layout.specs.Ranges.{Within}
 use Rattle.layout.proofs.RangeLaws.{Small, in-range-small}
 use Rattle.layout.proofs.LoopLaws.{reached-start, reached-last, reached-next}
 use Rattle.layout.proofs.MeasureLaws.{Measured, measured-start, measured-next}
 use Rattle.layout.proofs.SumLoopLaws.{Summed, summed-next, summed-stops, step-goes-on, step-stops}
-use Rattle.lookup_sums.specs.Reports.{refusedReport}
 
 -- ---- a letter
 

@@ -10,7 +10,7 @@ use Rattle.types.specs.declared.style.HorizontalAlignment.the-variants.{Left, C
 use Rattle.definitions.specs.Refusals.{Outcome, success, refused}
 use Rattle.definitions.specs.Header.{Opened}
 use Rattle.definitions.specs.Lookup.{noSteps}
-use Rattle.definitions.specs.Geometry.{join, InReach}
+use Rattle.definitions.specs.Geometry.{join}
 use Rattle.definitions.specs.Utf8.{characters, decode, codePoints, isUtf8, newlines}
 use Rattle.definitions.specs.Text.{Answer, stops, Layout, joinAll, point, dimensionsOf, dimensions, Lines, last, lines, newline, lineByLine}
 use Rattle.definitions.specs.TextSteps.{newlineStep, start}
@@ -25,7 +25,6 @@ use Rattle.definitions.proofs.LineLaws.{Passes, StoppedAt, moved-passes, moved-
 use Rattle.definitions.proofs.SumsLaws.{total-append, total-newline, up-to-first, total-fits, counted-shorter}
 use Rattle.definitions.proofs.TextLaws.{dimensionsFrom, lines-last, Each, each-append}
 use Rattle.definitions.proofs.Utf8Laws.{character-count, newlines-decoded}
-use Rattle.checks.specs.declared.origin.Pen.{Pen}
 use Rattle.checks.specs.Origins.{Checked}
 use Rattle.checks.proofs.OriginLaws.{as-line}
 use Rattle.layout.specs.Ranges.{Near, Within}

@@ -1,5 +1,5 @@
 -- The line is measured from its own start; its box, its advance and its offset are near 0.
-use Rattle.integers.proofs.Prelude.{_≡_, refl, sym, ap, subst, _∙_, ℤ, w32, SFits, toZ, ofZ, toZ-ofZ, needs}
+use Rattle.integers.proofs.Prelude.{_≡_, sym, ap, subst, _∙_, ℤ, w32, SFits, toZ, ofZ, toZ-ofZ, needs}
 use Rattle.integers.proofs.Laws.{zarith, stored}
 use Rattle.integers.proofs.Choices.{impossible}
 use Rattle.definitions.specs.Vocabulary.{RenderedDimensions}

@@ -1,5 +1,5 @@
 -- The loop keeps that the rest of the text leads from the lines so far to where the whole text leads from its start (`LinesTo`).
-use Rattle.integers.proofs.Prelude.{_≡_, refl, sym, ap, subst, _∙_, _+_, _-_, _≤_, _<_, arith, length, take, drop, length-drop, needs}
+use Rattle.integers.proofs.Prelude.{_≡_, refl, ap, _∙_, _+_, _-_, _≤_, _<_, arith, length, take, drop, length-drop, needs}
 use Rattle.definitions.specs.Vocabulary.{LookupSteps}
 use Rattle.definitions.specs.Sums.{plusSteps, Fits32}
 use Rattle.layout.specs.CharResults.{charOutcome, charSteps}
@@ -20,7 +20,9 @@ abbrev μ-loop : tie.MeasureT-loop
 loop-holds : tie.Need-loop-holds Inv-loop μ-loop
 loop-holds c =
     let k = c .before .before .before .before .before .before in
-    simp (c .before .no-dimensions .ensures, c .no-steps .ensures) (lines-begin (k .args .font .now) (k .args .text .now) (k .args .buffer .now) (k .args .setting) (k .args .context) (k .pre .0 .checked))
+    let a = k .args in
+    simp (c .before .no-dimensions .ensures, c .no-steps .ensures)
+    (lines-begin (a .font .now) (a .text .now) (a .buffer .now) (a .setting) (a .context) (k .pre .0 .checked))
 
 line-end-requires : tie.Need-line-end-requires Inv-loop μ-loop
 line-end-requires c κs = c .loop .inv .summed .reached .inside
