@@ -6,7 +6,7 @@ use Rattle.integers.proofs.Choices.{impossible}
 use Rattle.definitions.specs.Vocabulary.{Framebuffer, BoundingBox, Point, RenderedDimensions, GlyphReader, FontColor, HorizontalAlignment, VerticalPosition, Placement}
 use Rattle.types.specs.declared.style.HorizontalAlignment.the-variants.{Left}
 use Rattle.definitions.specs.Refusals.{Outcome, success, refused, Cause, unlessRefused, anyApplies}
-use Rattle.definitions.specs.Text.{Answer, shows, nothing, stops, answer, joinAll, Layout, point, dimensions, layout}
+use Rattle.definitions.specs.Text.{Answer, shows, nothing, stops, answer, joinAll, Layout, point, dimensions, letters, Lines, first, lineByLine, layout, movedLine}
 use Rattle.definitions.specs.Runs.{Pixels, pixels, cut}
 use Rattle.definitions.specs.Font.{Font, u8g2, measuredAnswer, withRuns, drawable, drawnAnswer}
 use Rattle.definitions.specs.Framebuffer.{framebufferCause}
@@ -92,6 +92,20 @@ module _ (font : Font) (r : Request) (color : FontColor) (p : Framebuffer) (buff
   box-measured b e =
       let t = box-came (draw font r color p buffer) b (sym (drawn-box font r color p buffer) ∙ e) in
       measured-box font r ∙ ap boxAlone (drawn-is-measured (t .0) (t .1 .0)) ∙ ap success (t .1 .1)
+
+-- ---- "a 7 or 8 met in measuring leaves the panel as earlier lines drew it": the line has no glyph, whatever its letters would draw
+
+pub stopped-in-measuring : (a : HorizontalAlignment) (measured answers : ℕ → Answer) (origin advance : Point) (l : List ℕ) {n c : ℕ}
+    → letters measured (point (pos 0) (pos 0)) (point (pos 0) (pos 0)) l .advance ≡ refused n c
+    → movedLine a measured answers origin advance l ≡ record { glyphs = []; advance = refused n c }
+stopped-in-measuring a measured answers origin advance l e = rw e
+
+-- .. and no line comes after it
+pub stopped-text : (line : Point → List ℕ → Layout) (lineHeight : ℕ) (advance : Point) (l : List ℕ) (ls : Lines) {n c : ℕ}
+    → line advance l ≡ record { glyphs = []; advance = refused n c }
+    → lineByLine line lineHeight advance (first l ls) ≡ record { glyphs = []; advance = refused n c }
+unfolding lineByLine
+stopped-text line lineHeight advance l ls e = rw e
 
 -- ---- "Left draws as plain drawing does"
 

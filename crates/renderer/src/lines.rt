@@ -41,7 +41,7 @@ fn no_dimensions() -> RenderedDimensions
     }
 }
 
-// Where the line that begins at `at` ends: at the next newline, or with the text.
+// Where the line that begins at `at` ends: at the next newline, or with the text. No longer sequence of UTF-8 has a newline's byte.
 fn line_end(text: &[u8], at: usize) -> usize
     requires { ⌜ at ≤ length (now text) ⌝ }
     ensures { λ r. ⌜ r ≡ at + length (lineOf (drop at (now (text .entry)))) ⌝ }
@@ -57,7 +57,7 @@ fn line_end(text: &[u8], at: usize) -> usize
 }
 
 // One line. All of it is measured before its first letter is drawn: what stops it in measuring leaves the framebuffer as it was.
-// Drawing looks its letters up a second time, and counts none of that.
+// Drawing looks its letters up a second time, and counts none of that. It comes to what a character does: dimensions or a refusal.
 fn draw_line(
     font: &[u8],
     head: FontReader,
