@@ -1,5 +1,5 @@
-//! Which texts are left out of the comparison (A3). Up to 255 a record with jump 0 ends the chain before its code is compared; the
-//! Rust compares the code first. So a text is left out if the Rust finds a record with jump 0 for one of its letters up to 255.
+//! Which texts are left out of the comparison (A3). Up to 255 a record with jump 0 ends the chain before its code is compared,
+//! and the Rust compares the code first. So a text is left out if the Rust finds such a record for one of its letters up to 255.
 
 use crate::case::{Answer, Call, Case, Outcome};
 
