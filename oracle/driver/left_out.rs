@@ -49,6 +49,13 @@ pub fn is(case: &Case, call: Call) -> bool {
     }
 }
 
+/// A text that is left out has a letter that is missing. So unless such letters are skipped, which a step never does, a success
+/// says that too much is left out.
+pub fn too_much(case: &Case, call: Call, ours: &Answer) -> bool {
+    let skips = case.skip && !matches!(call, Call::Redraw(..));
+    !skips && text_is(case, &case.text) && !matches!(ours, Answer::Refused { number: 6..=8, .. })
+}
+
 /// What a call other than the step must answer to any text, by the Rust's answer to another one that is not left out. Letters
 /// that find a record with jump 0 are missing: skipped, they are as if they were not there; else the text comes as far as the
 /// first of them. Behind that one the newlines stay, since the anchor counts them.

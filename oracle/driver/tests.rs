@@ -182,6 +182,22 @@ fn of_a_step_both_texts_are_left_out() {
     }
 }
 
+#[test]
+fn too_much_is_left_out_where_a_text_succeeds() {
+    let font = records(0, 0, &[45, 2, 0, 0]);
+    let success = Answer::Bounds(None);
+    let step = Call::Redraw(0, Ink::Transparent);
+    let found = |text: &[u8], skip, call, ours: &Answer| {
+        left_out::too_much(&Case { skip, ..some_case(font.clone(), text) }, call, ours)
+    };
+    assert!(found(b"-\0", false, Call::Measure, &success) && found(b"-\0", true, step, &success));
+    // skipped, or a step that is left out for its old text
+    assert!(!found(b"-\0", true, Call::Measure, &success) && !found(b"-", false, step, &success));
+    for (number, wrong) in [(5, true), (6, false), (7, false), (8, false), (9, true)] {
+        assert_eq!(found(b"-\0", false, Call::Measure, &Answer::Refused { number, code_point: 0 }), wrong);
+    }
+}
+
 /// The texts that the Rust is asked for in the place of those that are left out, and what is made of its answers.
 #[test]
 fn letters_that_find_jump_0_are_missing() {
