@@ -41,12 +41,13 @@ fn read_record8(font: &[u8], at: usize, ch: u16) -> Record
     if font.len() - 1 <= at {
         return Record::Cut;
     }
-    let code = font[at] as u16;
     let jump = font[at + 1];
-    if jump == 0 {
+    let ends = jump == 0;
+    let matches = font[at] as u16 == ch;
+    if ends {
         return Record::End;
     }
-    if code == ch {
+    if matches {
         return Record::Here(2);
     }
     Record::Next(jump)
