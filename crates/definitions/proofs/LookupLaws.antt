@@ -8,12 +8,21 @@ use Rattle.integers.proofs.Choices.{impossible, of-pick}
 use Rattle.definitions.specs.Vocabulary.{FontReader, LookupSteps}
 use Rattle.integers.specs.Integers.{pick}
 use Rattle.definitions.specs.Header.{byte, bigEndian16, header}
-use Rattle.definitions.specs.Lookup.{found, missing, short, Record, here, next, last, cut, record8, record16, looked, follow, chain}
+use Rattle.definitions.specs.Lookup.{found, missing, short, Record, here, next, last, end, cut, record8, record16, looked, follow, chain}
 use Rattle.definitions.specs.Lookup.{Distance, sum, none, jumpTable, chainStart, tableStart, noSteps, afterEntries, fromTable, searchTable, search}
 
--- A record with jump 0 is found, since its code comes first.
-pub code-first : record8 45 (45 ∷ 0 ∷ []) ≡ here 2
+-- Up to 255 a record with jump 0 is not found, since its jump comes first (request A3); and without its jump nothing is known.
+pub jump-first : record8 45 (45 ∷ 0 ∷ []) ≡ end
 unfolding record8
+jump-first = refl
+
+pub jump-missing : record8 0 (0 ∷ []) ≡ cut
+unfolding record8
+jump-missing = refl
+
+-- From 256 on it is found.
+pub code-first : record16 256 (1 ∷ 0 ∷ 0 ∷ []) ≡ here 3
+unfolding record16
 code-first = refl
 
 -- The table is walked on where a distance leads past the end: an entry with a limit of 0, and then one that answers.
@@ -83,6 +92,7 @@ module _ {look : List ℕ → Record} (l : Looks look) where
                 let m : 0 + (at + 1) ≡ suc at = omega arith in
                 sym (rw (n, m) at (skip (looked steps) 0 (at + 1) (suc j - 1) font (omega arith)))
             look-at last e = refl
+            look-at end e = refl
             look-at cut e = refl
 
   pub chain-within : (steps : LookupSteps) (at n : ℕ) (s : List ℕ) (p : ℕ) (q : LookupSteps) → chain look steps at n s ≡ found p q → p ≤ at + length s
@@ -97,6 +107,7 @@ module _ {look : List ℕ → Record} (l : Looks look) where
       by later (here n) r e = let k : at + n ≡ p = cc in omega (arith, l .within (b ∷ s) n r)
       by later (next j) r e = omega (arith, later (j - 1) e)
       by later last r e = not-missing e
+      by later end r e = not-missing e
       by later cut r e = not-short e
 
   pub chain-longer : (steps : LookupSteps) (at n : ℕ) (s more : List ℕ) (p : ℕ) (q : LookupSteps)
@@ -112,6 +123,7 @@ module _ {look : List ℕ → Record} (l : Looks look) where
       by rest (here n) r e = rw (l .longer (b ∷ s) more (λ c. impossible cc), r) e
       by rest (next j) r e = rw (l .longer (b ∷ s) more (λ c. impossible cc), r) (rest (j - 1) e)
       by rest last r e = not-missing e
+      by rest end r e = not-missing e
       by rest cut r e = not-short e
 
 -- ---- a record
@@ -134,13 +146,17 @@ module _ (c : ℕ) where
   unfolding record8
   within8 [] n e = impossible cc
   within8 (a ∷ []) n e = impossible cc
-  within8 (a ∷ j ∷ s) n e = of-pick (eqb a c) (λ t q. let z : 2 ≡ n = cc in omega arith) (λ t. jump-not-here j) e
+  within8 (a ∷ j ∷ s) n e =
+      of-pick (eqb j 0) (λ t q. impossible cc)
+      (λ t. of-pick (eqb a c) (λ u q. let z : 2 ≡ n = cc in omega arith) (λ u q. impossible cc)) e
 
   moves8 : (s : List ℕ) → record8 c s ≡ next 0 → ⊥
   unfolding record8
   moves8 [] e = impossible cc
   moves8 (a ∷ []) e = impossible cc
-  moves8 (a ∷ j ∷ s) e = of-pick (eqb a c) (λ t q. impossible cc) (λ t. jump-moves j) e
+  moves8 (a ∷ j ∷ s) e =
+      of-pick (eqb j 0) (λ t q. impossible cc)
+      (λ t. of-pick (eqb a c) (λ u q. impossible cc) (λ u q. let z : j ≡ 0 = cc in eqb-false j 0 t z)) e
 
   pub looks8 : Looks (record8 c)
   unfolding record8
@@ -183,13 +199,9 @@ module _ (c : ℕ) where
 module _ (c : ℕ) (font : List ℕ) (at : ℕ) where
   pub record8-at : at + 1 < length font
       → record8 c (drop at font)
-      ≡ pick (eqb (byte font at) c) (here 2) (pick (eqb (byte font (at + 1)) 0) last (next (byte font (at + 1))))
+      ≡ pick (eqb (byte font (at + 1)) 0) end (pick (eqb (byte font at) c) (here 2) (next (byte font (at + 1))))
   unfolding record8
   record8-at h = let h₀ : at < length font = omega arith in rw (first font at h₀, later font at 1 h)
-
-  pub record8-other : at + 1 < length font → (byte font at ≡ c → ⊥)
-      → record8 c (drop at font) ≡ pick (eqb (byte font (at + 1)) 0) last (next (byte font (at + 1)))
-  record8-other h other = record8-at h ∙ rw (ne-eqb (byte font at) c other)
 
   pub record8-cut : length font ≤ at + 1 → record8 c (drop at font) ≡ cut
   unfolding record8

@@ -5,10 +5,11 @@ use Rattle.integers.proofs.Prelude.{length-drop, leb-true}
 use Rattle.integers.specs.Integers.{pick}
 use Rattle.definitions.specs.Vocabulary.{LookupSteps}
 use Rattle.definitions.specs.Header.{header}
-use Rattle.definitions.specs.Lookup.{Search, found, missing, short, Record, here, next, last, cut, record8, record16, looked, follow, chain}
+use Rattle.definitions.specs.Lookup.{Search, found, missing, short, Record, here, next, last, end, cut, record8, record16, looked, follow, chain}
 use Rattle.definitions.specs.Lookup.{Distance, sum, none, jumpTable, chainStart, tableStart, noSteps, afterEntries, fromTable, search, stepsOf}
 
--- The record that is found counts, and so does one with code 0 that ends the chain.
+-- The record that is found counts, and so does one with code 0 that ends the chain of two-byte codes. One with jump 0 counts there
+-- too; up to 255 it does not (request A3).
 pub found-counts : chain (record8 45) noSteps 0 0 (45 ∷ 5 ∷ []) ≡ found 2 record { records = 1; entries = 0 }
 unfolding chain record8
 found-counts = refl
@@ -16,6 +17,14 @@ found-counts = refl
 pub zero-counts : chain (record16 256) noSteps 0 0 (0 ∷ 0 ∷ []) ≡ missing record { records = 1; entries = 0 }
 unfolding chain record16
 zero-counts = refl
+
+pub jump-0-counts : chain (record16 256) noSteps 0 0 (1 ∷ 1 ∷ 0 ∷ []) ≡ missing record { records = 1; entries = 0 }
+unfolding chain record16
+jump-0-counts = refl
+
+pub jump-0-does-not : chain (record8 45) noSteps 0 0 (33 ∷ 2 ∷ 45 ∷ 0 ∷ []) ≡ missing record { records = 1; entries = 0 }
+unfolding chain record8
+jump-0-does-not = refl
 
 -- An entry of which a byte is missing does not.
 pub partial-does-not : jumpTable 256 0 0 (0 ∷ 4 ∷ 0 ∷ 0 ∷ 0 ∷ 4 ∷ 255 ∷ []) ≡ none 1
@@ -48,6 +57,7 @@ chain-steps look steps at zero (b ∷ s) = by (λ n. chain-steps look (looked st
     by later (here n) = (omega arith, refl)
     by later (next jump) = of-weaker (λ q h. (omega arith, h .1)) (chain look (looked steps) (suc at) (jump - 1) s) (later (jump - 1))
     by later last = (omega arith, refl)
+    by later end = (omega arith, refl)
     by later cut = tt
 
 -- ---- the jump table: an entry takes four bytes

@@ -217,11 +217,14 @@ cases =
     -- the glyphs of "-" and "4"
     ∷ record { given = answered (glyph T 45); expected = answered (success (metrics 2 1 (pos 0) (pos 2) (pos 3) 214)) }
     ∷ record { given = answered (glyph T 52); expected = answered (success (metrics 2 2 (pos 0) (pos 0) (pos 3) 254)) }
-    -- * "A", U+0100 and U+10000: 7; U+0000: 8, as the record 0 0 is found
+    -- * "A", U+0100, U+10000 and U+0000: 7 (U+0000 amended by A3: the record 0 0 ends the chain)
     ∷ record { given = answered (glyph T 65); expected = answered (refused 7 65) }
     ∷ record { given = answered (glyph T 256); expected = answered (refused 7 256) }
     ∷ record { given = answered (glyph T 65536); expected = answered (refused 7 65536) }
-    ∷ record { given = answered (glyph T 0); expected = answered (refused 8 0) }
+    ∷ record { given = answered (glyph T 0); expected = answered (refused 7 0) }
+    -- .. whatever follows that record; without its jump it is 8
+    ∷ record { given = answered (glyph (T ++ replicate 9 0) 0); expected = answered (refused 7 0) }
+    ∷ record { given = answered (glyph (take 34 T) 0); expected = answered (refused 8 0) }
     -- * the first 33 bytes of T: "4" is there, "A" is 8
     ∷ record { given = answered (glyph (take 33 T) 52); expected = answered (success (metrics 2 2 (pos 0) (pos 0) (pos 3) 254)) }
     ∷ record { given = answered (glyph (take 33 T) 65); expected = answered (refused 8 65) }
@@ -256,39 +259,55 @@ cases =
     -- * "-", newline, "4"
     ∷ record { given = measuredAt T (45 ∷ 10 ∷ 52 ∷ []); expected = measured fourBelow }
     ∷ record { given = drawnAt T (45 ∷ 10 ∷ 52 ∷ []); expected = drawn fourBelow (inked fourBelowPixels) }
-    -- * "A", U+0100 and U+10000: 7; U+0000: 8
+    -- * "A", U+0100, U+10000 and U+0000: 7 (U+0000 amended by A3)
     ∷ record { given = measuredAt T (65 ∷ []); expected = measured (refused 7 65) }
     ∷ record { given = measuredAt T (196 ∷ 128 ∷ []); expected = measured (refused 7 256) }
     ∷ record { given = measuredAt T (240 ∷ 144 ∷ 128 ∷ 128 ∷ []); expected = measured (refused 7 65536) }
-    ∷ record { given = measuredAt T (0 ∷ []); expected = measured (refused 8 0) }
-    -- unknown letters skipped: "A", and "-A4"; an 8 is never: "-", U+0000, "4"
+    ∷ record { given = measuredAt T (0 ∷ []); expected = measured (refused 7 0) }
+    -- unknown letters skipped: "A", and "-A4"; an 8 is never: "-A" in the first 33 bytes of T
     ∷ record { given = measuredWith true T (65 ∷ []); expected = measured (dims (pos 0) (pos 0) None) }
     ∷ record {
       given = drawnWith (Transparent 1) true T (45 ∷ 65 ∷ 52 ∷ []);
       expected = drawn minusFour (inked minusFourPixels);
     }
     ∷ record {
-      given = drawnWith (Transparent 1) true T (45 ∷ 0 ∷ 52 ∷ []);
-      expected = drawn (refused 8 0) (inked minusPixels);
+      given = drawnWith (Transparent 1) true (take 33 T) (45 ∷ 65 ∷ []);
+      expected = drawn (refused 8 65) (inked minusPixels);
+    }
+    -- "-4" padded with U+0000 to eight characters, skipped and not (request A3)
+    ∷ record {
+      given = drawnWith (Transparent 1) true T (45 ∷ 52 ∷ replicate 6 0);
+      expected = drawn minusFour (inked minusFourPixels);
+    }
+    ∷ record {
+      given = drawnAt T (45 ∷ 52 ∷ replicate 6 0);
+      expected = drawn (refused 7 0) (inked minusFourPixels);
+    }
+    ∷ record {
+      given = alignedOn Alignment·Center T (45 ∷ 52 ∷ replicate 6 0);
+      expected = drawnAligned (refused 7 0) (steps 5 0) (inked []);
     }
     -- * the first 33 bytes of T: "4" is drawn, "A" is 8
     ∷ record { given = drawnAt (take 33 T) (52 ∷ []); expected = drawn four (inked fourPixels) }
     ∷ record { given = drawnAt (take 33 T) (65 ∷ []); expected = drawn (refused 8 65) (inked []) }
     -- * the empty text
     ∷ record { given = measuredAt T []; expected = measured (dims (pos 0) (pos 0) None) }
-    -- the sums of a success, newlines bringing nothing; of "A" and "5", which are missing; of U+10000, for which no byte is read
+    -- the sums of a success, newlines bringing nothing; of "A", "5" and U+0000, which are missing, the record with jump 0 not
+    -- counted (amended by A3); of U+10000, for which no byte is read
     ∷ record { given = summedAt T (45 ∷ 52 ∷ []); expected = summed minusFour (steps 3 0) }
     ∷ record { given = summedAt T (45 ∷ 10 ∷ 52 ∷ []); expected = summed fourBelow (steps 3 0) }
-    ∷ record { given = summedAt T (65 ∷ []); expected = summed (refused 7 65) (steps 1 0) }
-    ∷ record { given = summedAt T (53 ∷ []); expected = summed (refused 7 53) (steps 3 0) }
+    ∷ record { given = summedAt T (65 ∷ []); expected = summed (refused 7 65) (steps 0 0) }
+    ∷ record { given = summedAt T (53 ∷ []); expected = summed (refused 7 53) (steps 2 0) }
+    ∷ record { given = summedAt T (0 ∷ []); expected = summed (refused 7 0) (steps 2 0) }
     ∷ record { given = summedAt T (240 ∷ 144 ∷ 128 ∷ 128 ∷ []); expected = summed (refused 7 65536) (steps 0 0) }
     -- with 7 up to the missing letter, with 8 none
-    ∷ record { given = summedAt T (45 ∷ 65 ∷ []); expected = summed (refused 7 65) (steps 2 0) }
-    ∷ record { given = summedAt T (45 ∷ 65 ∷ 52 ∷ []); expected = summed (refused 7 65) (steps 2 0) }
+    ∷ record { given = summedAt T (45 ∷ 65 ∷ []); expected = summed (refused 7 65) (steps 1 0) }
+    ∷ record { given = summedAt T (45 ∷ 65 ∷ 52 ∷ []); expected = summed (refused 7 65) (steps 1 0) }
     ∷ record { given = summedAt (take 33 T) (45 ∷ 65 ∷ []); expected = summed (refused 8 65) (steps 0 0) }
-    -- a text that is not UTF-8; "A" skipped
+    -- a text that is not UTF-8; "A" skipped; the padded "-4", of which each U+0000 passes two records
     ∷ record { given = summedAt T (45 ∷ 255 ∷ []); expected = summed (refused 4 0) (steps 0 0) }
-    ∷ record { given = summedBy (measure (u8g2 T)) true T (45 ∷ 65 ∷ 52 ∷ []); expected = summed minusFour (steps 4 0) }
+    ∷ record { given = summedBy (measure (u8g2 T)) true T (45 ∷ 65 ∷ 52 ∷ []); expected = summed minusFour (steps 3 0) }
+    ∷ record { given = summedBy (measure (u8g2 T)) true T (45 ∷ 52 ∷ replicate 6 0); expected = summed minusFour (steps 15 0) }
     -- runs that the font's end cuts off: 8 in drawing alone
     ∷ record { given = summedAt (take 32 T) (52 ∷ []); expected = summed four (steps 2 0) }
     ∷ record {
@@ -311,6 +330,12 @@ cases =
       given = summedAt (T ++ 0 ∷ 4 ∷ 255 ∷ 255 ∷ 1 ∷ 0 ∷ 6 ∷ 138 ∷ 62 ∷ 2 ∷ []) (196 ∷ 128 ∷ []);
       expected = summed minus (steps 1 1);
     }
+    -- .. and with jump 0, which up to 255 ends the chain (request A3)
+    ∷ record {
+      given = summedAt (take 23 F ++ 0 ∷ 4 ∷ 255 ∷ 255 ∷ 1 ∷ 0 ∷ 0 ∷ 138 ∷ 62 ∷ 2 ∷ []) (196 ∷ 128 ∷ []);
+      expected = summed minus (steps 1 1);
+    }
+    ∷ record { given = summedAt (take 23 F ++ 45 ∷ 0 ∷ 138 ∷ 62 ∷ 2 ∷ []) (45 ∷ []); expected = summed (refused 7 45) (steps 0 0) }
     -- aligned drawing: "-", an empty line, "-", of which the last lies below the pixels; "-" and "-4" centred and from the right
     ∷ record {
       given = alignedOn Alignment·Left T (45 ∷ 10 ∷ 10 ∷ 45 ∷ []);
@@ -329,15 +354,15 @@ cases =
     -- "-", newline, "4A": Left has drawn the "4", the others measure the line first; the sums are the same
     ∷ record {
       given = alignedOn Alignment·Left T (45 ∷ 10 ∷ 52 ∷ 65 ∷ []);
-      expected = drawnAligned (refused 7 65) (steps 4 0) (inked fourBelowPixels);
+      expected = drawnAligned (refused 7 65) (steps 3 0) (inked fourBelowPixels);
     }
     ∷ record {
       given = alignedOn Alignment·Center T (45 ∷ 10 ∷ 52 ∷ 65 ∷ []);
-      expected = drawnAligned (refused 7 65) (steps 4 0) (inked ((9, 17) ∷ (10, 17) ∷ []));
+      expected = drawnAligned (refused 7 65) (steps 3 0) (inked ((9, 17) ∷ (10, 17) ∷ []));
     }
     ∷ record {
       given = alignedOn Alignment·Right T (45 ∷ 10 ∷ 52 ∷ 65 ∷ []);
-      expected = drawnAligned (refused 7 65) (steps 4 0) (inked ((8, 17) ∷ (9, 17) ∷ []));
+      expected = drawnAligned (refused 7 65) (steps 3 0) (inked ((8, 17) ∷ (9, 17) ∷ []));
     }
     -- "4" with its runs cut off, and U+10000 after it: with Center and Right the later 7 comes before the cut runs' 8
     ∷ record {

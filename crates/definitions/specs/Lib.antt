@@ -11,6 +11,7 @@ pub mod Utf8
 pub mod Text
 pub mod Runs
 pub mod Font
+pub mod FirstRule
 pub mod Picture
 pub mod Framebuffer
 pub mod TextSteps

@@ -22,14 +22,16 @@ pub data Search : Type 0 where
 pub data Record : Type 0 where
   here : ℕ → Record  -- its glyph begins so many bytes on
   next : ℕ → Record  -- the next record begins so many bytes on
-  last : Record  -- the chain ends
+  last : Record  -- the chain ends with it
+  end : Record  -- the chain ends before it: its code is not looked at
   cut : Record  -- a byte is missing
 
--- Up to 255. The glyph is here if the code matches; if not, jump 0 ends the chain, and any other jump leads on.
+-- Up to 255. Jump 0 ends the chain before the code is compared (amended by A3; the rule before it is in FirstRule.antt). The glyph
+-- is here if the code matches; if not, the jump leads on.
 unfoldable pub record8 : ℕ → List ℕ → Record
 record8 c [] = cut
 record8 c (code ∷ []) = cut
-record8 c (code ∷ jump ∷ s) = pick (eqb code c) (here 2) (pick (eqb jump 0) last (next jump))
+record8 c (code ∷ jump ∷ s) = pick (eqb jump 0) end (pick (eqb code c) (here 2) (next jump))
 
 -- From 256 on a code has two bytes, and code 0 ends the chain before the jump is needed.
 unfoldable pub record16 : ℕ → List ℕ → Record
@@ -43,7 +45,7 @@ record16 c (high ∷ low ∷ jump ∷ s) =
 
 -- ---- the chain
 
--- A record whose code was looked at is a step, whichever its code.
+-- A record whose code was looked at is a step, whichever its code. So up to 255 one with jump 0 is none (amended by A3).
 abbrev pub looked : LookupSteps → LookupSteps
 looked steps = record { records = steps .records + 1; entries = steps .entries }
 
@@ -52,6 +54,7 @@ abbrev pub follow : Record → LookupSteps → ℕ → (ℕ → Search) → Sear
 follow (here n) steps at rest = found (at + n) (looked steps)
 follow (next jump) steps at rest = rest jump
 follow last steps at rest = missing (looked steps)
+follow end steps at rest = missing steps
 follow cut steps at rest = short
 
 -- Record after record, each looked at as `look` does.

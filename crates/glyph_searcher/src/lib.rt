@@ -26,7 +26,8 @@ pub enum SearchResult {
 }
 
 // The chain from the record at `start` on, of records whose codes have char_width bytes, after so many entries of the jump
-// table. Of a record that is neither found nor followed by another the code was looked at too.
+// table. A record counts where its code was looked at: one that ends the chain by its jump does from 256 on, and does not up to
+// 255 (amended by A3).
 fn search_chain(font: &[u8], start: usize, ch: u16, char_width: usize, entries: u32) -> SearchResult
     requires { ⌜ InLimits (length (now font)) start ⌝ }
     ensures { λ r. ⌜ searched r ≡ chain (recordOf «char_width» ch) (afterEntries entries) 0 start (now (font .entry)) ⌝ }
@@ -46,6 +47,9 @@ fn search_chain(font: &[u8], start: usize, ch: u16, char_width: usize, entries: 
                 at += jump as usize;
             }
             Record::Last => return SearchResult::GlyphNotFound(looked),
+            Record::End => {
+                return SearchResult::GlyphNotFound(LookupSteps { records, entries });
+            }
             Record::Cut => return SearchResult::FontEnds,
         }
     }

@@ -14,8 +14,10 @@ pub enum Record {
     Here(u8),
     // the next record begins so many bytes on
     Next(u8),
-    // the chain ends
+    // the chain ends with it
     Last,
+    // the chain ends before it: its code is not looked at
+    End,
     // a byte is missing
     Cut,
 }
@@ -30,8 +32,8 @@ fn jump_to_next(jump: u8) -> Record
     Record::Next(jump)
 }
 
-// A record with a code of one byte. Its code counts before its jump, as in the
-// Rust's `retrieve_glyph_data` (SPECIFICATION, Lookup).
+// A record with a code of one byte. Its jump counts before its code, as in
+// `u8g2_font.c` and not as in the Rust (amended by A3; SPECIFICATION, Lookup).
 fn read_record8(font: &[u8], at: usize, ch: u16) -> Record
     requires { ⌜ 23 ≤ length (now font) ⌝ }
     ensures { λ r. ⌜ asRecord r ≡ record8 ch (drop at (now (font .entry))) ⌝ }
@@ -39,10 +41,16 @@ fn read_record8(font: &[u8], at: usize, ch: u16) -> Record
     if font.len() - 1 <= at {
         return Record::Cut;
     }
-    if font[at] as u16 == ch {
+    let jump = font[at + 1];
+    let ends = jump == 0;
+    let matches = font[at] as u16 == ch;
+    if ends {
+        return Record::End;
+    }
+    if matches {
         return Record::Here(2);
     }
-    jump_to_next(font[at + 1])
+    Record::Next(jump)
 }
 
 // A record with a code of two bytes. Code 0 ends the chain, also where its jump is missing.
