@@ -87,12 +87,12 @@ pub fn verdict(case: &Case, call: Call, ours: &Outcome, measured: &Outcome) -> V
         return Verdict::NotCompared(if same { "8 bits wide, and the same" } else { "8 bits wide, and different or a panic" });
     }
     if left_out::is(case, call) {
+        if let Some(what) = left_out::wrong(case, call, &ours.answer, rust_side::call) {
+            return Verdict::Different(what.to_string());
+        }
         // ours must be as if the letters were missing that the text is left out for
         let (amended, old) = answered(case, call, |case, call| left_out::amended(case, call, rust_side::call));
         return match judged(&amended, old, ours) {
-            _ if left_out::too_much(case, call, &ours.answer) => {
-                Verdict::Different("left out, and no letter is missing".to_string())
-            }
             Verdict::Different(what) => Verdict::Different(format!("left out, with these letters missing: {what}")),
             _ => Verdict::LeftOut { rust: outcome_name(&rust.answer), ours: outcome_name(&ours.answer) },
         };

@@ -21,10 +21,14 @@ fn finds_jump_0(font: &[u8], code: u8) -> bool {
     false
 }
 
+fn letters_of(text: &[u8]) -> &str {
+    std::str::from_utf8(text).expect("a text within limits")
+}
+
 /// For which code points up to 255 that is so, of those that the text has. A newline is not looked up.
-fn letters(font: &[u8], text: &str) -> [bool; 256] {
+fn ones(font: &[u8], text: &[u8]) -> [bool; 256] {
     let mut has = [false; 256];
-    for ch in text.chars().filter(|ch| *ch != '\n') {
+    for ch in letters_of(text).chars().filter(|ch| *ch != '\n') {
         if let Ok(code) = u8::try_from(u32::from(ch)) {
             has[usize::from(code)] = true;
         }
@@ -32,12 +36,8 @@ fn letters(font: &[u8], text: &str) -> [bool; 256] {
     std::array::from_fn(|code| has[code] && finds_jump_0(font, code as u8))
 }
 
-fn is_one(letters: &[bool; 256], ch: char) -> bool {
-    letters.get(ch as usize).is_some_and(|one| *one)
-}
-
 fn text_is(case: &Case, text: &[u8]) -> bool {
-    letters(&case.font, std::str::from_utf8(text).expect("a text within limits")).contains(&true)
+    ones(&case.font, text).contains(&true)
 }
 
 /// Whether a call within limits is left out. Of a step both texts count.
@@ -49,24 +49,40 @@ pub fn is(case: &Case, call: Call) -> bool {
     }
 }
 
-/// A text that is left out has a letter that is missing. So unless such letters are skipped, which a step never does, a success
-/// says that too much is left out.
-pub fn too_much(case: &Case, call: Call, ours: &Answer) -> bool {
-    let skips = case.skip && !matches!(call, Call::Redraw(..));
-    !skips && text_is(case, &case.text) && !matches!(ours, Answer::Refused { number: 6..=8, .. })
+/// What says that too much is left out. A text that is left out has a letter that is missing, so unless such letters are skipped,
+/// which a step never does, ours is refused. And the Rust finds each of these letters, though the font may end in its fields.
+pub fn wrong(case: &Case, call: Call, ours: &Answer, mut rust: impl FnMut(&Case, Call) -> Outcome) -> Option<&'static str> {
+    let step = matches!(call, Call::Redraw(..));
+    let may_succeed = case.skip && !step || !text_is(case, &case.text);
+    if !may_succeed && !matches!(ours, Answer::Refused { number: 6..=8, .. }) {
+        return Some("left out, and no letter is missing");
+    }
+    let mut finds = |code: u8| {
+        let alone = Case { text: char::from(code).to_string().into_bytes(), skip: false, ..case.clone() };
+        match rust(&alone, Call::Measure).answer {
+            Answer::Text { .. } => true,
+            Answer::Panicked { site, .. } => site.starts_with("font_reader/glyph_reader.rs"),
+            _ => false,
+        }
+    };
+    let texts = if step { vec![&case.text, &case.old_text] } else { vec![&case.text] };
+    let found = texts.into_iter().map(|text| ones(&case.font, text)).all(|ones| {
+        (0..=255).all(|code| !ones[usize::from(code)] || finds(code))
+    });
+    (!found).then_some("left out for a letter that the Rust does not find")
 }
 
 /// What a call other than the step must answer to any text, by the Rust's answer to another one that is not left out. Letters
 /// that find a record with jump 0 are missing: skipped, they are as if they were not there; else the text comes as far as the
 /// first of them. Behind that one the newlines stay, since the anchor counts them.
 pub fn amended(case: &Case, call: Call, rust: impl FnOnce(&Case, Call) -> Outcome) -> Outcome {
-    let text = std::str::from_utf8(&case.text).expect("a text within limits");
-    let ones = letters(&case.font, text);
+    let (text, ones) = (letters_of(&case.text), ones(&case.font, &case.text));
+    let is_one = |ch: char| ones.get(ch as usize).is_some_and(|one| *one);
     let with = |text: String| Case { text: text.into_bytes(), ..case.clone() };
     if case.skip {
-        return rust(&with(text.chars().filter(|ch| !is_one(&ones, *ch)).collect()), call);
+        return rust(&with(text.chars().filter(|ch| !is_one(*ch)).collect()), call);
     }
-    let Some(at) = text.find(|ch| is_one(&ones, ch)) else { return rust(case, call) };
+    let Some(at) = text.find(is_one) else { return rust(case, call) };
     let missing = text[at..].chars().next().map_or(0, u32::from);
     let newlines = "\n".repeat(text[at..].matches('\n').count());
     let before = rust(&with(text[..at].to_string() + &newlines), call);

@@ -183,18 +183,45 @@ fn of_a_step_both_texts_are_left_out() {
 }
 
 #[test]
-fn too_much_is_left_out_where_a_text_succeeds() {
+fn too_much_is_left_out() {
     let font = records(0, 0, &[45, 2, 0, 0]);
     let success = Answer::Bounds(None);
     let step = Call::Redraw(0, Ink::Transparent);
-    let found = |text: &[u8], skip, call, ours: &Answer| {
-        left_out::too_much(&Case { skip, ..some_case(font.clone(), text) }, call, ours)
+    let wrong = |text: &[u8], skip, call, ours: &Answer| {
+        let case = Case { skip, old_text: b"-".to_vec(), ..some_case(font.clone(), text) };
+        left_out::wrong(&case, call, ours, toy_draw)
     };
-    assert!(found(b"-\0", false, Call::Measure, &success) && found(b"-\0", true, step, &success));
+    let succeeds = Some("left out, and no letter is missing");
+    assert_eq!(wrong(b"-\0", false, Call::Measure, &success), succeeds);
+    assert_eq!(wrong(b"-\0", true, step, &success), succeeds);
     // skipped, or a step that is left out for its old text
-    assert!(!found(b"-\0", true, Call::Measure, &success) && !found(b"-", false, step, &success));
-    for (number, wrong) in [(5, true), (6, false), (7, false), (8, false), (9, true)] {
-        assert_eq!(found(b"-\0", false, Call::Measure, &Answer::Refused { number, code_point: 0 }), wrong);
+    assert_eq!(wrong(b"-\0", true, Call::Measure, &success), None);
+    assert_eq!(wrong(b"-", false, step, &success), None);
+    for (number, found) in [(5, succeeds), (6, None), (7, None), (8, None), (9, succeeds)] {
+        assert_eq!(wrong(b"-\0", false, Call::Measure, &Answer::Refused { number, code_point: 0 }), found);
+    }
+}
+
+#[test]
+fn the_rust_finds_the_letters_that_texts_are_left_out_for() {
+    let case = Case { old_text: b"b-".to_vec(), skip: true, ..some_case(records(0, 0, &[97, 2, 98, 0]), b"ab") };
+    let asked = |call, answer: &Answer, texts: &[&[u8]]| {
+        let mut asked = Vec::new();
+        let wrong = left_out::wrong(&case, call, &Answer::Refused { number: 7, code_point: 98 }, |c, call| {
+            assert!(call == Call::Measure && !c.skip);
+            asked.push(c.text.clone());
+            outcome(answer.clone(), None)
+        });
+        assert_eq!(asked, texts);
+        wrong
+    };
+    let panic = |site: &str| Answer::Panicked { code_point: 98, site: site.to_string() };
+    let found = Answer::Text { advance: (0, 0), bounds: None };
+    assert_eq!(asked(Call::Measure, &found, &[b"b"]), None);
+    assert_eq!(asked(Call::Redraw(0, Ink::Transparent), &found, &[b"b", b"b"]), None);
+    assert_eq!(asked(Call::Measure, &panic("font_reader/glyph_reader.rs:57: x"), &[b"b"]), None);
+    for answer in [Answer::Refused { number: 7, code_point: 98 }, panic("font_reader/glyph_searcher.rs:12: x")] {
+        assert_eq!(asked(Call::Measure, &answer, &[b"b"]), Some("left out for a letter that the Rust does not find"));
     }
 }
 
