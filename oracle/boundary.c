@@ -75,7 +75,7 @@ static int still(uint32_t status, uint32_t number) {
 
 static int readings(void) {
     const int64_t four[ROOM] = {0, 3, 0, 1, 0, 2, 2, 2, 2, 0, 77}, ended[ROOM] = {52, 0, 0, 0, 0, 0, 0, 0, 0, 0, 77};
-    const int64_t missing[ROOM] = {65, 0, 0, 0, 0, 0, 0, 0, 2, 0, 77};
+    const int64_t missing[ROOM] = {65, 0, 0, 0, 0, 0, 0, 0, 1, 0, 77};
     /* over another reading, over none, and from a longer one to a shorter */
     if (!alone("4-4")) return 20;
     fill();

@@ -224,8 +224,8 @@ look('table on the records', but(T, (22, 0)), 'Ā', 'no 8 256')
 look('code 0 without its jump', K + bytes([0, 4, 255, 255, 0, 0]), 'Ā', 'no 7 256')
 look('glyph count 0', but(T, (0, 0)), '4', 'ok 3 0 0 -2 2 2')
 look('glyph count 1', but(T, (0, 1)), '4', 'ok 3 0 0 -2 2 2')
-look('T and nine zeros, U+0000', T + bytes(9), '\0', 'ok -4 0 none')
-look('T, U+0000', T, '\0', 'no 8 0')
+look('T and nine zeros, U+0000', T + bytes(9), '\0', 'no 7 0')
+look('T, U+0000', T, '\0', 'no 7 0')
 look('300 records with jump 1, then the end', K + bytes([1]) * 300, '-', 'no 8 45')
 look('300 records with jump 1, then jump 0', K + bytes([1]) * 300 + bytes([0]), '-', 'no 7 45')
 look('300 records with jump 2, then found', K + bytes([1, 2]) * 300 + bytes([45, 9, 138, 62, 2, 0]), '-', 'ok 3 0 0 -3 2 1')
@@ -273,7 +273,7 @@ for name, bytes_ in (('C0 AF', [0xC0, 0xAF]), ('C1 BF', [0xC1, 0xBF]), ('E0 80 8
 for c in (0x7F, 0x80, 0x7FF, 0x800, 0xD7FF, 0xE000, 0xFFFF, 0x10000, 0x10FFFF):
     look('U+%04X' % c, T, chr(c), None)
 look('skipped letters', T, '-A4Ā\U00010000', 'ok 6 0 0 -3 5 3', skip=True)
-look('skipping does not hide 8', T, '-\0', 'no 8 0', skip=True)
+look('skipping does not hide 8', T[:34], '-\0', 'no 8 0', skip=True)
 look('the first refusal counts', T, 'BA', 'no 7 66')
 look('T, U+0100 skipped', T, 'Ā', 'ok 0 0 none', skip=True)
 for v, want in ((1048576, None), (-1048576, None), (1048577, 'no 5 0'), (-1048577, 'no 5 0'),
@@ -459,25 +459,25 @@ FORTY = K + bytes([0, 4, 0, 50]) * 39 + bytes([0, 4, 255, 255])
 LONG_16 = K + bytes([0, 4, 255, 255]) + bytes([1, 2, 3]) * 300
 
 summed('-4', T, '-4', 'ok', 3, 0, BOTH)
-summed('A', T, 'A', '7 65', 1, 0, BOTH)
-summed('5', T, '5', '7 53', 3, 0, BOTH)
+summed('A', T, 'A', '7 65', 0, 0, BOTH)
+summed('5', T, '5', '7 53', 2, 0, BOTH)
 summed('U+10000', T, '\U00010000', '7 65536', 0, 0, BOTH)
 summed('F1, U+0100', F1, 'Ā', '7 256', 0, 1, BOTH)
 summed('F1 and 3 bytes, U+0100', F1 + bytes(3), 'Ā', '7 256', 0, 1, BOTH)
 summed('T and nine zeros, U+0100', T + bytes(9), 'Ā', '7 256', 0, 2, BOTH)
-summed('T and nine zeros, U+0000', T + bytes(9), '\0', 'ok', 3, 0)
+summed('T and nine zeros, U+0000', T + bytes(9), '\0', '7 0', 2, 0)
 summed('F14, U+0100', F14, 'Ā', '7 256', 1, 1, BOTH)
 summed('F15, U+0100', F15, 'Ā', 'ok', 1, 1, BOTH)
-summed('-A', T, '-A', '7 65', 2, 0, BOTH)
+summed('-A', T, '-A', '7 65', 1, 0, BOTH)
 summed('T cut to 33, -A', T[:33], '-A', '8 65', 0, 0, BOTH)
-summed('-A4, skipping', T, '-A4', 'ok', 4, 0, BOTH, skip=True)
+summed('-A4, skipping', T, '-A4', 'ok', 3, 0, BOTH, skip=True)
 summed('empty text', T, '', 'ok', 0, 0, BOTH)
 
-for text, outcome, records in (('-', 'ok', 301), ('5', '7 53', 302), ('A', 'ok', 311), ('B', '7 66', 312), ('a', 'ok', 321),
-                               ('b', '7 98', 322), ('-Aa', 'ok', 933)):
+for text, outcome, records in (('-', 'ok', 301), ('5', '7 53', 301), ('A', 'ok', 311), ('B', '7 66', 311), ('a', 'ok', 321),
+                               ('b', '7 98', 321), ('-Aa', 'ok', 933)):
     summed('long chains, ' + text, LONG, text, outcome, records, 0, BOTH if text == '-Aa' else (MEASURE,))
 summed('8 after long chains', LONG[:-2], '-Aab', '8 98', 0, 0, BOTH)
-summed('300 records with jump 1, then jump 0', K + bytes([1]) * 300 + bytes(1), '-', '7 45', 300, 0)
+summed('300 records with jump 1, then jump 0', K + bytes([1]) * 300 + bytes(1), '-', '7 45', 299, 0)
 summed('the sum of records passes 16 bits', LONG, '-' * 300, 'ok', 90300, 0)
 
 summed('two entries, U+0100 U+0106', TWO, 'ĀĆ', 'ok', 2, 3, BOTH)
@@ -499,12 +499,12 @@ summed('a long chain of two-byte codes, jump 0', LONG_16 + bytes([1, 0, 0]), 'ā
 summed('a long chain of two-byte codes, then the end', LONG_16, 'Ā', '8 256', 0, 0)
 summed('the sum of entries passes 16 bits', FORTY + dash(1, 0), 'Ā' * 2048, 'ok', 2048, 81920)
 
-summed_by_lines('lines with skipped letters', F15, '-A\n\n4Ā\n\U00010000', 'ok', 5, 1, skip=True)
-summed_by_lines('7 at the end of lines', T, '-\n4A', '7 65', 4, 0)
+summed_by_lines('lines with skipped letters', F15, '-A\n\n4Ā\n\U00010000', 'ok', 4, 1, skip=True)
+summed_by_lines('7 at the end of lines', T, '-\n4A', '7 65', 3, 0)
 summed_by_lines('8 behind lines', T[:33], '-\n4\nA', '8 65', 0, 0)
-summed('7 in the middle', F15, '4ĀA-', '7 65', 4, 1, BOTH)
-summed('the same letter missing twice', T, '-A-A', '7 65', 2, 0, BOTH)
-summed('the same letter skipped twice', T, '-A-A', 'ok', 4, 0, skip=True)
+summed('7 in the middle', F15, '4ĀA-', '7 65', 3, 1, BOTH)
+summed('the same letter missing twice', T, '-A-A', '7 65', 1, 0, BOTH)
+summed('the same letter skipped twice', T, '-A-A', 'ok', 2, 0, skip=True)
 summed('8 behind a found letter', F15, 'Āā', '8 257', 0, 0)
 summed('8 is not skipped', F15, '-Aā', '8 257', 0, 0, skip=True)
 summed('a newline brings nothing', F10, '\n\r\n', 'ok', 2, 0)
@@ -528,16 +528,16 @@ def summed_step(label, font, old, new, *wanted, **more):
 summed_step('-4 over 4-', T, '4-', '-4', 'ok', 3, 0)
 summed_step('the first reading', F15, '', '4Ā', 'ok', 3, 1)
 summed_step('no reading any more', T, '-4', '', 'ok', 0, 0)
-summed_step('7 in the new text', T, '4-4', '-A4', '7 65', 2, 0)
+summed_step('7 in the new text', T, '4-4', '-A4', '7 65', 1, 0)
 summed_step('8 in the new text', T[:32], '--', '-4', '8 52', 0, 0)
 summed_step('over a text with 7', T, '-A', '-4', 'ok', 3, 0)
 summed_step('over a text with 8', T[:32], '4', '-', 'ok', 1, 0)
-summed_step('7 over a text with 7', T, '4A', 'B', '7 66', 1, 0)
+summed_step('7 over a text with 7', T, '4A', 'B', '7 66', 0, 0)
 summed_step('refused by 4 of the old text', T, b'\xff', '-4', '4 0', 0, 0)
 summed_step('refused by 6', T, '-', '-4', '6 0', 0, 0, ink=(1, 2))
 
 summed('the longest jump table, U+0100', LONGEST, 'Ā', '7 256', 0, 262135)
-summed('the longest chain', K + bytes([1]) * 1048552 + bytes(1), '--', 'ok', 2097104, 0, skip=True)
+summed('the longest chain', K + bytes([1]) * 1048552 + bytes(1), '--', 'ok', 2097102, 0, skip=True)
 
 # ---- aligned drawing
 
@@ -589,14 +589,14 @@ aligned('8 in the lookup behind cut runs', CUT, '-4A', 'no 8 52', 'no 8 65', 'no
 # the data of its "4", which are cut off in the runs, begin with the record of "I", which is cut off in the fields
 TWO_CUTS = but(CUT[:30], (18, 7)) + bytes([73, 9, 252])
 aligned('8 in the fields behind cut runs', TWO_CUTS, '-4I', 'no 8 52', 'no 8 73', 'no 8 73', x=4, y=4, fill=2)
-aligned('7 on the second line', T, '-\n4A', 'no 7 65 records 4 entries 0', sums=True, **PLACE)
+aligned('7 on the second line', T, '-\n4A', 'no 7 65 records 3 entries 0', sums=True, **PLACE)
 aligned('8 on the second line', T[:33], '-\n4A', 'no 8 65', **PLACE)
 aligned('cut runs on the second line', CUT, '-\n-4', 'no 8 52', **PLACE)
 aligned('skipping, -A4', T, '-A4', 'ok 10 17 5 3', 'ok 8 17 5 3', 'ok 5 17 5 3', skip=True, **PLACE)
 aligned('skipping', T, '-A4\nA\nĀ-\U00010000', x=6, y=3, line=2, size=(12, 7), fill=2, skip=True)
 aligned('all letters skipped', T, 'A\nĀA', 'ok none', fill=2, skip=True)
 aligned('skipping, 7 behind cut runs', CUT, '4\U00010000', 'no 8 52', y=4, fill=2, skip=True)
-aligned('skipping does not hide 8', T, '-\n-A\0', 'no 8 0', x=5, y=4, fill=2, skip=True)
+aligned('skipping does not hide 8', T[:34], '-\n-\U00010000\0', 'no 8 0', x=5, y=4, fill=2, skip=True)
 
 # the lines leave the panel, or never reach it
 for x, y in ((-1, 2), (9, 3), (4, 10), (-30, 4), (4, -9)):
@@ -628,11 +628,11 @@ def summed_aligned(label, font, text, *wanted, **more):
 
 
 summed_aligned('-4', T, '-4', 'ok', 3, 0)
-summed_aligned('lines with skipped letters', F15, '-A\n\n4Ā\n\U00010000', 'ok', 5, 1, skip=True)
+summed_aligned('lines with skipped letters', F15, '-A\n\n4Ā\n\U00010000', 'ok', 4, 1, skip=True)
 summed_aligned('newlines alone', T, '\n\n', 'ok', 0, 0)
-summed_aligned('7 in the middle', F15, '4ĀA-', '7 65', 4, 1)
-summed_aligned('7 first on the third line', F15, '4\nĀ\nA-', '7 65', 4, 1)
-summed_aligned('the same letter missing twice', T, '-A-A', '7 65', 2, 0)
+summed_aligned('7 in the middle', F15, '4ĀA-', '7 65', 3, 1)
+summed_aligned('7 first on the third line', F15, '4\nĀ\nA-', '7 65', 3, 1)
+summed_aligned('the same letter missing twice', T, '-A-A', '7 65', 1, 0)
 summed_aligned('8 in the lookup behind lines', T[:33], '-\n4\nA', '8 65', 0, 0)
 summed_aligned('8 in the fields behind lines', T[:31], '-\n-4', '8 52', 0, 0)
 summed_aligned('8 in the runs behind lines', CUT, '-\n-4', '8 52', 0, 0)
@@ -655,7 +655,7 @@ redraw_aligned('one line over two', T, '-\n4-', '4\n', None, **MIDST)
 redraw_aligned('no reading any more', T, '-4', '', 'ok 0 0 none', **MIDST)
 redraw_aligned('negative advance', F12, '-4', '4-', None, **MIDST)
 redraw_aligned('off the panel', GROUND, '-4-', '4-', None, x=8, y=1, ink=(1, 2))
-redraw_aligned('7 in the new text', T, '4-', '-\n4A', 'no 7 65 records 4 entries 0', sums=True, **MIDST)
+redraw_aligned('7 in the new text', T, '4-', '-\n4A', 'no 7 65 records 3 entries 0', sums=True, **MIDST)
 redraw_aligned('8 in the new text', CUT, '--', '-\n4', 'no 8 52 records 0 entries 0', sums=True, **MIDST)
 redraw_aligned('7 behind cut runs', CUT, '--', '4\U00010000', 'no 7 65536 records 2 entries 0', sums=True, **MIDST)
 redraw('7 behind cut runs', CUT, '--', '4\U00010000', 'no 8 52 records 0 entries 0', sums=True, **MIDST)
@@ -663,6 +663,96 @@ redraw_aligned('over a text that does not draw', CUT, '-\n4', '-', 'ok .. record
 redraw_aligned('3 before the old text', T, bytes([255]), '-', 'no 3 0', length=63)
 redraw_aligned('4 of the old text', T, bytes([45, 255]), '-', 'no 4 0', x=1048577, ink=(1, 2))
 redraw_aligned('6 before letters', T, '-4', 'A', 'no 6 0', ink=(1, 2))
+
+# ---- names padded with zero characters: up to 255 a record with jump 0 ends the chain before its code is compared (A3)
+
+
+def jump_0(code):
+    return bytes([code, 0, 138, 62, 2])
+
+
+look('T cut to 34, U+0000', T[:34], '\0', 'no 8 0')
+look('T cut to 33, U+0000', T[:33], '\0', 'no 8 0')
+look('T cut to 34, U+0000 is not skipped', T[:34], '\0', 'no 8 0', skip=True)
+look('T, U+0000 skipped', T, '\0', 'ok 0 0 none', skip=True)
+look('jump 0 without data', K + bytes([45, 0]), '-', 'no 7 45')
+look('U+0000 with a jump above 0', K + dash(0), '\0', 'ok 3 0 0 -3 2 1')
+look('U+0000 behind a record with jump 0', K + jump_0(45) + dash(0), '\0', 'no 7 0')
+# from 256 on the code is compared first
+JUMP_0_16 = K + bytes([0, 4, 255, 255, 1, 0, 0, 138, 62, 2])
+look('a two-byte code with jump 0 is found', JUMP_0_16, 'Ā', 'ok 3 0 0 -3 2 1')
+draw('a two-byte code with jump 0', JUMP_0_16, 'Ā', 'ok 3 0 0 1 2 1', y=4)
+summed('a two-byte code with jump 0', JUMP_0_16, 'Ā', 'ok', 1, 1, BOTH)
+summed('a two-byte code with jump 0, another one', JUMP_0_16, 'ā', '7 257', 1, 1, BOTH)
+
+for c in (0, 45, 64, 65, 96, 97, 255):
+    summed('U+%04X, jump 0' % c, K + jump_0(c), chr(c), '7 %d' % c, 0, 0, BOTH)
+    summed('U+%04X, a jump above 0' % c, K + dash(c), chr(c), 'ok', 1, 0, BOTH)
+# in each chain the second record has jump 0, and the third one is not reached; in WHOLE all have jumps above 0
+THREE = chains(dash(45) + jump_0(52) + dash(53) + END, dash(65) + jump_0(66) + dash(67) + END,
+               dash(97) + jump_0(255) + dash(98) + END)
+WHOLE = chains(dash(45) + dash(52) + dash(53) + END, dash(65) + dash(66) + dash(67) + END, dash(97) + dash(255) + dash(98) + END)
+for letters in ('-45', 'ABC', 'aÿb'):
+    for n, ch in enumerate(letters):
+        outcome = 'ok' if n == 0 else '7 %d' % ord(ch)
+        summed('jump 0 at the second record, U+%04X' % ord(ch), THREE, ch, outcome, 1, 0, BOTH)
+        summed('jumps above 0, U+%04X' % ord(ch), WHOLE, ch, 'ok', n + 1, 0, BOTH)
+summed('jump 0 in three chains, skipping', THREE, '-45\nABC\naÿb', 'ok', 9, 0, MEASURED, skip=True, size=(10, 12))
+summed('jumps above 0 in three chains', WHOLE, '-45\nABC\naÿb', 'ok', 18, 0, MEASURED, size=(10, 12))
+
+# the missing letters above bring no record any more; these do
+summed('-5', T, '-5', '7 53', 3, 0, BOTH)
+summed('-54, skipping', T, '-54', 'ok', 5, 0, BOTH, skip=True)
+summed_by_lines('lines with skipped letters that bring records', F15, '-5\n\n4Ā\n3', 'ok', 8, 1, skip=True)
+summed_aligned('lines with skipped letters that bring records', F15, '-5\n\n4Ā\n3', 'ok', 8, 1, skip=True)
+summed('7 in the middle, with records', F15, '4Ā5-', '7 53', 5, 1, BOTH)
+summed_aligned('7 in the middle, with records', F15, '4Ā5-', '7 53', 5, 1)
+summed('the same letter with records missing twice', T, '-5-5', '7 53', 3, 0, BOTH)
+summed_aligned('the same letter with records missing twice', T, '-5-5', '7 53', 3, 0)
+summed('the same letter with records skipped twice', T, '-5-5', 'ok', 6, 0, skip=True)
+summed_step('7 with records in the new text', T, '4-4', '-54', '7 53', 3, 0)
+summed_step('7 with records over a text with 7', T, '4A', '3', '7 51', 2, 0)
+
+
+def padded(label, kind, text, want=None, **more):
+    """A name with its zero characters skipped, then the same without them: the script stops unless both are drawn alike."""
+    for name, letters in (('padded ', text), ('the same as ', text.replace('\0', ''))):
+        case(name + label, kind, T, letters, want=want, skip=True, **more)
+    first, second = ([c[-1][0].partition(': ')[2]] + c[-1][1:] for c in CASES[-2:])
+    if first != second:
+        sys.exit('padded %s: not as without the zero characters' % label)
+
+
+NAME = '-44-4\0\0\0'
+ROOM = {'x': 8, 'y': 4, 'size': (24, 6), 'fill': 2}
+padded('name, measured', MEASURE, NAME, 'ok 15 0 0 -3 14 3')
+padded('name, drawn', DRAW, NAME, 'ok 15 0 8 1 14 3', **ROOM)
+for text in ('\0\0\0', '-\0004', '\0-4', '-4\0\n4-\0', '\0\n-\0\n\0'):
+    padded('%r, measured' % text, MEASURE, text, anchor=3)
+    padded('%r, drawn' % text, DRAW, text, line=3, **ROOM)
+for align, name in enumerate(ALIGNMENTS):
+    padded('name, %s, measured' % name, ALIGNED, NAME, ('ok 0 -3 14 3', 'ok -7 -3 14 3', 'ok -14 -3 14 3')[align], align=align)
+    padded('name, %s, drawn' % name, DRAW_ALIGNED, NAME, ('ok 8 1 14 3', 'ok 1 1 14 3', 'ok -6 1 14 3')[align], align=align,
+           **ROOM)
+    padded('lines, %s, measured' % name, ALIGNED, '-4\0\n4\0', align=align)
+    padded('lines, %s, drawn' % name, DRAW_ALIGNED, '-4\0\n4\0', align=align, line=2, **ROOM)
+    # not skipped: nothing of the line is drawn, but with Left
+    case('padded name, %s, measured, 7' % name, ALIGNED, T, NAME, align=align, want='no 7 0')
+    case('padded name, %s, drawn, 7' % name, DRAW_ALIGNED, T, NAME, align=align, want='no 7 0', **ROOM)
+    case('padded lines, %s, drawn, 7' % name, DRAW_ALIGNED, T, '-4\n4\0', align=align, line=2, want='no 7 0', **ROOM)
+    redraw('%s, a padded name' % name, T, '-4', NAME, 'no 7 0 records 10 entries 0', align=align, sums=True, **ROOM)
+    redraw('%s, over a padded name' % name, T, NAME, '-4', 'ok .. records 3 entries 0', align=align, sums=True, **ROOM)
+case('padded name, measured, 7', MEASURE, T, NAME, want='no 7 0')
+case('padded name, drawn, 7', DRAW, T, NAME, want='no 7 0', **ROOM)
+draw('a padded name with background, 7', GROUND, NAME, 'no 7 0', ink=(1, 3), **ROOM)
+draw('a padded name with background, skipped', GROUND, NAME, 'ok 15 0 8 1 14 3', ink=(1, 3), skip=True, **ROOM)
+summed('a padded name, skipping', T, NAME, 'ok', 14, 0, MEASURED, skip=True, **ROOM)
+summed('a padded name', T, NAME, '7 0', 10, 0, MEASURED, **ROOM)
+summed_aligned('a padded name, skipping', T, NAME, 'ok', 14, 0, skip=True, **ROOM)
+summed_aligned('a padded name', T, NAME, '7 0', 10, 0, **ROOM)
+summed('a name of zeros, skipping', T, '\0' * 8, 'ok', 16, 0, MEASURED, skip=True)
+summed('a padded name, T and nine zeros', T + bytes(9), NAME, 'ok', 14, 0, MEASURED, skip=True, **ROOM)
+summed('a padded name, 8', T[:34], NAME, '8 0', 0, 0, MEASURED, skip=True, **ROOM)
 
 # ---- what the Rust answered
 

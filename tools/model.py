@@ -1,7 +1,7 @@
 """The rules of docs/SPECIFICATION.md, written a second time in Python, to work out what the program replay must print.
 
 It is written from the rules alone, but for `redraw`, our own step made of drawings, and shares nothing with the crates.
-Aligned drawing is written from the words of change request A2.
+Aligned drawing is written from the words of change request A2, and the lookup up to 255 from those of A3.
 cases.py beside it writes the stored outputs. A refusal is ('no', number, code point). The sums of the lookups' steps stand
 beside an answer and are worked out of it: `sums`.
 """
@@ -79,11 +79,12 @@ def lookup(f, c):
         at = move(23 + (u16(f, 19) if c >= 97 else u16(f, 17) if c >= 65 else 0))
         while True:
             code, jump = byte(f, at, c), byte(f, at + 1, c)
+            # amended by A3: the chain ends here before the code is compared, and the record is not counted
+            if jump == 0:
+                return None, (records, entries)
             records += 1
             if code == c:
                 return move(at + 2), (records, entries)
-            if jump == 0:
-                return None, (records, entries)
             at = move(at + jump)
     table = move(23 + u16(f, 21))
     total, i = 0, table

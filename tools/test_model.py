@@ -1,5 +1,5 @@
-"""Tests of tools/model.py: tools/test.sh runs them. The steps of lookups keep their bounds and add up, in random fonts; aligned
-drawing does what change request A2 says of it.
+"""Tests of tools/model.py: tools/test.sh runs them. The steps of lookups keep their bounds and add up, in random fonts; a record
+with jump 0 ends a chain as change request A3 says; aligned drawing does what change request A2 says of it.
 """
 import random
 import sys
@@ -12,6 +12,7 @@ import model  # noqa: E402
 
 ROOT = Path(__file__).resolve().parent.parent
 T = (ROOT / 'fonts/t.bin').read_bytes()
+K = bytes([1, 0, 2, 2, 3, 3, 2, 3, 3, 2, 3, 0, 0, 3, 0, 3]) + bytes(7)
 ALIGNMENTS = model.LEFT, model.MIDDLE, model.RIGHT
 CODES = [0, 10, 45, 64, 65, 96, 97, 255, 256, 257, 258, 65535, 65536, 0x10FFFF]
 
@@ -49,14 +50,14 @@ class Steps(unittest.TestCase):
                 self.assertTrue(c <= 65535 or steps == (0, 0), (font.hex(), c, steps))
                 least = list(map(min, least, room)) if max(steps) > 4 else least
                 seen += 1
-        # a record takes two bytes, and a jump of 1 leads into it; an entry may end the font
-        self.assertEqual(least, [1, 0])
+        # records take two bytes, a jump of 1 leads into one, and that with jump 0 is not counted; an entry may end the font
+        self.assertEqual(least, [2, 0])
         self.assertGreater(seen, 20000)
 
     def test_bounds_are_reached(self):
         head = bytes((0, 0)) + bytes([2] * 7) + bytes(14)
         for n in (1, 2, 300):
-            self.assertEqual(model.lookup(head + bytes([1]) * n + bytes(1), 45), (None, (n, 0)))
+            self.assertEqual(model.lookup(head + bytes([1]) * n + bytes(1), 45), (None, (n - 1, 0)))
             for partial in range(4):
                 self.assertEqual(model.lookup(head + bytes((0, 0, 0, 50)) * n + bytes(partial), 256), (None, (0, n)))
 
@@ -98,6 +99,101 @@ class Steps(unittest.TestCase):
             self.assertEqual(model.sums(T, b'-4', ('no', number, 0)), (0, 0))
 
 
+def old_lookup(f, c):
+    """The lookup up to 255 before A3: the code is compared first, and each record is counted. What it comes to (8 is the font's
+    end), the records, and the jump of the record it ended on."""
+    at, records = 23 + (f[19] * 256 + f[20] if c >= 97 else f[17] * 256 + f[18] if c >= 65 else 0), 0
+    while at + 1 < len(f):
+        records += 1
+        if f[at] == c:
+            return at + 2, records, f[at + 1]
+        if f[at + 1] == 0:
+            return None, records, 0
+        at += f[at + 1]
+    return 8, 0, None
+
+
+def new_lookup(f, c):
+    """The model's answer in the same form, without the jump."""
+    try:
+        at, (records, _) = model.lookup(f, c)
+        return at, records
+    except model.Refused:
+        return 8, 0
+
+
+def matches(f, c):
+    """Whether the old rule finds a record with jump 0."""
+    at, _, jump = old_lookup(f, c)
+    return at not in (None, 8) and jump == 0
+
+
+class JumpZero(unittest.TestCase):
+    """Names padded with zero characters: up to 255 a record with jump 0 ends the chain before its code is compared."""
+
+    def test_font_t(self):
+        padded = T + bytes(9)
+        self.assertEqual([new_lookup(font, 0) for font in (T, padded, T[:35], T[:34], T[:33])],
+                         [(None, 2)] * 3 + [(8, 0)] * 2)
+        self.assertEqual(model.measure(padded, b'\0', 0, 0, 0, 4, False), ('no', 7, 0))
+        self.assertEqual(new_lookup(T[:33], 65), (8, 0))
+        self.assertEqual([new_lookup(T, ord(ch)) for ch in '-45Aa'], [(25, 1), (30, 2), (None, 2), (None, 0), (None, 0)])
+        answer = model.measure(T, b'-\n4A', 0, 0, 0, 4, False)
+        self.assertEqual((answer, model.sums(T, b'-\n4A', answer)), (('no', 7, 65), (3, 0)))
+
+    def test_the_code_does_not_matter(self):
+        # one chain below 65, from 65 and from 97 on
+        for c in (0, 45, 64, 65, 96, 97, 255):
+            for code in (c, 7):
+                self.assertEqual(new_lookup(K + bytes([code, 0, 138, 62, 2]), c), (None, 0))
+                self.assertEqual(new_lookup(K + bytes([1, 2, code, 0, c, 5, 138, 62, 2]), c), (None, 1))
+            self.assertEqual(new_lookup(K + bytes([c, 5, 138, 62, 2]), c), (25, 1))
+
+    def test_codes_of_two_bytes_stay(self):
+        table = K + bytes([0, 4, 255, 255])
+        self.assertEqual(model.lookup(table + bytes([1, 0, 0, 138, 62, 2]), 256), (30, (1, 1)))
+        self.assertEqual(model.lookup(table + bytes([1, 1, 0, 138, 62, 2]), 256), (None, (1, 1)))
+        self.assertEqual(model.lookup(table + bytes([0, 0]), 256), (None, (1, 1)))
+
+    def test_beside_the_old_rule(self):
+        dice = random.Random(4)
+        met = {}
+        for _ in range(20000):
+            font = random_font(dice)
+            for c in dice.sample(CODES[:8], 4) + [dice.randint(0, 255)]:
+                (old, counted, jump), (new, records) = old_lookup(font, c), new_lookup(font, c)
+                self.assertEqual(new, None if matches(font, c) else old, (font.hex(), c))
+                self.assertEqual(records, counted - (jump == 0), (font.hex(), c))
+                kind = 'jump 0' if matches(font, c) else old if old in (None, 8) else 'found'
+                met[kind] = met.get(kind, 0) + 1
+        self.assertGreater(min(met.values()), 1000, met)
+        self.assertEqual(len(met), 4, met)
+
+    def test_a_padded_name(self):
+        # the letters in the font, then zeros: skipped, they are as if they were not there
+        for align in ALIGNMENTS:
+            name, padded = aligned(T, '-44-4', align, skip=True), aligned(T, '-44-4\0\0\0', align, skip=True)
+            self.assertEqual((padded[0], padded[2]), (name[0], name[2]))
+            # each zero reads the records of "-" and of "4"
+            self.assertEqual((name[1], padded[1]), ((8, 0), (14, 0)))
+            refused = aligned(T, '-44-4\0\0\0', align)
+            self.assertEqual(refused, (('no', 7, 0), (10, 0), name[2] if align == model.LEFT else set()))
+
+    def test_a_text_without_the_letters_that_match(self):
+        # so it is with any text: skipped, these letters are as if they were not there
+        dice = random.Random(5)
+        met = 0
+        for _ in range(10000):
+            font = random_font(dice)
+            codes = dice.choices(CODES[:8], k=dice.randint(1, 4))
+            rest = [c for c in codes if c == 10 or not matches(font, c)]
+            text, without = (''.join(map(chr, cs)).encode() for cs in (codes, rest))
+            answer = model.measure(font, text, 0, 0, 1, 4, True)
+            self.assertEqual(answer, model.measure(font, without, 0, 0, 1, 4, True), (font.hex(), text))
+            met += rest != codes and answer[0] == 'ok'
+        self.assertGreater(met, 200)
+
+
 def aligned(font, text, align, x=10, y=20, ink=(1,), skip=False, size=(16, 24)):
     """Aligned drawing on zeros: the answer, the sums, and the pixels that were set, as (column, row)."""
     panel = bytearray(size[0] * size[1])
@@ -121,7 +217,7 @@ class Aligned(unittest.TestCase):
 
     def test_nothing_of_a_line_with_a_missing_letter_is_drawn(self):
         answers = [aligned(T, '-\n4A', align) for align in ALIGNMENTS]
-        self.assertEqual([answer[:2] for answer in answers], [(('no', 7, 65), (4, 0))] * 3)
+        self.assertEqual([answer[:2] for answer in answers], [(('no', 7, 65), (3, 0))] * 3)
         four = aligned(T, '\n4', model.LEFT)[2]
         self.assertEqual([answer[2] for answer in answers], [self.DASHES[0] | four] + self.DASHES[1:])
 

@@ -3,6 +3,7 @@
 use std::collections::BTreeMap;
 
 use crate::case::{Answer, Call, Case, Outcome};
+use crate::left_out;
 use crate::rust_side;
 use crate::shrink::shrink;
 use crate::step;
@@ -19,6 +20,8 @@ pub enum Verdict {
     Eight { what: String, site: String },
     /// not compared, for this reason
     NotCompared(&'static str),
+    /// not compared, since the text is left out (A3): both answers by their outcome
+    LeftOut { rust: &'static str, ours: &'static str },
     /// an answer that should not be
     Different(String),
 }
@@ -52,6 +55,17 @@ fn without_numbers(site: &str) -> String {
     out
 }
 
+/// A call's answer by whichever side draws; for a step also what drawing the old text answers.
+fn answered(case: &Case, call: Call, mut draw: impl FnMut(&Case, Call) -> Outcome) -> (Outcome, Option<Answer>) {
+    match call {
+        Call::Redraw(_, ink) => {
+            let step = step::of_drawings(case, ink, draw);
+            (step.outcome, Some(step.old))
+        }
+        _ => (draw(case, call), None),
+    }
+}
+
 /// `measured` is our answer to measuring the same case, for the sums.
 pub fn verdict(case: &Case, call: Call, ours: &Outcome, measured: &Outcome) -> Verdict {
     if let Some(what) = sums::wrong(case, call, ours, measured) {
@@ -67,26 +81,35 @@ pub fn verdict(case: &Case, call: Call, ours: &Outcome, measured: &Outcome) -> V
         }
         return Verdict::Same(outcome_name(&ours.answer).to_string());
     }
-    // a step is counted by whether there was a reading to clear
-    let mut over = "";
-    let rust = match call {
-        Call::Redraw(_, ink) => {
-            let step = step::of_drawings(case, ink, rust_side::call);
-            match &step.old {
-                Answer::Panicked { site, .. } if LISTED.contains(&site.as_str()) && !case.has_width_8() => {
-                    return Verdict::NotCompared("a listed panic of the old text");
-                }
-                Answer::Text { bounds: Some(_), .. } => over = ", over a reading",
-                _ => {}
-            }
-            step.outcome
-        }
-        _ => rust_side::call(case, call),
-    };
-    let same = rust.same(ours);
+    let (rust, old) = answered(case, call, rust_side::call);
     if case.has_width_8() && !matches!(call, Call::Open | Call::FontBox(_)) {
+        let same = rust.same(ours);
         return Verdict::NotCompared(if same { "8 bits wide, and the same" } else { "8 bits wide, and different or a panic" });
     }
+    if left_out::is(case, call) {
+        // ours must be as if the letters were missing that the text is left out for
+        let (amended, old) = answered(case, call, |case, call| left_out::amended(case, call, rust_side::call));
+        return match judged(&amended, old, ours) {
+            _ if left_out::too_much(case, call, &ours.answer) => {
+                Verdict::Different("left out, and no letter is missing".to_string())
+            }
+            Verdict::Different(what) => Verdict::Different(format!("left out, with these letters missing: {what}")),
+            _ => Verdict::LeftOut { rust: outcome_name(&rust.answer), ours: outcome_name(&ours.answer) },
+        };
+    }
+    judged(&rust, old, ours)
+}
+
+/// Ours beside the Rust's answer.
+fn judged(rust: &Outcome, old: Option<Answer>, ours: &Outcome) -> Verdict {
+    // a step is counted by whether there was a reading to clear
+    let over = match old {
+        Some(Answer::Panicked { site, .. }) if LISTED.contains(&site.as_str()) => {
+            return Verdict::NotCompared("a listed panic of the old text");
+        }
+        Some(Answer::Text { bounds: Some(_), .. }) => ", over a reading",
+        _ => "",
+    };
     match &rust.answer {
         Answer::Panicked { code_point, site } => {
             let eight = Answer::Refused { number: 8, code_point: *code_point };
@@ -103,7 +126,7 @@ pub fn verdict(case: &Case, call: Call, ours: &Outcome, measured: &Outcome) -> V
         answer if *answer != ours.answer => {
             Verdict::Different(format!("the Rust {}, ours {}", outcome_name(answer), outcome_name(&ours.answer)))
         }
-        _ if !same => Verdict::Different("the framebuffers differ".to_string()),
+        _ if !rust.same(ours) => Verdict::Different("the framebuffers differ".to_string()),
         answer => Verdict::Same(format!("{}{over}", outcome_name(answer))),
     }
 }
@@ -116,6 +139,9 @@ pub struct Tally {
     pub different: BTreeMap<(usize, String), (u64, Case)>,
     /// a case of the listed panic
     pub listed: Option<Case>,
+    /// texts that measuring would compare, and how many of them are left out
+    pub texts: u64,
+    pub left_out: u64,
     /// where the Rust panicked, and how often
     pub sites: BTreeMap<String, u64>,
 }
@@ -127,6 +153,10 @@ impl Tally {
 
     pub fn add(&mut self, case: &Case, call: Call, verdict: Verdict) {
         self.calls += 1;
+        if call == Call::Measure && case.off_limits(call).is_none() && !case.has_width_8() {
+            self.texts += 1;
+            self.left_out += u64::from(matches!(verdict, Verdict::LeftOut { .. }));
+        }
         match verdict {
             Verdict::Same(what) => self.count(call, what),
             Verdict::NotCompared(what) => {
@@ -135,6 +165,7 @@ impl Tally {
                     self.listed = Some(case.clone());
                 }
             }
+            Verdict::LeftOut { rust, ours } => self.count(call, format!("left out (A3): the Rust {rust}, ours {ours}")),
             Verdict::Eight { what, site } => {
                 self.count(call, what);
                 *self.sites.entry(site).or_default() += 1;
@@ -159,6 +190,9 @@ impl Tally {
         }
         for (site, n) in &self.sites {
             println!("  {n:>9}  {site}");
+        }
+        if self.left_out > 0 {
+            println!("{} of {} texts left out (A3)", self.left_out, self.texts);
         }
         println!("{} calls, {} differences", self.calls, self.different.values().map(|v| v.0).sum::<u64>());
     }

@@ -9,6 +9,7 @@ mod compare;
 mod display;
 mod fonts;
 mod generate;
+mod left_out;
 mod linked;
 mod model_side;
 mod random;

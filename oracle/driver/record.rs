@@ -4,6 +4,7 @@ use std::collections::BTreeMap;
 
 use crate::case::{Answer, Area, Call, Case, Ink};
 use crate::generate::Cases;
+use crate::left_out;
 use crate::rust_side;
 
 /// Which part of the lookup a code point goes to.
@@ -98,6 +99,9 @@ pub fn record(seed: u64, count: u64) {
                 continue;
             }
             if case.has_width_8() && !matches!(call, Call::Open | Call::FontBox(_)) {
+                continue;
+            }
+            if left_out::is(&case, call) {
                 continue;
             }
             let rust = rust_side::call(&case, call);

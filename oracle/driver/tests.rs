@@ -1,9 +1,10 @@
-//! Tests of the driver's own parts: the sequences in the texts, the step made of drawings, what must hold of the sums, and
-//! shrinking.
+//! Tests of the driver's own parts: the sequences in the texts, the step made of drawings, which texts are left out, what must
+//! hold of the sums, and shrinking.
 
 mod case;
 mod fonts;
 mod generate;
+mod left_out;
 mod random;
 mod sequences;
 mod shrink;
@@ -130,6 +131,100 @@ fn a_step_is_made_of_drawings() {
     assert_eq!(after(b"4", b"d"), (4, [6, 6, 6], 0));
     assert_eq!(after(b"ab", b"6"), (6, [6, 6, 6], 0));
     assert_eq!(after(b"5", b"4"), (4, [6, 6, 6], 0));
+}
+
+/// A font of these records, with the offsets of "A" and of "a".
+fn records(upper: u8, lower: u8, records: &[u8]) -> Vec<u8> {
+    let mut font = vec![0; 23];
+    (font[18], font[20]) = (upper, lower);
+    font.extend(records);
+    font
+}
+
+#[test]
+fn texts_are_left_out_by_the_record_that_the_rust_finds() {
+    let is = |font: &[u8], text: &str| left_out::is(&some_case(font.to_vec(), text.as_bytes()), Call::Measure);
+    // "-" and "4", the record 0 0 that ends the chain, and one with jump 0 for "A" and for "a" each
+    let font = records(9, 13, &[45, 2, 52, 3, 7, 0, 0, 9, 9, 65, 0, 9, 9, 97, 0]);
+    for text in ["\0", "-4\0\0", "A", "-\n4A", "a", "BA", "ab", "\u{100}\0"] {
+        assert!(is(&font, text), "{text:?}");
+    }
+    // found by a jump above 0, missing, past the end, never looked up, or a code of two bytes
+    for text in ["", "-", "-4", "5", "B", "`", "b", "\u{ff}", "\n", "\u{100}", "\u{141}", "\u{ffff}", "\u{10000}"] {
+        assert!(!is(&font, text), "{text:?}");
+    }
+    // nothing of the font is left out where no letter matches, nor by a record that the chain does not reach
+    let behind = records(0, 0, &[45, 2, 7, 0, 52, 0]);
+    assert_eq!(["-", "4", "\u{7}", "-\u{7}"].map(|text| is(&behind, text)), [false, false, true, true]);
+    // the newline's own record is never found; a carriage return's is
+    assert_eq!(["\n", "\r"].map(|text| is(&records(0, 0, &[10, 2, 13, 0]), text)), [false, true]);
+    // a jump that is cut off, an offset at the end and past it
+    assert_eq!([&[0, 0][..], &[0], &[]].map(|end| is(&records(0, 0, end), "\0")), [true, false, false]);
+    assert_eq!([0, 1, 2, 3].map(|upper| is(&records(upper, 0, &[65, 0]), "A")), [true, false, false, false]);
+    // the high byte of an offset
+    let mut far = records(0, 44, &[1; 300]);
+    far[19] = 1;
+    far.extend([255, 0]);
+    assert_eq!(["\u{fe}", "\u{ff}"].map(|text| is(&far, text)), [false, true]);
+}
+
+#[test]
+fn of_a_step_both_texts_are_left_out() {
+    let font = records(0, 0, &[45, 2, 0, 0]);
+    for (old, new, drawn, redrawn) in [("-", "-", 0, 0), ("-", "\0", 1, 1), ("\0", "-", 0, 1), ("\0", "\0", 1, 1)] {
+        let case = Case { old_text: old.as_bytes().to_vec(), ..some_case(font.clone(), new.as_bytes()) };
+        for ink in [Ink::Transparent, Ink::WithBackground] {
+            assert_eq!(left_out::is(&case, Call::Redraw(0, ink)) as u8, redrawn);
+            assert_eq!([Call::Draw(ink), Call::DrawAligned(0, ink)].map(|call| left_out::is(&case, call) as u8), [drawn; 2]);
+        }
+        assert_eq!([Call::Measure, Call::Aligned(2)].map(|call| left_out::is(&case, call) as u8), [drawn; 2]);
+        assert!(!left_out::is(&case, Call::Open) && !left_out::is(&case, Call::FontBox(1)));
+    }
+}
+
+#[test]
+fn too_much_is_left_out_where_a_text_succeeds() {
+    let font = records(0, 0, &[45, 2, 0, 0]);
+    let success = Answer::Bounds(None);
+    let step = Call::Redraw(0, Ink::Transparent);
+    let found = |text: &[u8], skip, call, ours: &Answer| {
+        left_out::too_much(&Case { skip, ..some_case(font.clone(), text) }, call, ours)
+    };
+    assert!(found(b"-\0", false, Call::Measure, &success) && found(b"-\0", true, step, &success));
+    // skipped, or a step that is left out for its old text
+    assert!(!found(b"-\0", true, Call::Measure, &success) && !found(b"-", false, step, &success));
+    for (number, wrong) in [(5, true), (6, false), (7, false), (8, false), (9, true)] {
+        assert_eq!(found(b"-\0", false, Call::Measure, &Answer::Refused { number, code_point: 0 }), wrong);
+    }
+}
+
+/// The texts that the Rust is asked for in the place of those that are left out, and what is made of its answers.
+#[test]
+fn letters_that_find_jump_0_are_missing() {
+    let font = records(0, 0, &[97, 2, 0, 0]);
+    let after = |text: &str, skip| {
+        let case = Case { skip, ..some_case(font.clone(), text.as_bytes()) };
+        let mut asked = String::new();
+        let outcome = left_out::amended(&case, Call::Draw(Ink::Transparent), |c, call| {
+            asked = String::from_utf8(c.text.clone()).unwrap();
+            toy_draw(c, call)
+        });
+        let refusal = if let Answer::Refused { number, code_point } = outcome.answer { (number, code_point) } else { (0, 0) };
+        let drawn = outcome.buffer.iter().filter(|b| **b == 9).count();
+        (asked, refusal, drawn)
+    };
+    let want = |asked: &str, refusal, drawn| (asked.to_string(), refusal, drawn);
+    assert_eq!(after("aa", false), want("aa", (0, 0), 2));
+    assert_eq!(after("aa\0\0", true), want("aa", (0, 0), 2));
+    assert_eq!(after("\0a\n\0a", true), want("a\na", (0, 0), 3));
+    assert_eq!(after("aa\0\0", false), want("aa", (7, 0), 2));
+    assert_eq!(after("a\na\0a\n\n\0", false), want("a\na\n\n", (7, 0), 5));
+    // a refusal before it decides
+    assert_eq!(after("a7\0", false), want("a7", (7, 99), 1));
+    assert_eq!(after("8a\0", false), want("8a", (8, 99), 0));
+    assert_eq!(after("a6\0", false), want("a6", (6, 0), 0));
+    assert_eq!(after("a\08", false), want("a", (7, 0), 1));
+    assert_eq!(after("a\08", true), want("a8", (8, 99), 1));
 }
 
 fn outcome(answer: Answer, steps: Option<(u32, u32)>) -> Outcome {
