@@ -12,6 +12,7 @@ pub mod VerticalOffsetLaws
 pub mod RunsLaws
 pub mod FramebufferLaws
 pub mod TextLaws
+pub mod AlikeLaws
 pub mod PictureLaws
 pub mod RefusalLaws
 pub mod CausesLaws
@@ -23,3 +24,4 @@ pub mod AgreementCase
 pub mod MovedLaws
 pub mod AlignedLaws
 pub mod LineLaws
+pub mod FirstRuleLaws

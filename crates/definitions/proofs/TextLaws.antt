@@ -592,6 +592,10 @@ pub each-append : {A : Type 0} (P : A → Type 0) (ps qs : List A) → Each P ps
 each-append P [] qs h k = k
 each-append P (p ∷ ps) qs h k = (h .0, each-append P ps qs (h .1) k)
 
+pub each-map : {A : Type 0} (P Q : A → Type 0) → ((a : A) → P a → Q a) → (ps : List A) → Each P ps → Each Q ps
+each-map P Q f [] h = tt
+each-map P Q f (p ∷ ps) h = (f p (h .0), each-map P Q f ps (h .1))
+
 module _ (P : GlyphReader → Type 0) (measured answers : ℕ → Answer) (every : (c : ℕ) (g : GlyphReader) → answers c ≡ shows g → P g) (lineHeight : ℕ) (origin : Point) where
   abbrev Holds : Layout → Type 0
   Holds l = Each (λ p. P (p .glyph)) (l .glyphs)

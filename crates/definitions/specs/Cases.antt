@@ -225,6 +225,8 @@ cases =
     -- .. whatever follows that record; without its jump it is 8
     ∷ record { given = answered (glyph (T ++ replicate 9 0) 0); expected = answered (refused 7 0) }
     ∷ record { given = answered (glyph (take 34 T) 0); expected = answered (refused 8 0) }
+    -- .. and a record of U+0000 with a jump is found
+    ∷ record { given = measuredAt (take 23 F ++ 0 ∷ 5 ∷ 138 ∷ 62 ∷ 2 ∷ []) (0 ∷ []); expected = measured minus }
     -- * the first 33 bytes of T: "4" is there, "A" is 8
     ∷ record { given = answered (glyph (take 33 T) 52); expected = answered (success (metrics 2 2 (pos 0) (pos 0) (pos 3) 254)) }
     ∷ record { given = answered (glyph (take 33 T) 65); expected = answered (refused 8 65) }

@@ -50,6 +50,12 @@ onJump0 font short = false
 abbrev pub matchesJump0 : List ℕ → ℕ → Bool
 matchesJump0 font c = leb c 255 && onJump0 font (firstSearch font c)
 
+-- an answer alone: where the glyph begins, 7 or 8
+abbrev pub withoutSteps : Search → Search
+withoutSteps (found start steps) = found start noSteps
+withoutSteps (missing steps) = missing noSteps
+withoutSteps short = short
+
 -- without the record that ended the chain
 abbrev pub oneLess : LookupSteps → LookupSteps
 oneLess steps = record { records = steps .records - 1; entries = steps .entries }
