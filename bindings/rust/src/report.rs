@@ -10,7 +10,8 @@ use crate::Error;
 /// outcome alone.
 #[derive(Clone, Copy, Debug, Default, PartialEq, Eq, Hash)]
 pub struct LookupSteps {
-    /// How many glyph records had their code looked at.
+    /// How many glyph records had their code looked at. Up to U+00FF a record with jump 0 ends the
+    /// list before that.
     pub records: u32,
     /// How many entries of the jump table were read.
     pub entries: u32,
