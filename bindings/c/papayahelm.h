@@ -97,11 +97,10 @@ enum papayahelm_out {
     PAPAYAHELM_BOX_TOP = 5,
     PAPAYAHELM_BOX_WIDTH = 6,
     PAPAYAHELM_BOX_HEIGHT = 7,
-    /* the steps of the text's lookups, added up: how many glyph records had their code looked at, and how many entries of the jump
-     * table were read. Up to U+00FF a record with jump 0 ends the list before its code is looked at. With status 0 over all
-     * characters, skipped ones too, and a newline brings nothing; with 7 over those up to and including the refused one; with
-     * every other refusal, and for a font box, both are 0. They fit uint32_t, and depend on the font, the text and the outcome
-     * alone */
+    /* the steps of the text's lookups, added up: how many glyph records had their code looked at (up to U+00FF not the one with
+     * jump 0 that ends a list), and how many entries of the jump table were read. With status 0 over all characters, skipped ones
+     * too, and a newline brings nothing; with 7 over those up to and including the refused one; with every other refusal, and for
+     * a font box, both are 0. They fit uint32_t, and depend on the font, the text and the outcome alone */
     PAPAYAHELM_RECORDS = 8,
     PAPAYAHELM_ENTRIES = 9,
     /* how many numbers these are */

@@ -10,8 +10,8 @@ use crate::Error;
 /// outcome alone.
 #[derive(Clone, Copy, Debug, Default, PartialEq, Eq, Hash)]
 pub struct LookupSteps {
-    /// How many glyph records had their code looked at. Up to U+00FF a record with jump 0 ends the
-    /// list before that.
+    /// How many glyph records had their code looked at: up to U+00FF not the one with jump 0 that
+    /// ends a list.
     pub records: u32,
     /// How many entries of the jump table were read.
     pub entries: u32,
