@@ -94,6 +94,7 @@ cp "$gauge" ./-font
 : > empty.bin
 head -c 22 "$gauge" > short.bin
 head -c 60 "$gauge" > ends.bin
+head -c 324 "$gauge" > no-jump.bin # the record that ends the list, without its jump
 { head -c 4 "$gauge" && printf '\011' && tail -c +6 "$gauge"; } > header.bin
 { head -c 1 "$gauge" && printf '\000' && tail -c +3 "$gauge"; } > no-background.bin
 { cat "$gauge" && head -c 65536 /dev/zero; } > long.bin
@@ -190,18 +191,35 @@ check 0 "the picture is draw.png" "$draw" "$lines" center png
 size_is 100 108 draw.png
 rm draw.png
 
+echo "--- names padded with U+0000, on standard input: nothing is skipped"
+for arguments in "gauge no 7 0: the font has no glyph for U+0000" "t no 7 0: the font has no glyph for U+0000" \
+  "no-jump no 8 0: the font ends before the glyph for U+0000 does"; do
+  read -r font words <<< "$arguments"
+  for file in "$root/fonts/$font.bin" "$font.bin"; do
+    [ ! -e "$file" ] || cp "$file" font.bin
+  done
+  right=yes
+  [ "$("$programs/measure" < <(printf '%b' '-4\0\0\0\0\0\0'))" = "${words%%:*}" ] || right=no
+  for align in "" left center right; do
+    # shellcheck disable=SC2086
+    [ "$("$programs/draw" $align < <(printf '%b' '-4\0\0\0\0\0\0'))" = "$words" ] || right=no
+  done
+  report "$right" "a padded name in $font.bin: $words"
+done
+
 echo "--- the drawings of the program and those of the model"
-for font in gauge t no-background ends; do
+for font in gauge t no-background ends no-jump; do
   for file in "$root/fonts/$font.bin" "$font.bin"; do
     [ ! -e "$file" ] || cp "$file" font.bin
   done
   for words in "" left center right "background right"; do
     right=yes
-    for text in "$lines" $'-4\n4\n--' $'\n\n' $' 7\n-\n~' $'4\n\n-\n°\xc3\xa9' $'7\n\xff' "$(printf '1\n%0100d' 5)"; do
+    for text in "$lines" $'-4\n4\n--' $'\n\n' $' 7\n-\n~' $'4\n\n-\n°\xc3\xa9' $'7\n\xff' "$(printf '1\n%0100d' 5)" \
+      '-4\n7.5\0\0\0' '\0'; do
       # shellcheck disable=SC2086
-      "$programs/draw" $words < <(printf '%s' "$text") > "$work/said"
+      "$programs/draw" $words < <(printf '%b' "$text") > "$work/said"
       # shellcheck disable=SC2086
-      python3 -B "$root/tools/draw_model.py" $words < <(printf '%s' "$text") | cmp - "$work/said" || right=no
+      python3 -B "$root/tools/draw_model.py" $words < <(printf '%b' "$text") | cmp - "$work/said" || right=no
     done
     report "$right" "the same words and pictures: $font $words"
   done

@@ -49,6 +49,7 @@ enum {
     DRAW_ALIGNED = 8,
     REDRAW_OLD = 16,
     REDRAW_NEW = 32,
+    SKIPPING = MEASURE | MEASURE_ALIGNED | DRAW | DRAW_ALIGNED,
     DRAWS = DRAW | DRAW_ALIGNED | REDRAW_OLD | REDRAW_NEW,
     TEXTS = MEASURE | MEASURE_ALIGNED | DRAWS
 };
@@ -246,7 +247,7 @@ static void aligned_drawings(void) {
     in.skip = 1;
     in.background = 1;
     memset(buffer, 9, sizeof buffer);
-    CHECK(call(DRAW_ALIGNED, &in) == PAPAYAHELM_OK && out_is(0, 0, 0, 1, 0, 5, 2, 2) && sums_are(3, 0));
+    CHECK(call(DRAW_ALIGNED, &in) == PAPAYAHELM_OK && out_is(0, 0, 0, 1, 0, 5, 2, 2) && sums_are(2, 0));
     CHECK(buffer[5 * WIDTH] == 1 && buffer[5 * WIDTH + 1] == 2 && buffer[6 * WIDTH] == 1 && buffer[6 * WIDTH + 1] == 1);
     CHECK(buffer[5 * WIDTH + 2] == 9);
     in = input_of("\n");
@@ -260,7 +261,7 @@ static void aligned_drawings(void) {
     in.x = 5;
     in.y = 3;
     for (in.align = 0; in.align < 3; in.align++) {
-        refuses_once(&in, DRAW_ALIGNED, PAPAYAHELM_GLYPH_NOT_FOUND, 'A', 4, 0);
+        refuses_once(&in, DRAW_ALIGNED, PAPAYAHELM_GLYPH_NOT_FOUND, 'A', 3, 0);
         CHECK(buffer_has(before[in.align], 2));
     }
     /* "4" that can be measured and not drawn, and a missing character behind it, which measuring meets first */
@@ -322,7 +323,7 @@ static void order(void) {
     in.line_height = 4;
     refuses(&in, DRAWS, PAPAYAHELM_BACKGROUND_COLOR_NOT_SUPPORTED, 0);
     in.background = 0;
-    refuses_after(&in, DRAWS & ~REDRAW_OLD, PAPAYAHELM_GLYPH_NOT_FOUND, 'A', 1, 0);
+    refuses_after(&in, DRAWS & ~REDRAW_OLD, PAPAYAHELM_GLYPH_NOT_FOUND, 'A', 0, 0);
 }
 
 static void refusals(void) {
@@ -376,7 +377,7 @@ static void refusals(void) {
     refuses(&in, DRAWS, PAPAYAHELM_BACKGROUND_COLOR_NOT_SUPPORTED, 0);
 
     in = input_of("-A");
-    refuses_after(&in, TEXTS & ~REDRAW_OLD, PAPAYAHELM_GLYPH_NOT_FOUND, 'A', 2, 0);
+    refuses_after(&in, TEXTS & ~REDRAW_OLD, PAPAYAHELM_GLYPH_NOT_FOUND, 'A', 1, 0);
     in = input_of("-\xF4\x8F\xBF\xBF");
     refuses_after(&in, TEXTS & ~REDRAW_OLD, PAPAYAHELM_GLYPH_NOT_FOUND, 0x10FFFF, 1, 0);
 
@@ -385,7 +386,16 @@ static void refusals(void) {
     in.font_len = 33;
     refuses(&in, TEXTS & ~REDRAW_OLD, PAPAYAHELM_FONT_ENDS, 'A');
     in.skip = 1;
-    refuses(&in, MEASURE | MEASURE_ALIGNED | DRAW | DRAW_ALIGNED, PAPAYAHELM_FONT_ENDS, 'A');
+    refuses(&in, SKIPPING, PAPAYAHELM_FONT_ENDS, 'A');
+    /* U+0000, where the record 0 0 that ends the list has no jump, and where it is missing */
+    for (size_t font_len = 33; font_len < 35; font_len++) {
+        in = input_of("");
+        in.text_len = 1;
+        in.font_len = font_len;
+        refuses(&in, TEXTS & ~REDRAW_OLD, PAPAYAHELM_FONT_ENDS, 0);
+        in.skip = 1;
+        refuses(&in, SKIPPING, PAPAYAHELM_FONT_ENDS, 0);
+    }
     in = input_of("-4");
     in.font_len = 32;
     CHECK(call(MEASURE, &in) == PAPAYAHELM_OK);
@@ -425,25 +435,35 @@ static void brings(const struct brought *b) {
 }
 
 static void sums(void) {
-    /* T with a jump table: two entries with limits below U+0100; one that leads to a record 0; one that leads to U+0100 */
-    uint8_t below[sizeof T + 9] = {0}, zero[sizeof T + 7], found[sizeof T + 10];
+    /* T with a jump table: two entries with limits below U+0100; one that leads to a record 0; one that leads to U+0100; the same
+     * with jump 0, which from U+0100 on does not come before the code. T with a record of "5" that has jump 0 */
+    uint8_t below[sizeof T + 9] = {0}, zero[sizeof T + 7], found[sizeof T + 10], last[sizeof T + 10], ended[33 + 7];
     const uint8_t to_zero[7] = {0, 4, 255, 255, 0, 0, 0}, to_found[10] = {0, 4, 255, 255, 1, 0, 6, 138, 62, 2};
+    const uint8_t five[7] = {53, 0, 138, 62, 2, 0, 0};
     memcpy(below, T, sizeof T);
     memcpy(zero, T, sizeof T);
     memcpy(zero + sizeof T, to_zero, sizeof to_zero);
     memcpy(found, T, sizeof T);
     memcpy(found + sizeof T, to_found, sizeof to_found);
+    memcpy(last, found, sizeof found);
+    last[sizeof T + 6] = 0;
+    memcpy(ended, T, 33);
+    memcpy(ended + 33, five, sizeof five);
     const struct brought all[] = {
         {T, sizeof T, "", 0, 0, 0, 0, 0},
         {T, sizeof T, "-4", 0, 0, 0, 3, 0},
         {T, sizeof T, "-\n4\n", 0, 0, 0, 3, 0},
         {T, sizeof T, "444", 0, 0, 0, 6, 0},
-        {T, sizeof T, "A", 0, 7, 'A', 1, 0},
-        {T, sizeof T, "5", 0, 7, '5', 3, 0},
-        {T, sizeof T, "-A", 0, 7, 'A', 2, 0},
-        {T, sizeof T, "-A4", 0, 7, 'A', 2, 0},
-        {T, sizeof T, "-A4", 1, 0, 0, 4, 0},
-        {T, sizeof T, "-A4A", 1, 0, 0, 5, 0},
+        /* the record 0 0 that ends the list does not count: its jump comes before its code */
+        {T, sizeof T, "A", 0, 7, 'A', 0, 0},
+        {T, sizeof T, "5", 0, 7, '5', 2, 0},
+        {T, sizeof T, "-A", 0, 7, 'A', 1, 0},
+        {T, sizeof T, "-A4", 0, 7, 'A', 1, 0},
+        {T, sizeof T, "-A", 1, 0, 0, 1, 0},
+        {T, sizeof T, "-A4", 1, 0, 0, 3, 0},
+        {T, sizeof T, "-A4A", 1, 0, 0, 3, 0},
+        {ended, sizeof ended, "5", 0, 7, '5', 2, 0},
+        {ended, sizeof ended, "-54", 1, 0, 0, 5, 0},
         {T, 33, "-A", 0, 8, 'A', 0, 0},
         {T, 33, "-A", 1, 8, 'A', 0, 0},
         {T, sizeof T, "\xF0\x90\x80\x80", 0, 7, 0x10000, 0, 0},
@@ -451,6 +471,8 @@ static void sums(void) {
         {below, sizeof below, "\xC4\x80", 0, 7, 0x100, 0, 2},
         {zero, sizeof zero, "\xC4\x80", 0, 7, 0x100, 1, 1},
         {found, sizeof found, "\xC4\x80", 0, 0, 0, 1, 1},
+        {last, sizeof last, "\xC4\x80", 0, 0, 0, 1, 1},
+        {last, sizeof last, "\xC4\x81", 0, 7, 0x101, 1, 1},
         {found, sizeof found, "4\xC4\x80-\xC4\x80", 0, 0, 0, 5, 2},
         {found, sizeof found, "\xC4\x80\xC4\x81", 0, 8, 0x101, 0, 0},
     };
@@ -468,6 +490,63 @@ static void sums(void) {
     CHECK(papayahelm_font_box(T, sizeof T, 0, out, PAPAYAHELM_OUT_LEN - 1) == PAPAYAHELM_BAD_ARGUMENT);
     CHECK(papayahelm_measure(T, sizeof T, in.text, 1, 2, 5, 0, 4, 0, out, PAPAYAHELM_OUT_LEN - 1) == PAPAYAHELM_BAD_ARGUMENT);
     CHECK(out_is(-1, -1, -1, -1, -1, -1, -1, -1) && sums_are(-1, -1));
+}
+
+/* A name of eight characters, the last six U+0000. Where they are skipped it is as the name alone, but for the records: three of
+ * "-4", and for each U+0000 those of "-" and "4", without the one with jump 0. Where not, the first U+0000 is refused. */
+static void padded_names(void) {
+    const char name[8] = "-4\0\0\0\0\0";
+    const struct plain alone[3] = {{"-4", 8, 5}, {"-4", 6, 5}, {"-4", 3, 5}};
+    struct input in = input_of(name);
+    in.text_len = sizeof name;
+    in.x = 8;
+    for (in.align = 0; in.align < 3; in.align++) {
+        const int64_t left = alone[in.align].x;
+        in.skip = 1;
+        CHECK(call(MEASURE, &in) == PAPAYAHELM_OK && out_is(0, 6, 0, 1, 8, 2, 5, 3) && sums_are(15, 0));
+        CHECK(call(MEASURE_ALIGNED, &in) == PAPAYAHELM_OK && out_is(0, 0, 0, 1, left, 2, 5, 3) && sums_are(15, 0));
+        memset(buffer, 9, sizeof buffer);
+        CHECK(call(DRAW, &in) == PAPAYAHELM_OK && out_is(0, 6, 0, 1, 8, 2, 5, 3) && sums_are(15, 0));
+        CHECK(buffer_has(&alone[0], 1));
+        memset(buffer, 9, sizeof buffer);
+        CHECK(call(DRAW_ALIGNED, &in) == PAPAYAHELM_OK && out_is(0, 0, 0, 1, left, 2, 5, 3) && sums_are(15, 0));
+        CHECK(buffer_has(&alone[in.align], 1));
+        in.skip = 0;
+        refuses_once(&in, MEASURE | MEASURE_ALIGNED, PAPAYAHELM_GLYPH_NOT_FOUND, 0, 5, 0);
+        refuses_once(&in, DRAW, PAPAYAHELM_GLYPH_NOT_FOUND, 0, 5, 0);
+        CHECK(buffer_has(&alone[0], 1)); /* the letters before are drawn */
+        refuses_once(&in, DRAW_ALIGNED, PAPAYAHELM_GLYPH_NOT_FOUND, 0, 5, 0);
+        CHECK(buffer_has(&alone[0], in.align == 0)); /* .. unless their line is measured first */
+        /* the redraw step skips nothing: the old text is cleared, and nothing is drawn */
+        refuses_once(&in, REDRAW_NEW, PAPAYAHELM_GLYPH_NOT_FOUND, 0, 5, 0);
+        CHECK(memchr(buffer, 3, CELLS) != NULL && memchr(buffer, 1, CELLS) == NULL);
+    }
+
+    /* the name alone, and no character but U+0000 */
+    in = input_of("-4");
+    CHECK(call(MEASURE, &in) == PAPAYAHELM_OK && out_is(0, 6, 0, 1, 2, 2, 5, 3) && sums_are(3, 0));
+    in.text = (const uint8_t *)name + 2;
+    in.text_len = sizeof name - 2;
+    in.skip = 1;
+    memset(buffer, 9, sizeof buffer);
+    CHECK(call(DRAW, &in) == PAPAYAHELM_OK && out_is(0, 0, 0, 0, 0, 0, 0, 0) && sums_are(12, 0) && buffer_is(9));
+
+    /* a font that has a glyph for U+0000, here that of "-", draws it */
+    uint8_t font[33 + 7];
+    const uint8_t nul[7] = {0, 5, 138, 62, 2, 0, 0};
+    const struct plain drawn = {"-4------", -2, 5};
+    memcpy(font, T, 33);
+    memcpy(font + 33, nul, sizeof nul);
+    in = input_of(name);
+    in.font = font;
+    in.font_len = sizeof font;
+    in.text_len = sizeof name;
+    in.x = -2;
+    for (in.skip = 0; in.skip < 2; in.skip++) {
+        memset(buffer, 9, sizeof buffer);
+        CHECK(call(DRAW, &in) == PAPAYAHELM_OK && out_is(0, 24, 0, 1, -2, 2, 23, 3) && sums_are(21, 0));
+        CHECK(buffer_has(&drawn, 1));
+    }
 }
 
 static void screens(void) {
@@ -508,6 +587,9 @@ static void screens(void) {
     memset(alone, 9, sizeof alone);
     CHECK(memcmp(panel, alone, CELLS) == 0);
     CHECK(papayahelm_show(&screen, "45", "4", answer) == PAPAYAHELM_OK);
+    /* a text ends at its first zero byte, so that a name's padding is left out */
+    CHECK(papayahelm_show(&screen, "4", "-4\0\0\0\0\0", answer) == PAPAYAHELM_OK && answer[PAPAYAHELM_ADVANCE_X] == 6);
+    CHECK(answer[PAPAYAHELM_RECORDS] == 3);
     /* set right: a longer reading leaves nothing to the left of a shorter one */
     screen.x = 12;
     screen.align = PAPAYAHELM_ALIGN_RIGHT;
@@ -535,6 +617,7 @@ int main(void) {
     order();
     refusals();
     sums();
+    padded_names();
     screens();
     words();
     printf("%d checks, %d failed\n", checks, failures);

@@ -12,8 +12,10 @@
  *
  * THE ARGUMENTS that several calls have:
  *   font, font_len          the font's bytes, 23 to 1,048,576 (else status 1). Each call reads and checks the header (status 2)
- *   text, text_len          the text in UTF-8, 0 to 4,096 bytes (else status 4), with no zero byte at its end. A newline begins a
- *                           new line; every other character, U+0000 and U+000D among them, is looked up in the font
+ *   text, text_len          the text in UTF-8, 0 to 4,096 bytes (else status 4); no zero byte ends it. A newline begins a new
+ *                           line; every other character, U+0000 and U+000D among them, is looked up in the font. So a name that
+ *                           is padded with U+0000 to a fixed length is drawn with that length and skip 1: if the font has no
+ *                           glyph for U+0000, as is usual, the answer is that of the name alone, but for the sums
  *   x, y                    where the text stands, in pixels from the framebuffer's top left pixel; x grows to the right, y
  *                           downwards; each -1,048,576 to 1,048,576 (else status 5). What lies off the framebuffer is not drawn
  *   anchor                  which height of the text stands at y: enum papayahelm_anchor
@@ -95,10 +97,10 @@ enum papayahelm_out {
     PAPAYAHELM_BOX_TOP = 5,
     PAPAYAHELM_BOX_WIDTH = 6,
     PAPAYAHELM_BOX_HEIGHT = 7,
-    /* the steps of the text's lookups, added up: how many glyph records had their code looked at, and how many entries of the jump
-     * table were read. With status 0 over all characters, skipped ones too, and a newline brings nothing; with 7 over those up to
-     * and including the refused one; with every other refusal, and for a font box, both are 0. They fit uint32_t, and depend on
-     * the font, the text and the outcome alone */
+    /* the steps of the text's lookups, added up: how many glyph records had their code looked at (up to U+00FF not the one with
+     * jump 0 that ends a list), and how many entries of the jump table were read. With status 0 over all characters, skipped ones
+     * too, and a newline brings nothing; with 7 over those up to and including the refused one; with every other refusal, and for
+     * a font box, both are 0. They fit uint32_t, and depend on the font, the text and the outcome alone */
     PAPAYAHELM_RECORDS = 8,
     PAPAYAHELM_ENTRIES = 9,
     /* how many numbers these are */
@@ -176,8 +178,9 @@ uint32_t papayahelm_draw_aligned(const uint8_t *font, size_t font_len, const uin
 
 /* The redraw step: the next reading in place of the one that stands, whole or not at all. It tests both texts for the causes 1 to
  * 6; fills the old text's bounding box with `clear_color`, if the old text is one that draws; and draws the new text if each of its
- * characters can be drawn. No character is skipped. The answer is the new text's; its sums count each of its characters once, and
- * none of the old text. The status says which text the next step takes as its old one (papayahelm_is_taken):
+ * characters can be drawn. No character is skipped: a padded name is handed over without its padding. The answer is the new text's;
+ * its sums count each of its characters once, and none of the old text. The status says which text the next step takes as its old
+ * one (papayahelm_is_taken):
  *   0              the new text, which stands now
  *   7, 8           the new text too: the old one is cleared, and nothing of the new one is drawn
  *   1 .. 6, 255    the same old text as before, which still stands: nothing has changed
@@ -203,7 +206,8 @@ struct papayahelm_screen {
     uint32_t align; /* last, so that an initialiser without it keeps its meaning: left */
 };
 
-/* papayahelm_redraw with texts that end in a zero byte. `out` has room for PAPAYAHELM_OUT_LEN numbers. */
+/* papayahelm_redraw with texts that end in a zero byte; more zero bytes behind the first, as in a padded name, are left out. `out`
+ * has room for PAPAYAHELM_OUT_LEN numbers. */
 static inline uint32_t papayahelm_show(const struct papayahelm_screen *s, const char *old_text, const char *new_text,
                                        int64_t *out) {
     return papayahelm_redraw(s->font, s->font_len, (const uint8_t *)old_text, strlen(old_text), (const uint8_t *)new_text,

@@ -138,6 +138,7 @@ mod tests {
     #[test]
     fn a_refused_character_is_named() {
         assert_eq!(Error::from_status(7, 0x35), Error::GlyphNotFound('5'));
+        assert_eq!(Error::from_status(7, 0).character(), Some('\0'));
         assert_eq!(Error::from_status(8, 0x10_FFFF), Error::FontEnds('\u{10FFFF}'));
         assert_eq!(Error::from_status(6, 0).character(), None);
         // not a code point, which the library never answers
@@ -149,6 +150,7 @@ mod tests {
         let words = |status, code_point| Error::from_status(status, code_point).to_string();
         assert_eq!(words(7, 0x35), "the font has no glyph for '5' (U+0035)");
         assert_eq!(words(7, 0xB0), "the font has no glyph for '°' (U+00B0)");
+        assert_eq!(words(7, 0), "the font has no glyph for '\\0' (U+0000)");
         assert_eq!(words(8, 0), "the font ends before the glyph for '\\0' (U+0000) does");
         assert_eq!(words(255, 0), "the library answered with status 255, unknown here");
     }

@@ -71,6 +71,38 @@
 //! # }
 //! ```
 //!
+//! # Padded names
+//!
+//! A name that is padded with U+0000 to a fixed length is drawn by a font that passes over unknown
+//! characters, and is measured and drawn as the name alone is:
+//!
+//! ```
+//! use papayahelm::{FontColor, FontRenderer, Framebuffer, Point, VerticalPosition};
+//!
+//! # // Font T of the tests: "-" and "4".
+//! # const BYTES: [u8; 35] = [
+//! #     2, 0, 2, 2, 3, 3, 2, 3, 3, 2, 3, 0, 0, 3, 0, 3, 0, 0, 10, 0, 10, 0, 12,
+//! #     45, 5, 138, 62, 2, 52, 5, 146, 60, 73, 0, 0,
+//! # ];
+//! # fn main() -> Result<(), papayahelm::Error> {
+//! # let bytes = &BYTES;
+//! let name = *b"-4\0\0\0\0\0\0";
+//! let font = FontRenderer::new_from_raw_data(bytes)?.with_ignore_unknown_chars(true);
+//! let mut panel = Framebuffer { width: 32, height: 16, pixels: &mut [0; 32 * 16] };
+//! let (at, color) = (Point::new(2, 12), FontColor::Transparent(1));
+//! let drawn = font.render(name, at, VerticalPosition::Baseline, color, &mut panel).into_result()?;
+//! let alone = font.get_rendered_dimensions("-4", at, VerticalPosition::Baseline);
+//! assert_eq!(drawn, alone.into_result()?);
+//! # let mut other = Framebuffer { width: 32, height: 16, pixels: &mut [0; 32 * 16] };
+//! # font.render("-4", at, VerticalPosition::Baseline, color, &mut other).into_result()?;
+//! # assert_eq!(panel, other);
+//! # Ok(())
+//! # }
+//! ```
+//!
+//! A font that has a glyph for U+0000 draws it. [`FontRenderer::redraw`] skips nothing: hand it the
+//! name without the padding, as `trim_end_matches('\0')` leaves it.
+//!
 //! # Records looked at
 //!
 //! Each call on a text answers with a [`Report`]: its result, and beside it how many glyph records
@@ -95,9 +127,9 @@
 //! assert_eq!(four.steps, LookupSteps { records: 2, entries: 0 });
 //! assert_eq!(four.into_result()?.advance.x, 3);
 //!
-//! let five = measure("5"); // both, and the record that ends the list
+//! let five = measure("5"); // both; the record that ends the list does not count
 //! assert_eq!(five.result, Err(Error::GlyphNotFound('5')));
-//! assert_eq!(five.steps, LookupSteps { records: 3, entries: 0 });
+//! assert_eq!(five.steps, LookupSteps { records: 2, entries: 0 });
 //! # Ok(())
 //! # }
 //! ```

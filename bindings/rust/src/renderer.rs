@@ -88,8 +88,8 @@ impl<'a> FontRenderer<'a> {
         Self { data, line_height, ignore_unknown_chars: false }
     }
 
-    /// With `ignore`, characters that the font has no glyph for are passed over.
-    /// [`redraw`](Self::redraw) never does this.
+    /// With `ignore`, characters that the font has no glyph for are passed over, such as U+0000
+    /// behind a padded name. [`redraw`](Self::redraw) never does this.
     #[must_use]
     pub const fn with_ignore_unknown_chars(mut self, ignore: bool) -> Self {
         self.ignore_unknown_chars = ignore;

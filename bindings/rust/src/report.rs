@@ -10,7 +10,8 @@ use crate::Error;
 /// outcome alone.
 #[derive(Clone, Copy, Debug, Default, PartialEq, Eq, Hash)]
 pub struct LookupSteps {
-    /// How many glyph records had their code looked at.
+    /// How many glyph records had their code looked at: up to U+00FF not the one with jump 0 that
+    /// ends a list.
     pub records: u32,
     /// How many entries of the jump table were read.
     pub entries: u32,

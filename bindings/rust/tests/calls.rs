@@ -307,7 +307,7 @@ fn a_refused_line_is_not_begun() {
     };
     let [left, center, right] = ALIGNS.map(|align| drawn(T, "-\n4A", align));
     let missing =
-        |pixels: &[(usize, usize)]| (Err(Error::GlyphNotFound('A')), (4, 0), pixels.to_vec());
+        |pixels: &[(usize, usize)]| (Err(Error::GlyphNotFound('A')), (3, 0), pixels.to_vec());
     assert_eq!(left, missing(&[(10, 17), (11, 17), (10, 22), (10, 23), (11, 23)]));
     assert_eq!(center, missing(&[(9, 17), (10, 17)]));
     assert_eq!(right, missing(&[(8, 17), (9, 17)]));
@@ -604,7 +604,7 @@ fn refuses_6_background_color_not_supported() {
 
 #[test]
 fn refuses_7_glyph_not_found() {
-    for ch in ['A', '5', '\u{100}', '\u{10FFFF}'] {
+    for ch in ['\0', 'A', '5', '\u{100}', '\u{10FFFF}'] {
         let text = format!("-{ch}");
         refused(LETTERS, &Input { text: text.as_bytes(), ..PLAIN }, Error::GlyphNotFound(ch));
         assert_eq!(refusal(Call::RedrawOld, &Input { text: text.as_bytes(), ..PLAIN }).0, None);
@@ -622,7 +622,12 @@ fn refuses_8_font_ends() {
     let cut = Input { font: &T[..33], text: b"A", ..PLAIN };
     refused(LETTERS, &cut, Error::FontEnds('A'));
     refused(SKIPPING, &Input { skip: true, ..cut }, Error::FontEnds('A'));
-    refused(LETTERS, &Input { text: b"\0", ..PLAIN }, Error::FontEnds('\0'));
+    // the record 0 0 that ends the list without its jump, and without both
+    for bytes in [&T[..34], &T[..33]] {
+        let cut = Input { font: bytes, text: b"\0", ..PLAIN };
+        refused(LETTERS, &cut, Error::FontEnds('\0'));
+        refused(SKIPPING, &Input { skip: true, ..cut }, Error::FontEnds('\0'));
+    }
     // "4" can be measured, but not drawn
     let runs = Input { font: &T[..32], text: b"-4", ..PLAIN };
     assert_eq!(refusal(Call::Measure, &runs).0, None);
@@ -639,6 +644,11 @@ fn steps_are_handed_up() {
     let below = [&T[..], &[0; 9]].concat();
     let zero = [&T[..], &[0, 4, 255, 255, 0, 0, 0]].concat();
     let found = [&T[..], &[0, 4, 255, 255, 1, 0, 6, 138, 62, 2]].concat();
+    // the same with jump 0, which from U+0100 on does not come before the code
+    let last = [&T[..], &[0, 4, 255, 255, 1, 0, 0, 138, 62, 2]].concat();
+    // T with a glyph for U+0000, which is that of "-"; with one for "5" in a record with jump 0
+    let nul = [&T[..33], &[0, 5, 138, 62, 2, 0, 0]].concat();
+    let ended = [&T[..33], &[53, 0, 138, 62, 2, 0, 0]].concat();
     let missing = |ch| Err(Error::GlyphNotFound(ch));
     let brings = |font, skip, text: &str, result, records, entries| {
         let steps = LookupSteps { records, entries };
@@ -657,18 +667,29 @@ fn steps_are_handed_up() {
     brings(T, false, "-4", Ok(()), 3, 0);
     brings(T, false, "-\n4\n", Ok(()), 3, 0);
     brings(T, false, "444", Ok(()), 6, 0);
-    brings(T, false, "A", missing('A'), 1, 0);
-    brings(T, false, "5", missing('5'), 3, 0);
-    brings(T, false, "-A", missing('A'), 2, 0);
-    brings(T, false, "-A4", missing('A'), 2, 0);
-    brings(T, true, "-A4", Ok(()), 4, 0);
-    brings(T, true, "-A4A", Ok(()), 5, 0);
+    // the record 0 0 that ends the list does not count: its jump comes before its code
+    brings(T, false, "A", missing('A'), 0, 0);
+    brings(T, false, "5", missing('5'), 2, 0);
+    brings(T, false, "-A", missing('A'), 1, 0);
+    brings(T, false, "-A4", missing('A'), 1, 0);
+    brings(T, true, "-A", Ok(()), 1, 0);
+    brings(T, true, "-A4", Ok(()), 3, 0);
+    brings(T, true, "-A4A", Ok(()), 3, 0);
+    brings(T, false, "\0", missing('\0'), 2, 0);
+    brings(T, true, "-\0\0", Ok(()), 5, 0);
+    brings(&nul, false, "\0", Ok(()), 3, 0);
+    brings(&nul, false, "-\0\n\0", Ok(()), 7, 0);
+    brings(&nul, false, "5", missing('5'), 3, 0);
+    brings(&ended, false, "5", missing('5'), 2, 0);
+    brings(&ended, true, "-5\0", Ok(()), 5, 0);
     brings(&T[..33], false, "-A", Err(Error::FontEnds('A')), 0, 0);
     brings(&T[..33], true, "-A", Err(Error::FontEnds('A')), 0, 0);
     brings(T, false, "\u{10000}", missing('\u{10000}'), 0, 0);
     brings(&below, false, "\u{100}", missing('\u{100}'), 0, 2);
     brings(&zero, false, "\u{100}", missing('\u{100}'), 1, 1);
     brings(&found, false, "\u{100}", Ok(()), 1, 1);
+    brings(&last, false, "\u{100}", Ok(()), 1, 1);
+    brings(&last, false, "\u{101}", missing('\u{101}'), 1, 1);
     brings(&found, false, "4\u{100}-\u{100}", Ok(()), 5, 2);
     brings(&found, false, "\u{100}\u{101}", Err(Error::FontEnds('\u{101}')), 0, 0);
     // "4" can be measured, but not drawn
@@ -677,6 +698,92 @@ fn steps_are_handed_up() {
     let measured = [Call::Measure, Call::MeasureAligned].map(|call| reported(call, &runs).0);
     assert_eq!(measured, [four; 2]);
     refused(DRAWING_LETTERS, &runs, Error::FontEnds('4'));
+}
+
+/// A name of eight characters, the last ones U+0000. Where unknown characters are skipped it is as
+/// the name alone, but for the records; where not, its first U+0000 is refused.
+#[test]
+fn names_padded_with_nul() {
+    fn with_records<T>(report: Report<T>, more: u32) -> Report<T> {
+        let LookupSteps { records, entries } = report.steps;
+        Report { steps: LookupSteps { records: records + more, entries }, ..report }
+    }
+    fn refused<T>(steps: LookupSteps) -> Report<T> {
+        Report { result: Err(Error::GlyphNotFound('\0')), steps }
+    }
+    let (at, anchor) = (Point::new(32, 20), VerticalPosition::Baseline);
+    let blank = [9; 64 * 32];
+    let measured = |font: FontRenderer, text: &str| font.get_rendered_dimensions(text, at, anchor);
+    let drawn = |font: FontRenderer, text: &str| {
+        let mut pixels = blank;
+        let mut panel = Framebuffer { width: 64, height: 32, pixels: &mut pixels };
+        (font.render(text, at, anchor, INK, &mut panel), pixels)
+    };
+    let measured_aligned = |font: FontRenderer, text: &str, align| {
+        font.get_rendered_dimensions_aligned(text, at, anchor, align)
+    };
+    let drawn_aligned = |font: FontRenderer, text: &str, align| {
+        let mut pixels = blank;
+        let mut panel = Framebuffer { width: 64, height: 32, pixels: &mut pixels };
+        (font.render_aligned(text, at, anchor, align, INK, &mut panel), pixels)
+    };
+    // the font, the name, and the records that a U+0000 brings: all but the one with jump 0
+    for (bytes, name, each) in
+        [(&T[..], "-4", 2), (T, "4-4-4-4", 2), (T, "", 2), (GAUGE, "-12.5°", 32)]
+    {
+        let padded = format!("{name:\0<8}");
+        assert_eq!(padded.chars().count(), 8);
+        let all = each * (padded.len() - name.len()) as u32;
+        let (plain, skipping) = (font(bytes), font(bytes).with_ignore_unknown_chars(true));
+        let alone = measured(plain, name);
+        assert!(alone.result.is_ok());
+        let up_to_nul = with_records(alone, each).steps;
+        assert_eq!(measured(skipping, &padded), with_records(alone, all), "{name}");
+        assert_eq!(measured(plain, &padded), refused(up_to_nul), "{name}");
+        // the letters before U+0000 are drawn
+        let (report, pixels) = drawn(plain, name);
+        assert_eq!(report, alone);
+        assert_eq!(drawn(skipping, &padded), (with_records(alone, all), pixels), "{name}");
+        assert_eq!(drawn(plain, &padded), (refused(up_to_nul), pixels), "{name}");
+        for align in ALIGNS {
+            let alone = measured_aligned(plain, name, align);
+            assert_eq!(measured_aligned(skipping, &padded, align), with_records(alone, all));
+            assert_eq!(measured_aligned(plain, &padded, align), refused(up_to_nul));
+            // .. unless their line is measured first
+            let (report, pixels) = drawn_aligned(plain, name, align);
+            assert_eq!(report, alone);
+            let left = if align == HorizontalAlignment::Left { pixels } else { blank };
+            let found = drawn_aligned(skipping, &padded, align);
+            assert_eq!(found, (with_records(alone, all), pixels), "{name} {align:?}");
+            let found = drawn_aligned(plain, &padded, align);
+            assert_eq!(found, (refused(up_to_nul), left), "{name} {align:?}");
+        }
+    }
+}
+
+/// The redraw step skips nothing, so that it is handed a name without its padding.
+#[test]
+fn redraws_names_without_their_padding() {
+    let skipping = font(T).with_ignore_unknown_chars(true);
+    let place = Place::new(Point::new(1, 5), INK);
+    let mut panel = Framebuffer { width: 16, height: 8, pixels: &mut [0; 16 * 8] };
+    let mut shown = "";
+    for padded in ["-4\0\0\0\0\0\0", "4\0\0\0\0\0\0\0", "-4-4\0\0\0\0", "\0\0\0\0\0\0\0\0"] {
+        let name = padded.trim_end_matches('\0');
+        let answer = skipping.redraw(shown, name, place, &mut panel);
+        assert!(answer.result.is_ok());
+        shown = standing(&answer, shown, name);
+        let mut alone = Framebuffer { width: 16, height: 8, pixels: &mut [0; 16 * 8] };
+        let drawn =
+            skipping.render(padded, place.position, place.vertical_pos, INK, &mut alone).result;
+        assert_eq!((answer.result, &panel), (drawn, &alone), "{name}");
+    }
+    // with it, it is refused: the old name is cleared, and nothing is drawn
+    assert!(skipping.redraw(shown, "-4", place, &mut panel).result.is_ok());
+    let answer = skipping.redraw("-4", "4-\0\0\0\0\0\0", place, &mut panel);
+    assert_eq!(answer.result, Err(Error::GlyphNotFound('\0')));
+    assert_eq!(answer.steps, LookupSteps { records: 5, entries: 0 });
+    assert!(is_taken(&answer) && panel.pixels.iter().all(|pixel| *pixel == 0));
 }
 
 /// The causes are tested in the order of their numbers.

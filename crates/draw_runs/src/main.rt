@@ -1,6 +1,6 @@
 // The drawing program's runs with arguments, each under a heading: with `background`; with `background` and `pgm`, and then the
-// image that it wrote; with each alignment, of several lines, of a text without a pixel, and of one that is refused; with a wrong
-// word. What the aligned runs must print is what tools/draw_model.py prints.
+// image that it wrote; with each alignment, of several lines, of a text without a pixel, and of two that are refused, the second a
+// name padded with U+0000; with a wrong word. What the aligned runs must print is what tools/draw_model.py prints.
 use draw_options::Options;
 use draw_program::program::start;
 use libc::STDOUT_FILENO;
@@ -60,6 +60,7 @@ fn run_aligned() {
     run(b"right, background\n", b"lines.txt", right);
     run(b"center, no pixel\n", b"blank.txt", center);
     run(b"right, refused\n", b"unknown.txt", right);
+    run(b"left, padded with U+0000\n", b"padded.txt", left);
 }
 
 fn main() {

@@ -23,6 +23,8 @@ lineCases =
     record { font = T; text = 45 ∷ 52 ∷ []; line = 111 ∷ 107 ∷ 32 ∷ 54 ∷ 32 ∷ 48 ∷ 32 ∷ 48 ∷ 32 ∷ 45 ∷ 51 ∷ 32 ∷ 53 ∷ 32 ∷ 51 ∷ 10 ∷ [] }
     -- "A": `no 7 65`
     ∷ record { font = T; text = 65 ∷ []; line = 110 ∷ 111 ∷ 32 ∷ 55 ∷ 32 ∷ 54 ∷ 53 ∷ 10 ∷ [] }
+    -- "-4" and six U+0000: `no 7 0`
+    ∷ record { font = T; text = 45 ∷ 52 ∷ 0 ∷ 0 ∷ 0 ∷ 0 ∷ 0 ∷ 0 ∷ []; line = 110 ∷ 111 ∷ 32 ∷ 55 ∷ 32 ∷ 48 ∷ 10 ∷ [] }
     -- the empty text: `ok 0 0 none`
     ∷ record { font = T; text = []; line = 111 ∷ 107 ∷ 32 ∷ 48 ∷ 32 ∷ 48 ∷ 32 ∷ 110 ∷ 111 ∷ 110 ∷ 101 ∷ 10 ∷ [] }
     -- "-4" and a newline, which is part of the text: `ok 0 4 0 -3 5 3`
