@@ -530,6 +530,12 @@ static void padded_names(void) {
     in.skip = 1;
     memset(buffer, 9, sizeof buffer);
     CHECK(call(DRAW, &in) == PAPAYAHELM_OK && out_is(0, 0, 0, 0, 0, 0, 0, 0) && sums_are(12, 0) && buffer_is(9));
+    /* with bytes behind T's last record that read as a glyph */
+    uint8_t longer[sizeof T + 9] = {0};
+    memcpy(longer, T, sizeof T);
+    in.font = longer;
+    in.font_len = sizeof longer;
+    CHECK(call(DRAW, &in) == PAPAYAHELM_OK && out_is(0, 0, 0, 0, 0, 0, 0, 0) && sums_are(12, 0) && buffer_is(9));
 
     /* a font that has a glyph for U+0000, here that of "-", draws it */
     uint8_t font[33 + 7];

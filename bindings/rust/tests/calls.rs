@@ -727,10 +727,11 @@ fn names_padded_with_nul() {
         let mut panel = Framebuffer { width: 64, height: 32, pixels: &mut pixels };
         (font.render_aligned(text, at, anchor, align, INK, &mut panel), pixels)
     };
+    // behind its last record T has bytes that read as a glyph
+    let longer = [&T[..], &[0; 9]].concat();
     // the font, the name, and the records that a U+0000 brings: all but the one with jump 0
-    for (bytes, name, each) in
-        [(&T[..], "-4", 2), (T, "4-4-4-4", 2), (T, "", 2), (GAUGE, "-12.5°", 32)]
-    {
+    let names = [(&T[..], "-4", 2), (T, "4-4-4-4", 2), (T, "", 2), (&longer, "-4", 2)];
+    for (bytes, name, each) in names.into_iter().chain([(GAUGE, "-12.5°", 32)]) {
         let padded = format!("{name:\0<8}");
         assert_eq!(padded.chars().count(), 8);
         let all = each * (padded.len() - name.len()) as u32;
