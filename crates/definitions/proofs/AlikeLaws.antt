@@ -1,12 +1,30 @@
 -- Letters that answer alike are laid out alike, whatever other code points answer. Assumes nothing.
-use Rattle.integers.proofs.Prelude.{_≡_, refl, Bool, true, false, List, [], _∷_, ℕ, pos, _+ℤ_, eqb}
+use Rattle.integers.proofs.Prelude.{_≡_, refl, Bool, true, false, List, [], _∷_, ℕ, ℤ, pos, _+ℤ_, eqb}
 use Rattle.integers.specs.Integers.{pick}
 use Rattle.definitions.specs.Vocabulary.{Point, HorizontalAlignment}
 use Rattle.types.specs.declared.style.HorizontalAlignment.the-variants.{Left, Center, Right}
 use Rattle.definitions.specs.Refusals.{Outcome, success, refused}
 use Rattle.definitions.specs.Text.{Answer, shows, nothing, stops, Layout, Lines, last, first, toFirst, point, place, letters, lines}
-use Rattle.definitions.specs.Text.{newline, thenLines, lineByLine, withOffset, movedLine, alignedLine, aligned}
+use Rattle.definitions.specs.Text.{newline, thenLines, joinAll, lineByLine, horizontalOffset, withOffset, movedLine, alignedLine, aligned}
 use Rattle.definitions.proofs.TextLaws.{Each, each-map}
+
+-- ---- what comes after a letter, after a line, and after a line's offset is known
+
+pub after-letter : (origin advance : Point) (a : Answer) {rest rest′ : Point → Layout} → ((next : Point) → rest next ≡ rest′ next)
+    → place origin advance a rest ≡ place origin advance a rest′
+after-letter origin advance (shows g) same = rw (same (point (advance .x +ℤ g .advance) (advance .y)))
+after-letter origin advance nothing same = same advance
+after-letter origin advance (stops n c) same = refl
+
+pub after-line : (line : Layout) (o : Outcome Point) {rest rest′ : Point → Layout} → ((end : Point) → rest end ≡ rest′ end)
+    → thenLines line o rest ≡ thenLines line o rest′
+after-line line (success end) same = rw (same end)
+after-line line (refused n c) same = refl
+
+pub after-offset : (a : HorizontalAlignment) (line : Layout) (o : Outcome Point) {rest rest′ : ℤ → Layout} → ((x : ℤ) → rest x ≡ rest′ x)
+    → withOffset a line o rest ≡ withOffset a line o rest′
+after-offset a line (success end) same = same (horizontalOffset a (joinAll (line .glyphs)) (end .x))
+after-offset a line (refused n c) same = refl
 
 -- ---- what is so of each line
 
@@ -36,13 +54,9 @@ module _ (line line′ : Point → List ℕ → Layout) (P : List ℕ → Type 0
   lines-alike : (ls : Lines) → EachLine P ls → (advance : Point) → lineByLine line lineHeight advance ls ≡ lineByLine line′ lineHeight advance ls
   unfolding lineByLine
   lines-alike (last l) h advance = same l h advance
-  lines-alike (first l ls) h advance = rw (same l (h .0) advance) (by (lines-alike ls (h .1)) (line′ advance l .advance))
-    where
-      by : ((next : Point) → lineByLine line lineHeight next ls ≡ lineByLine line′ lineHeight next ls) → (o : Outcome Point)
-          → thenLines (line′ advance l) o (λ end. lineByLine line lineHeight (newline lineHeight end) ls)
-          ≡ thenLines (line′ advance l) o (λ end. lineByLine line′ lineHeight (newline lineHeight end) ls)
-      by rest (success end) = rw (rest (newline lineHeight end))
-      by rest (refused n c) = refl
+  lines-alike (first l ls) h advance =
+      rw (same l (h .0) advance)
+      (after-line (line′ advance l) (line′ advance l .advance) (λ end. lines-alike ls (h .1) (newline lineHeight end)))
 
 -- ---- letters that answer alike
 
@@ -50,13 +64,7 @@ letters-alike : (f g : ℕ → Answer) (origin : Point) (l : List ℕ) → Each 
     → (advance : Point) → letters f origin advance l ≡ letters g origin advance l
 unfolding letters
 letters-alike f g origin [] h advance = refl
-letters-alike f g origin (c ∷ l) h advance = rw (h .0) (by (letters-alike f g origin l (h .1)) (g c))
-  where
-    by : ((next : Point) → letters f origin next l ≡ letters g origin next l) → (a : Answer)
-        → place origin advance a (λ next. letters f origin next l) ≡ place origin advance a (λ next. letters g origin next l)
-    by rest (shows p) = rw (rest (point (advance .x +ℤ p .advance) (advance .y)))
-    by rest nothing = rest advance
-    by rest (stops n d) = refl
+letters-alike f g origin (c ∷ l) h advance = rw (h .0) (after-letter origin advance (g c) (letters-alike f g origin l (h .1)))
 
 module _ (measured answers measured′ answers′ : ℕ → Answer) where
   abbrev pub Alike : ℕ → Type 0
@@ -69,13 +77,9 @@ module _ (measured answers measured′ answers′ : ℕ → Answer) where
     moved-alike a l h advance =
         let start = point (pos 0) (pos 0) in
         let line = letters measured′ start start l in
-        rw (letters-alike measured measured′ start l (each-map Alike (λ c. measured c ≡ measured′ c) (λ c k. k .0) l h) start) (by (line .advance))
-      where
-        by : (o : Outcome Point)
-            → withOffset a (letters measured′ (point (pos 0) (pos 0)) (point (pos 0) (pos 0)) l) o (λ x. letters answers (point (origin .x +ℤ x) (origin .y)) advance l)
-            ≡ withOffset a (letters measured′ (point (pos 0) (pos 0)) (point (pos 0) (pos 0)) l) o (λ x. letters answers′ (point (origin .x +ℤ x) (origin .y)) advance l)
-        by (success end) = letters-alike answers answers′ _ l (each-map Alike (λ c. answers c ≡ answers′ c) (λ c k. k .1) l h) advance
-        by (refused n c) = refl
+        rw (letters-alike measured measured′ start l (each-map Alike (λ c. measured c ≡ measured′ c) (λ c k. k .0) l h) start)
+        (after-offset a line (line .advance)
+        (λ x. letters-alike answers answers′ _ l (each-map Alike (λ c. answers c ≡ answers′ c) (λ c k. k .1) l h) advance))
 
     line-alike : (a : HorizontalAlignment) (l : List ℕ) → Each Alike l → (advance : Point)
         → alignedLine a measured answers origin advance l ≡ alignedLine a measured′ answers′ origin advance l

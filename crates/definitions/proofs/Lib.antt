@@ -25,3 +25,4 @@ pub mod MovedLaws
 pub mod AlignedLaws
 pub mod LineLaws
 pub mod FirstRuleLaws
+pub mod PaddedLaws

@@ -2,7 +2,7 @@
 -- the bytes: there is no number of steps, and no law that one suffices is needed. Assumes nothing.
 use Rattle.integers.proofs.Prelude.{_≡_, refl, sym, ap, _∙_, Bool, true, false, List, [], _∷_, _++_, ℕ, zero, suc, _+_, _-_, _*_, _≤_, _<_, zero-add}
 use Rattle.integers.proofs.Prelude.{suc-add, add-zero, decLt, add-one, arith, T, ltb, leb, eqb, lit<, length, drop, length-drop, length-append}
-use Rattle.integers.proofs.Prelude.{List·getD-append, drop-of-length-le, drop-cons, drop-append-le, leb-true, le-leb, lt-leb, eq-eqb, ne-eqb}
+use Rattle.integers.proofs.Prelude.{List·getD-append, drop-of-length-le, drop-cons, drop-append-le, leb-true, le-leb, lt-leb, eq-eqb}
 use Rattle.integers.proofs.Prelude.{eqb-false}
 use Rattle.integers.proofs.Choices.{impossible, of-pick}
 use Rattle.definitions.specs.Vocabulary.{FontReader, LookupSteps}

@@ -167,7 +167,7 @@ character-count s {cs} e = omega (arith, ap length (decoded s e .0), encoded-len
 
 -- ---- newlines: the byte 10 is no part of a longer sequence, so bytes and code points have as many
 
-newlines-append : (s t : List ℕ) → newlines (s ++ t) ≡ newlines s + newlines t
+pub newlines-append : (s t : List ℕ) → newlines (s ++ t) ≡ newlines s + newlines t
 unfolding newlines
 newlines-append [] t = omega arith
 newlines-append (b ∷ s) t = omega (arith, newlines-append s t)
