@@ -22,7 +22,7 @@ pub enum Record {
     Cut,
 }
 
-// Jump 0 ends the chain.
+// Behind a code of two bytes that does not match: jump 0 ends the chain.
 fn jump_to_next(jump: u8) -> Record
     ensures { λ r. ⌜ asRecord r ≡ pick (eqb jump 0) last (next jump) ⌝ }
 {
