@@ -1,6 +1,6 @@
 -- A letter refuses a text with 7 or 8 and with its own code point, and never with the number of a cause that is tested before the
 -- letters. Assumes nothing.
-use Rattle.integers.proofs.Prelude.{◌≡◌, refl, sym, ap, subst, ◌∙◌, Bool, true, false, ◌&&◌, ◌⊎◌, inl, inr, List, [], ◌∷◌, map, ℕ, ◌*◌, eqb, ℤ}
+use Rattle.integers.proofs.Prelude.{◌≡◌, refl, sym, ap, subst, ◌∙◌, Bool, true, false, ◌&&◌, ◌⊎◌, inl, inr, List, [], ◌∷◌, map, ℕ, ◌*◌, eqb, ℤ, ◌+ℤ◌, pos}
 use Rattle.integers.specs.Integers.{pick}
 use Rattle.integers.proofs.Choices.{impossible}
 use Rattle.definitions.specs.Vocabulary.{FontReader, BoundingBox, Point, GlyphReader, HorizontalAlignment}
@@ -11,7 +11,7 @@ use Rattle.definitions.specs.Bits.{Read, got, ends, read_at}
 use Rattle.definitions.specs.Lookup.{Search, found, missing, short, search as lookup}
 use Rattle.definitions.specs.Glyph.{unless_ends, fields, from_search, glyph}
 use Rattle.definitions.specs.Text.{Answer, shows, nothing, stops, answer, Layout, point, dimensions_of, place, letters}
-use Rattle.definitions.specs.Text.{Lines, last, first, lines, newline, then_lines, line_by_line, with_offset, aligned_line, aligned}
+use Rattle.definitions.specs.Text.{Lines, last, first, lines, newline, then_lines, line_by_line, with_offset, moved_line, aligned_line, aligned}
 use Rattle.definitions.specs.Runs.{Pixels, pixels, cut}
 use Rattle.definitions.specs.Font.{Font, u8g2, with_runs, drawable, measured_answer, drawn_answer}
 
@@ -152,10 +152,20 @@ module _ (Blamed : ℕ → ℕ → Type 0) where
   late_offset a line (refused n c) h rest k = h
 
   module _ (measured answers : ℕ → Answer) (in_measuring : Heard measured) (in_drawing : Heard answers) (line_height : ℕ) (origin : Point) where
+    -- as `moved_line` measures it, and as it then draws it
+    abbrev alone : List ℕ → Layout
+    alone l = letters measured (point (pos 0) (pos 0)) (point (pos 0) (pos 0)) l
+
+    late_moved : (a : HorizontalAlignment) (advance : Point) (l : List ℕ) → LateAt Blamed (moved_line a measured answers origin advance l).advance
+    late_moved a advance l =
+        late_offset a (alone l) (alone l).advance (late_letters measured in_measuring (point (pos 0) (pos 0)) l (point (pos 0) (pos 0)))
+        (λ x. letters answers (point (origin.x +ℤ x) origin.y) advance l)
+        (λ x. late_letters answers in_drawing (point (origin.x +ℤ x) origin.y) l advance)
+
     late_line : (a : HorizontalAlignment) (advance : Point) (l : List ℕ) → LateAt Blamed (aligned_line a measured answers origin advance l).advance
     late_line Left advance l = late_letters answers in_drawing origin l advance
-    late_line Center advance l = late_offset Center _ _ (late_letters measured in_measuring _ l _) _ (λ x. late_letters answers in_drawing _ l advance)
-    late_line Right advance l = late_offset Right _ _ (late_letters measured in_measuring _ l _) _ (λ x. late_letters answers in_drawing _ l advance)
+    late_line Center advance l = late_moved Center advance l
+    late_line Right advance l = late_moved Right advance l
 
     late_lines : (a : HorizontalAlignment) (ls : Lines) (advance : Point) → LateAt Blamed (line_by_line (aligned_line a measured answers origin) line_height advance ls).advance
     unfolding line_by_line

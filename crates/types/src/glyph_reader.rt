@@ -1,5 +1,5 @@
 // What is read of a glyph: its metrics, under the Rust's names, and where its runs begin.
-#[derive(Drop)]
+#[derive(Clone, Copy)]
 pub struct GlyphReader {
     pub glyph_width: u8,
     pub glyph_height: u8,

@@ -3,7 +3,7 @@ use crate::framebuffer::Framebuffer;
 use crate::geometry::Point;
 use crate::style::{FontStyle, HorizontalAlignment};
 
-#[derive(Drop)]
+#[derive(Clone, Copy)]
 pub struct Place {
     pub position: Point,
     pub style: FontStyle,

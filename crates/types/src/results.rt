@@ -5,51 +5,51 @@ use crate::geometry::{BoundingBox, Rectangle, RenderedDimensions};
 use crate::glyph_reader::GlyphReader;
 use crate::steps::LookupSteps;
 
-#[derive(Drop)]
+#[derive(Clone, Copy)]
 pub enum FontReaderResult {
     Ok(FontReader),
     Err(Error),
 }
 
-#[derive(Drop)]
+#[derive(Clone, Copy)]
 pub enum RectangleResult {
     Ok(Rectangle),
     Err(Error),
 }
 
 // What a lookup comes to: a glyph, or why there is none.
-#[derive(Drop)]
+#[derive(Clone, Copy)]
 pub enum GlyphResult {
     Ok(GlyphReader),
     Err(Error),
 }
 
 // .. and by how many steps.
-#[derive(Drop)]
+#[derive(Clone, Copy)]
 pub struct GlyphLookup {
     pub result: GlyphResult,
     pub steps: LookupSteps,
 }
 
-#[derive(Drop)]
+#[derive(Clone, Copy)]
 pub enum DimensionsResult {
     Ok(RenderedDimensions),
     Err(Error),
 }
 
-#[derive(Drop)]
+#[derive(Clone, Copy)]
 pub struct DimensionsReport {
     pub result: DimensionsResult,
     pub steps: LookupSteps,
 }
 
-#[derive(Drop)]
+#[derive(Clone, Copy)]
 pub enum BoundingBoxResult {
     Ok(BoundingBox),
     Err(Error),
 }
 
-#[derive(Drop)]
+#[derive(Clone, Copy)]
 pub struct BoundingBoxReport {
     pub result: BoundingBoxResult,
     pub steps: LookupSteps,

@@ -1,0 +1,4 @@
+pub mod Prelude
+pub mod Choices
+pub mod Laws
+pub mod Examples

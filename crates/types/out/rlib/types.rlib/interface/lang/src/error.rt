@@ -1,0 +1,1 @@
+# [ derive ( Clone , Copy ) ] pub enum Error { FontLength , FontHeader , FramebufferSize , TextEncoding , PositionOrLineHeight , BackgroundColorNotSupported , GlyphNotFound ( u32 ) , FontEnds ( u32 ) , }

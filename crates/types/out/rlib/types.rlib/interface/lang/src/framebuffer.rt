@@ -1,0 +1,1 @@
+# [ derive ( Clone , Copy ) ] pub struct Framebuffer { pub width : usize , pub height : usize , }
