@@ -1,3 +1,5 @@
 // SPECIFICATION, Agreement, of the public calls themselves: two drawings of one text, and its measuring, agree.
+#![tactic(auto)]
+
 pub mod aligned;
 pub mod plain;

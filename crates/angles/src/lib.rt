@@ -1,4 +1,6 @@
 // The text of an angle, as the gauge shows it: "-12.5", "+0.3", "0.0".
+#![tactic(auto)]
+
 ghost use Rattle.std.specs.Prelude.{◌≡◌, ◌≤◌, length};
 ghost use Rattle.angles.specs.AngleText.{digit, RoomForByte, BytePut, RoomForDegrees, DegreesPut, TenthsPut};
 ghost use Rattle.angles.specs.AngleText.{RoomForAngle, AnglePut};

@@ -1,4 +1,6 @@
 // The line that a measuring call's outcome is printed as (SPECIFICATION, Measuring program).
+#![tactic(auto)]
+
 ghost use Rattle.std.specs.Prelude.{◌+◌, ◌≤◌, length};
 ghost use Rattle.definitions.specs.Refusals.{success, refusal};
 ghost use Rattle.definitions.specs.Calls.{dimensions_outcome};

@@ -1,4 +1,6 @@
 // What a font answers to one character of a text, in measuring and in drawing.
+#![tactic(auto)]
+
 ghost use Rattle.definitions.specs.Refusals.{refusal};
 ghost use Rattle.definitions.specs.Header.{Opened};
 ghost use Rattle.definitions.specs.Glyph.{glyph_outcome};

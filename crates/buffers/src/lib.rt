@@ -1,4 +1,6 @@
 // Buffers as a whole: filled, compared.
+#![tactic(auto)]
+
 ghost use Rattle.std.specs.Prelude.{◌≡◌, length, replicate};
 ghost use Rattle.buffers.specs.Differences.{differences, TellsSame};
 

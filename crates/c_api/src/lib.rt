@@ -3,6 +3,8 @@
 // success, the number of a refusal, 255 where a code has no meaning or `out` is too short. The
 // answer's values are stored in `out`: Replies.antt of c_values says which. bindings/c/papayahelm.h
 // declares the calls.
+#![tactic(auto)]
+
 ghost use Rattle.std.specs.Prelude.{◌≡◌, length};
 ghost use Rattle.definitions.specs.Font.{u8g2};
 ghost use Rattle.definitions.specs.Framebuffer.{sized};

@@ -1,4 +1,6 @@
 // What the codes of a call mean: numbers from 0 in the order of an enum's variants.
+#![tactic(auto)]
+
 ghost use Rattle.std.specs.Prelude.{◌≡◌};
 ghost use Rattle.c_codes.specs.Codes.{anchor_of, alignment_of, flag_of, meaning_of, style_of};
 

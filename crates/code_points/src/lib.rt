@@ -1,4 +1,6 @@
 // The digits of a code point.
+#![tactic(auto)]
+
 ghost use Rattle.std.specs.Prelude.{◌≡◌, ◌≤◌, ◌<◌, length, drop};
 ghost use Rattle.code_points.specs.CodePoints.{hex_digit, hex_digits, hex_places};
 

@@ -1,4 +1,6 @@
 // A text drawn with its box in the framebuffer's corner.
+#![tactic(auto)]
+
 ghost use Rattle.std.specs.Prelude.{◌≡◌, pos, negsuc, ◌-ℤ◌, length, ◌≤ℤ◌};
 ghost use Rattle.definitions.specs.Calls.{dimensions_outcome};
 ghost use Rattle.corner.specs.Corners.{Cornered, CornerDrawn};

@@ -1,5 +1,7 @@
 // What the program is asked for: the words `pgm` and `background`, and an alignment, `left`, `center` or `right`, in any order. A
 // later alignment replaces an earlier one.
+#![tactic(auto)]
+
 ghost use Rattle.std.specs.Prelude.{◌≡◌, List, ℕ};
 ghost use Rattle.draw_options.specs.Words.{with_alignment, with_side, with_word, with_words, no_words};
 

@@ -1,6 +1,8 @@
 // The drawing program's runs with arguments, each under a heading: with `background`; with `background` and `pgm`, and then the
 // image that it wrote; with each alignment, of several lines, of a text without a pixel, and of two that are refused, the second a
 // name padded with U+0000; with a wrong word. What the aligned runs must print is what tools/draw_model.py prints.
+#![tactic(auto)]
+
 use draw_options::Options;
 use draw_program::program::start;
 use libc::STDOUT_FILENO;

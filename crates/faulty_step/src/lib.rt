@@ -1,4 +1,6 @@
 // The step of the gauge, or the one with a fault put in.
+#![tactic(auto)]
+
 ghost use Rattle.std.specs.Prelude.{◌≡◌, true, length};
 ghost use Rattle.definitions.specs.Calls.{dimensions_outcome};
 ghost use Rattle.renderer.specs.Texts.{DrawableText, counted_with};

@@ -1,4 +1,6 @@
 // A font file is read whole or not at all.
+#![tactic(auto)]
+
 ghost use Rattle.std.specs.Prelude.{◌≡◌, length};
 ghost use Rattle.font_file.specs.Files.{EndsWithin};
 

@@ -1,4 +1,6 @@
 // Reading a font's bytes: the header, and from a code point to its glyph.
+#![tactic(auto)]
+
 ghost use Rattle.std.specs.Prelude.{◌≡◌, ◌≤◌, ◌<◌, length, pos, ◌≤ℤ◌};
 ghost use Rattle.integers.specs.Integers.{signed8};
 ghost use Rattle.definitions.specs.Header.{header, header_off, default_line_height, negative, signed_byte, Opened};

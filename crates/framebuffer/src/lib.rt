@@ -1,4 +1,6 @@
 // Writing to the framebuffer: one byte a pixel, rows from the top.
+#![tactic(auto)]
+
 pub mod fill;
 
 ghost use Rattle.std.specs.Prelude.{◌≡◌};

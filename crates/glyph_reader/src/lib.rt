@@ -1,4 +1,6 @@
 // The fields of a glyph, read from the font's bits (SPECIFICATION, Bits and fields).
+#![tactic(auto)]
+
 ghost use Rattle.std.specs.Prelude.{◌≡◌, ◌*◌, ◌%◌, ◌^◌, ◌≤◌, length};
 ghost use Rattle.definitions.specs.Bits.{biased};
 ghost use Rattle.definitions.specs.Glyph.{fields, glyph_outcome};

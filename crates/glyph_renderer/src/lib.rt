@@ -1,5 +1,7 @@
 // Drawing a glyph from its runs (SPECIFICATION, Runs). A glyph is drawn only after its runs were read to the last pixel, so a
 // font that ends too early draws none of it.
+#![tactic(auto)]
+
 ghost use Rattle.std.specs.Prelude.{◌≡◌, length};
 ghost use Rattle.definitions.specs.Font.{u8g2, pixels_of};
 ghost use Rattle.definitions.specs.Framebuffer.{shown};

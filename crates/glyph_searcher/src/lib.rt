@@ -1,4 +1,6 @@
 // From a code point to the byte where its glyph begins, and by how many steps.
+#![tactic(auto)]
+
 ghost use Rattle.std.specs.Prelude.{◌≡◌, ◌≤◌, length};
 ghost use Rattle.definitions.specs.Header.{Opened};
 ghost use Rattle.definitions.specs.Lookup.{chain, chain_start, after_entries, search_table, search as lookup};

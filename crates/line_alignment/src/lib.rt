@@ -1,4 +1,6 @@
 // Where the letters of an aligned line begin.
+#![tactic(auto)]
+
 ghost use Rattle.std.specs.Prelude.{◌≡◌};
 ghost use Rattle.definitions.specs.Utf8.{newlines};
 ghost use Rattle.definitions.specs.Calls.{code_points_of};

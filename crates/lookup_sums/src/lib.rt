@@ -1,4 +1,6 @@
 // The steps of a text's lookups, added up (SPECIFICATION, Lookup).
+#![tactic(auto)]
+
 ghost use Rattle.std.specs.Prelude.{◌≡◌, eqb};
 ghost use Rattle.integers.specs.Integers.{pick};
 ghost use Rattle.definitions.specs.Refusals.{error_number};

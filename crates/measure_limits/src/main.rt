@@ -1,5 +1,7 @@
 // The measuring program at its limits. The fonts are font T and zeros, 65,536 and 65,537 bytes long; the
 // texts are `-4` again and again, 4,096 and 4,097 bytes long; and one font file is missing.
+#![tactic(auto)]
+
 use measure_program::measure_file;
 
 // Measures the text of one file in the font of another.

@@ -1,4 +1,6 @@
 // The line that the measuring program prints (SPECIFICATION, Measuring program).
+#![tactic(auto)]
+
 ghost use Rattle.std.specs.Prelude.{◌≡◌};
 ghost use Rattle.definitions.specs.Calls.{dimensions_outcome};
 ghost use Rattle.measure_line.specs.Measured.{measured_by_program, measuring_line};

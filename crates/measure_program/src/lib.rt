@@ -1,5 +1,7 @@
 // The measuring program (SPECIFICATION, Measuring program): it reads a font and a text and prints
 // the line.
+#![tactic(auto)]
+
 ghost use Rattle.std.specs.Prelude.{List, ℕ};
 ghost use Rattle.io.specs.Counts.{IsPrefixLen};
 ghost use Rattle.measure_line.specs.Measured.{measuring_line};

@@ -1,4 +1,6 @@
 // A PGM image in its binary form: a head, and then the framebuffer's bytes.
+#![tactic(auto)]
+
 ghost use Rattle.numbers.specs.Written.{LineWritten};
 ghost use Rattle.pgm.specs.Images.{pgm_head};
 

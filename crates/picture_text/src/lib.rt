@@ -1,4 +1,6 @@
 // The colours, which are grey values, and the characters that show them.
+#![tactic(auto)]
+
 ghost use Rattle.std.specs.Prelude.{◌≡◌, ◌≤◌, length};
 ghost use Rattle.picture_text.specs.Marks.{ink_of, shade, Shades};
 ghost use Rattle.picture_text.specs.Marks.{IsPicture};

@@ -1,4 +1,6 @@
 // What the programs print: numbers, and answers in the measuring program's words (`ok` or `no`, then numbers).
+#![tactic(auto)]
+
 use code_points::write_digits;
 use libc::STDOUT_FILENO;
 use types::error::Error;

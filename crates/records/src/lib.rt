@@ -1,5 +1,7 @@
 // What a record says of a code point. A record has a code, a jump and a glyph's data. The font's end is compared with `at` and not
 // with a byte after it, so that a loop over records has the end at hand.
+#![tactic(auto)]
+
 ghost use Rattle.std.specs.Prelude.{◌≡◌, ◌≤◌, eqb, length, drop};
 ghost use Rattle.integers.specs.Integers.{pick};
 ghost use Rattle.definitions.specs.Lookup.{next, last, record8, record16};

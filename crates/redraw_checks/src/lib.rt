@@ -1,4 +1,6 @@
 // What the step from one reading to the next tests before it changes a pixel.
+#![tactic(auto)]
+
 ghost use Rattle.std.specs.Prelude.{◌≡◌};
 ghost use Rattle.redraw_checks.specs.Drawing.{asked, ground_of};
 ghost use Rattle.redraw_checks.specs.Checks.{step_outcome, checked_step};

@@ -1,5 +1,7 @@
 // Replays the cases of data/cases.bin through the public calls and prints what each answers. The file
 // stdout holds what tools/model.py, the rules written apart from the crates, says of them (tools/cases.py writes both).
+#![tactic(auto)]
+
 ghost use Rattle.std.specs.Prelude.{◌+◌, ◌≤◌};
 
 use case_calls::request;

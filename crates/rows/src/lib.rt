@@ -1,4 +1,6 @@
 // The ones of a glyph, drawn on the framebuffer.
+#![tactic(auto)]
+
 ghost use Rattle.std.specs.Prelude.{◌≡◌, ◌-◌, length};
 ghost use Rattle.definitions.specs.Font.{u8g2, pixels_of};
 ghost use Rattle.definitions.specs.Framebuffer.{shown};

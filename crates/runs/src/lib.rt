@@ -1,4 +1,6 @@
 // A glyph's runs (SPECIFICATION, Runs), pair by pair.
+#![tactic(auto)]
+
 ghost use Rattle.std.specs.Prelude.{◌≡◌, ◌+◌, ◌*◌, ◌≤◌, ◌<◌, length, drop};
 ghost use Rattle.definitions.specs.Bits.{bits as fontBits};
 ghost use Rattle.definitions.specs.Header.{Opened};

@@ -1,4 +1,6 @@
 // What the sheet's program prints: the readings that are refused or differ, the totals, and the verdict.
+#![tactic(auto)]
+
 use libc::STDOUT_FILENO;
 use sheet_ground::texts::write_reading;
 use sheet_totals::Totals;

@@ -4,6 +4,8 @@
 // from which some readings are seen whole and some in part, and none at all. Last come the alignments. Aligned to the right, the
 // last columns of all readings lie over each other: the fault is noticed at each step, and no longer reading's column stays beside a
 // shorter one.
+#![tactic(auto)]
+
 use sheet_extent::values::{Options, Wanted};
 use sheet_program::program::start;
 use types::geometry::Point;

@@ -1,4 +1,6 @@
 // The readings counted, by what is seen of them and by whether the screen differs.
+#![tactic(auto)]
+
 ghost use Rattle.std.specs.Prelude.{◌≡◌, eqb};
 ghost use Rattle.integers.specs.Integers.{pick};
 ghost use Rattle.sheet_totals.specs.Totals.{no_totals, seen_one, tallied, Few};

@@ -1,4 +1,6 @@
 // How much of a text that was drawn is seen on a framebuffer.
+#![tactic(auto)]
+
 ghost use Rattle.std.specs.Prelude.{◌≡◌, ◌≤◌};
 ghost use Rattle.definitions.specs.Calls.{dimensions_outcome};
 ghost use Rattle.sight.specs.Sights.{side_seen, at_most_part, both_seen, box_seen, sight_of};

@@ -1,4 +1,6 @@
 // Measuring a text line by line. A line is measured from its own start, since how far it is moved is known only at its end.
+#![tactic(auto)]
+
 ghost use Rattle.std.specs.Prelude.{◌≡◌, ◌≤◌};
 ghost use Rattle.definitions.specs.TextSteps.{start, moved_box, with_line, next_line, lines_dimensions};
 ghost use Rattle.text_lines.specs.Lines.{as_state, Movable, CanAdd, CharAdded, TextMeasured};

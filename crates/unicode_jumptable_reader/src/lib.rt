@@ -1,4 +1,6 @@
 // The jump table, which leads to the records of the code points from 256 on.
+#![tactic(auto)]
+
 ghost use Rattle.std.specs.Prelude.{◌≡◌, ◌≤◌, length, drop};
 ghost use Rattle.definitions.specs.Lookup.{jump_table};
 ghost use Rattle.unicode_jumptable_reader.specs.Distances.{distance};

@@ -1,4 +1,6 @@
 // The character at a position of a text, its bytes taken as UTF-8.
+#![tactic(auto)]
+
 ghost use Rattle.std.specs.Prelude.{◌≡◌, ◌≤◌, ◌<◌, length, get_or, drop};
 ghost use Rattle.definitions.specs.Utf8.{first_character};
 ghost use Rattle.utf8_sequences.specs.Sequences.{as_character};

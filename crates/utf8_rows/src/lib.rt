@@ -1,4 +1,6 @@
 // Unicode's table 3-7, which says what sequences of bytes are well formed.
+#![tactic(auto)]
+
 ghost use Rattle.std.specs.Prelude.{◌≡◌};
 ghost use Rattle.definitions.specs.Utf8.{row_of};
 ghost use Rattle.utf8_rows.specs.Rows.{as_row};

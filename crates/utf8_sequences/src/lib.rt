@@ -1,4 +1,6 @@
 // The character that two, three or four bytes are.
+#![tactic(auto)]
+
 ghost use Rattle.std.specs.Prelude.{◌≡◌};
 ghost use Rattle.definitions.specs.Utf8.{is_in, two, three, four, sequence};
 ghost use Rattle.utf8_sequences.specs.Sequences.{as_character};

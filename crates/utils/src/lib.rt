@@ -1,5 +1,7 @@
 // Joining the bounding boxes of a text's glyphs (SPECIFICATION, Texts); and, in modules of their own,
 // what is printed of refusals and of numbers, and the 16-bit numbers of a font.
+#![tactic(auto)]
+
 pub mod big_endian;
 pub mod error;
 pub mod number;

@@ -1,4 +1,6 @@
 // How far the anchor moves a text down (SPECIFICATION, Anchors).
+#![tactic(auto)]
+
 ghost use Rattle.std.specs.Prelude.{◌≡◌, ◌*◌, ◌≤◌, pos};
 ghost use Rattle.definitions.specs.VerticalOffset.{vertical_offset};
 

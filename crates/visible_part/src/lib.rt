@@ -1,4 +1,6 @@
 // Which part of a glyph lies on the framebuffer.
+#![tactic(auto)]
+
 ghost use Rattle.std.specs.Prelude.{◌≡◌};
 ghost use Rattle.visible_part.specs.Visible.{SideFits, CornerFits, visible, visible_part};
 

@@ -1,4 +1,6 @@
 // Bytes of a font as a number, the first being the lowest.
+#![tactic(auto)]
+
 ghost use Rattle.std.specs.Prelude.{◌≡◌, ◌+◌, ◌%◌, ◌≤◌, length, get_or};
 ghost use Rattle.window.specs.Window.{window};
 
