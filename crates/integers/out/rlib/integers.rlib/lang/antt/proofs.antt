@@ -1,4 +1,0 @@
-pub mod Prelude
-pub mod Choices
-pub mod Laws
-pub mod Examples

@@ -1,1 +1,0 @@
-# [ derive ( Clone , Copy ) ] pub enum Error { FontLength , FontHeader , FramebufferSize , TextEncoding , PositionOrLineHeight , BackgroundColorNotSupported , GlyphNotFound ( u32 ) , FontEnds ( u32 ) , }

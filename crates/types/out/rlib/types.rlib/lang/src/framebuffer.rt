@@ -1,1 +1,0 @@
-# [ derive ( Clone , Copy ) ] pub struct Framebuffer { pub width : usize , pub height : usize , }

@@ -1,1 +1,0 @@
-# [ derive ( Clone , Copy ) ] pub struct LookupSteps { pub records : u32 , pub entries : u32 , }
