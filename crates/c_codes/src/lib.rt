@@ -38,6 +38,7 @@ pub enum Codes {
     Unknown,
 }
 
+#[tactic(auto, unfolding(crate::specs::Codes::anchor_of))]
 fn known_anchor(code: u32) -> Anchor
     ensures { result ≡ anchor_of code }
 {
@@ -50,6 +51,7 @@ fn known_anchor(code: u32) -> Anchor
     }
 }
 
+#[tactic(auto, unfolding(crate::specs::Codes::alignment_of))]
 fn known_alignment(code: u32) -> Alignment
     ensures { result ≡ alignment_of code }
 {
@@ -61,6 +63,7 @@ fn known_alignment(code: u32) -> Alignment
     }
 }
 
+#[tactic(auto, unfolding(crate::specs::Codes::flag_of))]
 fn known_flag(code: u32) -> Flag
     ensures { result ≡ flag_of code }
 {
@@ -72,6 +75,7 @@ fn known_flag(code: u32) -> Flag
 }
 
 // A call hands 0 for a code that it does not have, and the length of what it stores its answer in.
+#[tactic(auto, unfolding(crate::specs::Codes::meaning_of))]
 pub fn known_codes(anchor_code: u32, align: u32, skip: u32, background: u32, room: usize) -> Codes
     ensures { result ≡ meaning_of anchor_code align skip background room }
 {
