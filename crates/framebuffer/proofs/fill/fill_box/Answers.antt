@@ -1,0 +1,12 @@
+-- `fill_box` meets its contract: no box is the blank picture. Assumes nothing.
+use Rattle.integers.proofs.Prelude.{sym, ap, ◌∙◌}
+use Rattle.definitions.specs.Vocabulary.{BoundingBox}
+use Rattle.definitions.specs.Framebuffer.{shown}
+use Rattle.framebuffer.specs.Areas.{fill_picture}
+use Rattle.definitions.proofs.FramebufferLaws.{shown_blank}
+use Rattle.framebuffer.proofs.fill.fill_box.Goals as goal
+
+pub returns-in-None : goal.returns-in-None
+returns-in-None c =
+    let a = c.args in
+    sym (ap (λ (b : BoundingBox). shown a.framebuffer.width (fill_picture a.color b) a.buffer.now) c.in-None.is ∙ shown_blank a.framebuffer.width a.buffer.now)
