@@ -6,5 +6,5 @@ use Rattle.font_file.specs.declared.FontFile.TheVariants.{Length, Unreadable, To
 -- A font that was read ends before the buffer of n bytes does.
 abbrev pub EndsWithin : ℕ → FontFile → Type 0
 EndsWithin n (Length k) = k < n
-EndsWithin n Unreadable = Unit {0}
+EndsWithin n (Unreadable e) = Unit {0}
 EndsWithin n TooLong = Unit {0}

@@ -4,13 +4,16 @@
 ghost use Rattle.std.specs.Prelude.{◌≡◌, length};
 ghost use Rattle.font_file.specs.Files.{EndsWithin};
 
+use std::io::{Error, Read};
+use std::rt::Files;
+
 // What comes of reading a font file into a buffer.
 #[derive(Drop)]
 pub enum FontFile {
     // the font's bytes begin the buffer, and there are so many of them
     Length(usize),
-    // it cannot be opened, or reading it fails
-    Unreadable,
+    // it cannot be opened, or reading it fails, and why
+    Unreadable(Error),
     // it fills the buffer, and may go on
     TooLong,
 }
@@ -23,16 +26,15 @@ pub fn buffer() -> [u8; 1_048_577]
 }
 
 // Reads to the end of the file, or until the buffer is full.
-fn read_to_end(fd: i32, font: &mut [u8]) -> FontFile
+fn read_to_end<F: Read>(file: &mut F, font: &mut [u8]) -> FontFile
     ensures { EndsWithin (length font.new) result }
 {
     let mut n: usize = 0;
     while n < font.len() {
-        let got = libc::read(fd, &mut font[n..]);
-        if got < 0 {
-            return FontFile::Unreadable;
-        }
-        let k = io::count(got, &font[n..]);
+        let k = match file.read(&mut font[n..]) {
+            Ok(k) => k,
+            Err(error) => return FontFile::Unreadable(error),
+        };
         if k == 0 {
             return FontFile::Length(n);
         }
@@ -42,14 +44,12 @@ fn read_to_end(fd: i32, font: &mut [u8]) -> FontFile
 }
 
 // Reads the file of that name into the buffer.
-pub fn read(path: &[u8], font: &mut [u8]) -> FontFile
+pub fn read<R: Files>(rt: &R, path: &[u8], font: &mut [u8]) -> FontFile
     ensures { EndsWithin (length font.new) result }
 {
-    let fd = os::open_read(path);
-    if fd < 0 {
-        return FontFile::Unreadable;
-    }
-    let answer = read_to_end(fd, &mut font[..]);
-    libc::close(fd);
-    answer
+    let mut file = match system::open_read(rt, path) {
+        Ok(file) => file,
+        Err(error) => return FontFile::Unreadable(error),
+    };
+    read_to_end(&mut file, &mut font[..])
 }
