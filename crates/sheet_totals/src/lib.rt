@@ -9,7 +9,7 @@ use sight::Sight;
 
 // How many readings are seen whole, in part and not at all on the framebuffer, how many were refused, and after how many of all
 // the screen differs.
-#[derive(Drop)]
+#[derive(Clone, Copy)]
 pub struct Totals {
     pub whole: usize,
     pub part: usize,
