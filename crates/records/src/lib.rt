@@ -35,6 +35,7 @@ fn jump_to_next(jump: u8) -> Record
 
 // A record with a code of one byte. Its jump counts before its code, as in
 // `u8g2_font.c` and not as in the Rust (amended by A3; SPECIFICATION, Lookup).
+#[tactic(auto, using(crate::proofs::Record8Laws::record8_ends, crate::proofs::Record8Laws::record8_found, crate::proofs::Record8Laws::record8_passed, definitions::proofs::LookupLaws::record8_cut))]
 fn read_record8(font: &[u8], at: usize, ch: u16) -> Record
     requires { 23 ≤ length font.now }
     ensures { as_record result ≡ record8 ch (drop at font.now) }
