@@ -6,9 +6,10 @@ ghost use Rattle.std.specs.Prelude.{◌≡◌, List, ℕ};
 ghost use Rattle.draw_options.specs.Words.{with_alignment, with_side, with_word, with_words, no_words};
 
 use buffers::is_same;
+use std::env::Env;
 use types::style::HorizontalAlignment;
 
-#[derive(Drop)]
+#[derive(Clone, Copy)]
 pub struct Options {
     pub pgm: bool,
     pub background: bool,
@@ -65,15 +66,15 @@ fn with_word(options: Options, word: &[u8]) -> Options
 }
 
 // No contract can say what an argument is: it is some word.
-fn with_argument(options: Options, i: usize) -> Options
+fn with_argument<R: Env>(rt: &R, options: Options, i: usize) -> Options
     ensures { (word : List ℕ) × (result ≡ with_word options word) }
 {
-    let mut word = io::buffer();
-    let n = os::arg(i, &mut word);
+    let mut word = [0u8; 4096];
+    let n = system::arg(rt, i, &mut word);
     with_word(options, &word[..n])
 }
 
-pub fn read() -> Options
+pub fn read<R: Env>(rt: &R) -> Options
     ensures { (words : List (List ℕ)) × (result ≡ with_words no_words words) }
 {
     let mut options = Options {
@@ -83,10 +84,10 @@ pub fn read() -> Options
         aligned: false,
         known: true,
     };
-    let n = os::arg_count();
+    let n = system::arg_count(rt);
     let mut i = 1;
     while i < n {
-        options = with_argument(options, i);
+        options = with_argument(rt, options, i);
         i += 1;
     }
     options
