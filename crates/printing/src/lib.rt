@@ -2,116 +2,118 @@
 #![tactic(auto)]
 
 use code_points::write_digits;
-use libc::STDOUT_FILENO;
 use types::error::Error;
 use types::geometry::{BoundingBox, Rectangle, RenderedDimensions};
 use utils::error::{error_code_point, error_number};
 use utils::number::magnitude;
 
-pub fn text(s: &[u8]) {
-    io::write_all(STDOUT_FILENO, s);
+pub fn text<R: Print>(rt: &R, s: &[u8]) {
+    let _ = rt.write_all(s);
 }
 
 // A number after a space.
-pub fn unsigned(n: u32) {
-    text(b" ");
-    io::print_decimal(STDOUT_FILENO, n as u64);
+pub fn unsigned<R: Print>(rt: &R, n: u32) {
+    text(rt, b" ");
+    let _ = rt.print(n as u64);
 }
 
-pub fn signed(n: i32) {
+pub fn signed<R: Print>(rt: &R, n: i32) {
     if n < 0 {
-        text(b" -");
+        text(rt, b" -");
     } else {
-        text(b" ");
+        text(rt, b" ");
     }
-    io::print_decimal(STDOUT_FILENO, magnitude(n) as u64);
+    let _ = rt.print(magnitude(n) as u64);
 }
 
-pub fn refusal(e: Error) {
-    text(b"no");
-    unsigned(error_number(e));
-    unsigned(error_code_point(e));
+pub fn refusal<R: Print>(rt: &R, e: Error) {
+    text(rt, b"no");
+    unsigned(rt, error_number(e));
+    unsigned(rt, error_code_point(e));
 }
 
-pub fn rectangle(r: Rectangle) {
-    signed(r.top_left.x);
-    signed(r.top_left.y);
-    unsigned(r.size.width);
-    unsigned(r.size.height);
+pub fn rectangle<R: Print>(rt: &R, r: Rectangle) {
+    signed(rt, r.top_left.x);
+    signed(rt, r.top_left.y);
+    unsigned(rt, r.size.width);
+    unsigned(rt, r.size.height);
 }
 
-fn box_or_none(b: BoundingBox) {
+fn box_or_none<R: Print>(rt: &R, b: BoundingBox) {
     match b {
-        BoundingBox::Some(r) => rectangle(r),
-        BoundingBox::None => text(b" none"),
+        BoundingBox::Some(r) => rectangle(rt, r),
+        BoundingBox::None => text(rt, b" none"),
     }
 }
 
 // The answer of measuring or drawing: `ok`, the advance, and the bounding box or `none`.
-pub fn dimensions(d: RenderedDimensions) {
-    text(b"ok");
-    signed(d.advance.x);
-    signed(d.advance.y);
+pub fn dimensions<R: Print>(rt: &R, d: RenderedDimensions) {
+    text(rt, b"ok");
+    signed(rt, d.advance.x);
+    signed(rt, d.advance.y);
     let b = d.bounding_box;
-    box_or_none(b);
+    box_or_none(rt, b);
 }
 
 // .. of an aligned call, which has no advance
-pub fn bounding_box(b: BoundingBox) {
-    text(b"ok");
-    box_or_none(b);
+pub fn bounding_box<R: Print>(rt: &R, b: BoundingBox) {
+    text(rt, b"ok");
+    box_or_none(rt, b);
 }
 
-fn code_point(c: u32) {
+fn code_point<R: Print>(rt: &R, c: u32) {
     let mut out = [0u8; 8];
     let start = write_digits(c, &mut out);
-    text(b"U+");
-    text(&out[start..]);
+    text(rt, b"U+");
+    text(rt, &out[start..]);
 }
 
 // A character: by itself, where a terminal shows it in one column, and by its code point: '5' (U+0035).
-fn character(c: u32) {
+fn character<R: Print>(rt: &R, c: u32) {
     if c < 33 {
-        code_point(c);
+        code_point(rt, c);
         return;
     }
     if 126 < c {
-        code_point(c);
+        code_point(rt, c);
         return;
     }
     let mut quoted = [b'\''; 3];
     quoted[1] = c as u8;
-    text(&quoted);
-    text(b" (");
-    code_point(c);
-    text(b")");
+    text(rt, &quoted);
+    text(rt, b" (");
+    code_point(rt, c);
+    text(rt, b")");
 }
 
 // A refusal's line: the number, the code point, and the cause in words.
-pub fn refusal_line(e: Error) {
-    refusal(e);
-    text(b": ");
-    cause(e);
-    text(b"\n");
+pub fn refusal_line<R: Print>(rt: &R, e: Error) {
+    refusal(rt, e);
+    text(rt, b": ");
+    cause(rt, e);
+    text(rt, b"\n");
 }
 
 // Why a call is refused, in words.
-pub fn cause(e: Error) {
+pub fn cause<R: Print>(rt: &R, e: Error) {
     match e {
-        Error::FontLength => text(b"the font has fewer than 23 or more than 1,048,576 bytes"),
-        Error::FontHeader => text(b"the font's header is damaged"),
-        Error::FramebufferSize => text(b"the framebuffer is not 1 to 256 pixels wide and high"),
-        Error::TextEncoding => text(b"the text has more than 4,096 bytes or is not UTF-8"),
-        Error::PositionOrLineHeight => text(b"the place or the line height is off limits"),
-        Error::BackgroundColorNotSupported => text(b"the font allows no background colour"),
+        Error::FontLength => text(
+            rt,
+            b"the font has fewer than 23 or more than 1,048,576 bytes",
+        ),
+        Error::FontHeader => text(rt, b"the font's header is damaged"),
+        Error::FramebufferSize => text(rt, b"the framebuffer is not 1 to 256 pixels wide and high"),
+        Error::TextEncoding => text(rt, b"the text has more than 4,096 bytes or is not UTF-8"),
+        Error::PositionOrLineHeight => text(rt, b"the place or the line height is off limits"),
+        Error::BackgroundColorNotSupported => text(rt, b"the font allows no background colour"),
         Error::GlyphNotFound(c) => {
-            text(b"the font has no glyph for ");
-            character(c);
+            text(rt, b"the font has no glyph for ");
+            character(rt, c);
         }
         Error::FontEnds(c) => {
-            text(b"the font ends before the glyph for ");
-            character(c);
-            text(b" does");
+            text(rt, b"the font ends before the glyph for ");
+            character(rt, c);
+            text(rt, b" does");
         }
     }
 }
