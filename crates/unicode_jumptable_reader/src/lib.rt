@@ -16,6 +16,7 @@ pub enum JumpOffset {
 
 // An entry is a distance and an upper limit. The sum may pass the font's end, and 32 bits, long before
 // the table answers: the move happens afterwards (SPECIFICATION, Lookup).
+#[tactic(auto, using(crate::proofs::TableLaws::table_end, crate::proofs::TableLaws::table_found, crate::proofs::TableLaws::table_next))]
 pub fn calculate_jump_offset(font: &[u8], start: usize, encoding: u16) -> JumpOffset
     requires { (length font.now ≤ 1048576) × (start ≤ length font.now) }
     ensures { distance result ≡ jump_table encoding 0 0 (drop start font.now) }
