@@ -51,23 +51,23 @@ fn write_marks(pixels: &[u8], out: &mut [u8]) -> usize
     i
 }
 
-fn print_row(row: &[u8])
+fn print_row<R: Print>(rt: &R, row: &[u8])
     requires { length row.now ≤ 256 }
 {
     let mut line = [0u8; 256];
     let n = write_marks(row, &mut line);
-    printing::text(&line[..n]);
-    printing::text(b"\n");
+    printing::text(rt, &line[..n]);
+    printing::text(rt, b"\n");
 }
 
-pub fn print_rows(pixels: &[u8], width: usize, height: usize)
+pub fn print_rows<R: Print>(rt: &R, pixels: &[u8], width: usize, height: usize)
     requires { IsPicture width height (length pixels.now) }
 {
     let mut y: usize = 0;
     while y < height {
         let start = y * width;
         let end = start + width;
-        print_row(&pixels[start..end]);
+        print_row(rt, &pixels[start..end]);
         y += 1;
     }
 }
