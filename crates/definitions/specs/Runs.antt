@@ -33,12 +33,12 @@ pair n zeros ones rest =
 
 -- As long as n pixels are missing a bit is read: a one stands for the same pair, after a zero comes another.
 unfoldable pub after_pair : ℕ → ℕ → ℕ → ℕ → ℕ → ℕ → List ℕ → Pixels
-after_pair m0 m1 n zeros ones skip [] = cut
-after_pair m0 m1 n zeros ones (suc skip) (b ∷ s) = after_pair m0 m1 n zeros ones skip s
-after_pair m0 m1 n zeros ones zero (b ∷ s) =
+after_pair m0 m1 n blanks ones skip [] = cut
+after_pair m0 m1 n blanks ones (suc skip) (b ∷ s) = after_pair m0 m1 n blanks ones skip s
+after_pair m0 m1 n blanks ones zero (b ∷ s) =
     unless_cut (read 1 (b ∷ s)) (λ repeat.
     pick (eqb repeat 1)
-    (pair n zeros ones (λ n. after_pair m0 m1 n zeros ones 0 s))
+    (pair n blanks ones (λ n. after_pair m0 m1 n blanks ones 0 s))
     (read_pair m0 m1 s (λ zeros ones. pair n zeros ones (λ n. after_pair m0 m1 n zeros ones (m0 + m1) s))))
 
 -- n pixels from the first pair on, m0 and m1 being the widths of the runs.
