@@ -14,7 +14,7 @@ use window::bytes_at;
 
 // A zero run and a one run, and the bit of the font after their numbers. One bit must be left after each read, so the font has
 // the pair if it has that bit: one test for a pair. What is read past the font's end is zeros.
-#[derive(Drop)]
+#[derive(Clone, Copy)]
 pub struct Runs {
     pub zeros: usize,
     pub ones: usize,
@@ -104,7 +104,7 @@ pub fn check_runs(font: &[u8], head: FontReader, glyph: GlyphReader) -> bool
 }
 
 // A place among a glyph's pixels: so many pixels into a pair.
-#[derive(Drop)]
+#[derive(Clone, Copy)]
 pub struct Place {
     pub runs: Runs,
     pub offset: usize,

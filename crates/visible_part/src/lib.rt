@@ -11,14 +11,14 @@ use types::geometry::Point;
 use types::glyph_reader::GlyphReader;
 
 // Columns or rows of a glyph, from `first` to before `past`.
-#[derive(Drop)]
+#[derive(Clone, Copy)]
 pub struct Visible {
     pub first: usize,
     pub past: usize,
 }
 
 // The part of a glyph that lies on the framebuffer, and the column and row of the framebuffer where it begins.
-#[derive(Drop)]
+#[derive(Clone, Copy)]
 pub struct VisiblePart {
     pub columns: Visible,
     pub rows: Visible,

@@ -1,0 +1,13 @@
+-- No pixels need no runs, and others are those of `has_pixels`. Assumes nothing.
+use Rattle.integers.proofs.Prelude.{sym, ap, ◌∙◌}
+use Rattle.runs.specs.RunReads.{is_whole}
+use Rattle.runs.proofs.RunReadsLaws.{no_pixels, some_pixels}
+use Rattle.runs.proofs.check_runs.Goals as goal
+
+pub returns-then-pixels-eq0 : goal.returns-then-pixels-eq0
+returns-then-pixels-eq0 c = let a = c.args in sym (ap is_whole (no_pixels a.font.now a.head a.glyph c.if-pixels-eq0.true))
+
+pub returns : goal.returns
+returns c =
+    let a = c.args in
+    c.has_pixels.ensures ∙ sym (ap is_whole (some_pixels a.font.now a.head a.glyph c.if-pixels-eq0.false))

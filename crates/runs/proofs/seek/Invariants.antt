@@ -1,0 +1,10 @@
+-- `seek`: where the first pair leads to a glyph's pixel, the pair and the offset do. Each round reads at least one bit.
+use Rattle.integers.proofs.Prelude.{◌-◌, ◌*◌, length}
+use Rattle.runs.proofs.StandsLaws.{Leads}
+use Rattle.runs.proofs.seek.Given as goal
+
+abbrev pub invariant-loop-offset : goal.invariant-loop-offset
+invariant-loop-offset l = Leads l.font l.head.m0 l.head.m1 l.pixel l.initial.runs l.initial.offset l.runs l.offset
+
+abbrev pub decreases-loop-offset : goal.decreases-loop-offset
+decreases-loop-offset l = 8 * length l.font - l.runs.bit_pos
