@@ -30,21 +30,21 @@ fn next_column(column: usize, width: usize) -> usize
     column + 1
 }
 
-fn print_row_start(column: usize) {
+fn print_row_start<R: Print>(rt: &R, column: usize) {
     if column == 0 {
-        printing::text(b"\n ");
+        printing::text(rt, b"\n ");
     }
 }
 
 // The bytes, a line for each row.
-fn print_rows(framebuffer: &[u8], width: usize)
+fn print_rows<R: Print>(rt: &R, framebuffer: &[u8], width: usize)
     requires { length framebuffer.now ≤ 400 }
 {
     let mut i = 0;
     let mut column = 0;
     while i < framebuffer.len() {
-        print_row_start(column);
-        printing::unsigned(wide(framebuffer[i]));
+        print_row_start(rt, column);
+        printing::unsigned(rt, wide(framebuffer[i]));
         column = next_column(column, width);
         i += 1;
     }
@@ -77,11 +77,11 @@ fn checksum(framebuffer: &[u8]) -> u32 {
     sum
 }
 
-fn print_summary(framebuffer: &[u8], fill: u8) {
-    printing::text(b"\n  changed");
-    printing::unsigned(changed(framebuffer, fill));
-    printing::text(b" sum");
-    printing::unsigned(checksum(framebuffer));
+fn print_summary<R: Print>(rt: &R, framebuffer: &[u8], fill: u8) {
+    printing::text(rt, b"\n  changed");
+    printing::unsigned(rt, changed(framebuffer, fill));
+    printing::text(rt, b" sum");
+    printing::unsigned(rt, checksum(framebuffer));
 }
 
 fn area(width: usize, height: usize) -> usize
@@ -91,22 +91,22 @@ fn area(width: usize, height: usize) -> usize
 }
 
 // Small framebuffers in full, larger ones and buffers of the wrong length by what changed and a checksum.
-pub fn print(framebuffer: &[u8], fill: u8, width: usize, height: usize) {
+pub fn print<R: Print>(rt: &R, framebuffer: &[u8], fill: u8, width: usize, height: usize) {
     if 400 < framebuffer.len() {
-        print_summary(framebuffer, fill);
+        print_summary(rt, framebuffer, fill);
         return;
     }
     if 256 < width {
-        print_summary(framebuffer, fill);
+        print_summary(rt, framebuffer, fill);
         return;
     }
     if 256 < height {
-        print_summary(framebuffer, fill);
+        print_summary(rt, framebuffer, fill);
         return;
     }
     if framebuffer.len() == area(width, height) {
-        print_rows(framebuffer, width);
+        print_rows(rt, framebuffer, width);
         return;
     }
-    print_summary(framebuffer, fill);
+    print_summary(rt, framebuffer, fill);
 }
