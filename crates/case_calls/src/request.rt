@@ -56,70 +56,70 @@ fn font_color(code: u32, fg: u8, bg: u8) -> FontColor {
     FontColor::WithBackground { fg, bg }
 }
 
-fn answer_open(font: &[u8]) {
+fn answer_open<R: Print>(rt: &R, font: &[u8]) {
     match new_from_raw_data(font) {
         FontReaderResult::Ok(head) => {
-            printing::text(b"ok");
-            header::print(head);
+            printing::text(rt, b"ok");
+            header::print(rt, head);
         }
-        FontReaderResult::Err(e) => printing::refusal(e),
+        FontReaderResult::Err(e) => printing::refusal(rt, e),
     }
 }
 
-fn answer_font_box(font: &[u8], anchor: VerticalPosition) {
+fn answer_font_box<R: Print>(rt: &R, font: &[u8], anchor: VerticalPosition) {
     match get_font_bounding_box(font, anchor) {
         RectangleResult::Ok(r) => {
-            printing::text(b"ok");
-            printing::rectangle(r);
+            printing::text(rt, b"ok");
+            printing::rectangle(rt, r);
         }
-        RectangleResult::Err(e) => printing::refusal(e),
+        RectangleResult::Err(e) => printing::refusal(rt, e),
     }
 }
 
-fn print_box(bounding_box: BoundingBox) {
+fn print_box<R: Print>(rt: &R, bounding_box: BoundingBox) {
     match bounding_box {
-        BoundingBox::Some(r) => printing::rectangle(r),
-        BoundingBox::None => printing::text(b" none"),
+        BoundingBox::Some(r) => printing::rectangle(rt, r),
+        BoundingBox::None => printing::text(rt, b" none"),
     }
 }
 
-fn print_sums(kind: u32, sums: LookupSteps) {
+fn print_sums<R: Print>(rt: &R, kind: u32, sums: LookupSteps) {
     if kind < SUMS {
         return;
     }
-    printing::text(b" records");
-    printing::unsigned(sums.records);
-    printing::text(b" entries");
-    printing::unsigned(sums.entries);
+    printing::text(rt, b" records");
+    printing::unsigned(rt, sums.records);
+    printing::text(rt, b" entries");
+    printing::unsigned(rt, sums.entries);
 }
 
-fn print_dimensions(kind: u32, report: DimensionsReport) {
+fn print_dimensions<R: Print>(rt: &R, kind: u32, report: DimensionsReport) {
     let result = report.result;
     match result {
         DimensionsResult::Ok(d) => {
-            printing::text(b"ok");
-            printing::signed(d.advance.x);
-            printing::signed(d.advance.y);
+            printing::text(rt, b"ok");
+            printing::signed(rt, d.advance.x);
+            printing::signed(rt, d.advance.y);
             let bounding_box = d.bounding_box;
-            print_box(bounding_box);
+            print_box(rt, bounding_box);
         }
-        DimensionsResult::Err(e) => printing::refusal(e),
+        DimensionsResult::Err(e) => printing::refusal(rt, e),
     }
     let sums = report.steps;
-    print_sums(kind, sums);
+    print_sums(rt, kind, sums);
 }
 
-fn print_aligned(kind: u32, report: BoundingBoxReport) {
+fn print_aligned<R: Print>(rt: &R, kind: u32, report: BoundingBoxReport) {
     let result = report.result;
     match result {
         BoundingBoxResult::Ok(b) => {
-            printing::text(b"ok");
-            print_box(b);
+            printing::text(rt, b"ok");
+            print_box(rt, b);
         }
-        BoundingBoxResult::Err(e) => printing::refusal(e),
+        BoundingBoxResult::Err(e) => printing::refusal(rt, e),
     }
     let sums = report.steps;
-    print_sums(kind, sums);
+    print_sums(rt, kind, sums);
 }
 
 // A small number of the case.
@@ -155,7 +155,8 @@ fn redraw_texts(
 }
 
 // Draws the text, plain or aligned, or makes the step of two texts; prints the answer.
-fn draw_or_redraw(
+fn draw_or_redraw<R: Print>(
+    rt: &R,
     file: &[u8],
     at: usize,
     font: &[u8],
@@ -174,14 +175,17 @@ fn draw_or_redraw(
     };
     match kind % SUMS {
         4 => print_dimensions(
+            rt,
             kind,
             render(font, text, placement, style, framebuffer, buffer),
         ),
         6 => print_aligned(
+            rt,
             kind,
             render_aligned(font, text, placement, style, align, framebuffer, buffer),
         ),
         _ => print_dimensions(
+            rt,
             kind,
             redraw_texts(
                 file,
@@ -199,7 +203,8 @@ fn draw_or_redraw(
 }
 
 // Draws on a framebuffer with the contents that the case asks for, and prints the answer and the framebuffer.
-fn answer_draw(
+fn answer_draw<R: Print>(
+    rt: &R,
     file: &[u8],
     at: usize,
     font: &[u8],
@@ -221,12 +226,13 @@ fn answer_draw(
     let height = number(file, at + 44) as usize;
     let fill = byte(file, at + 48);
     framebuffers::fill(&mut buffer[..], fill);
-    draw_or_redraw(file, at, font, text, placement, style, &mut buffer[..]);
-    framebuffers::print(&buffer[..], fill, width, height);
+    draw_or_redraw(rt, file, at, font, text, placement, style, &mut buffer[..]);
+    framebuffers::print(rt, &buffer[..], fill, width, height);
 }
 
 // The framebuffer of the case's length.
-fn answer_draw_on_part(
+fn answer_draw_on_part<R: Print>(
+    rt: &R,
     file: &[u8],
     at: usize,
     font: &[u8],
@@ -238,14 +244,14 @@ fn answer_draw_on_part(
 {
     let length = number(file, at + 52) as usize;
     if buffer.len() < length {
-        printing::text(b"no room for the framebuffer");
+        printing::text(rt, b"no room for the framebuffer");
         return;
     }
-    answer_draw(file, at, font, text, placement, &mut buffer[..length]);
+    answer_draw(rt, file, at, font, text, placement, &mut buffer[..length]);
 }
 
 // Makes the call whose numbers stand at `at` and prints its answer.
-pub fn answer(file: &[u8], at: usize, font: &[u8], text: &[u8], buffer: &mut [u8])
+pub fn answer<R: Print>(rt: &R, file: &[u8], at: usize, font: &[u8], text: &[u8], buffer: &mut [u8])
     requires { at ≤ 1048576 }
 {
     let kind = number(file, at);
@@ -260,13 +266,18 @@ pub fn answer(file: &[u8], at: usize, font: &[u8], text: &[u8], buffer: &mut [u8
         ignore_unknown_chars: number(file, at + 24) == 1,
     };
     match kind % SUMS {
-        0 => answer_open(font),
-        1 => answer_font_box(font, anchor),
-        2 => print_dimensions(kind, get_rendered_dimensions(font, text, placement, anchor)),
+        0 => answer_open(rt, font),
+        1 => answer_font_box(rt, font, anchor),
+        2 => print_dimensions(
+            rt,
+            kind,
+            get_rendered_dimensions(font, text, placement, anchor),
+        ),
         3 => print_aligned(
+            rt,
             kind,
             get_rendered_dimensions_aligned(font, text, placement, anchor, align),
         ),
-        _ => answer_draw_on_part(file, at, font, text, placement, buffer),
+        _ => answer_draw_on_part(rt, file, at, font, text, placement, buffer),
     }
 }

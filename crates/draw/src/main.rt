@@ -5,9 +5,8 @@
 
 use draw_options::read;
 use draw_program::program::start;
-use libc::STDIN_FILENO;
 
-fn main() {
-    let options = read();
-    start(options, STDIN_FILENO);
+fn main(rt: HostRuntime) {
+    let options = read(&rt);
+    start(&rt, options, &mut rt.reader());
 }

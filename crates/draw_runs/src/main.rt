@@ -5,32 +5,29 @@
 
 use draw_options::Options;
 use draw_program::program::start;
-use libc::STDOUT_FILENO;
+use std::rt::Files;
 use types::style::HorizontalAlignment;
 
-fn run(heading: &[u8], path: &[u8], options: Options) {
-    printing::text(heading);
-    let input = os::open_read(path);
-    if input < 0 {
-        os::fail(path);
-        return;
+fn run<R: Files + Print + Eprint + Alloc>(rt: &R, heading: &[u8], path: &[u8], options: Options) {
+    printing::text(rt, heading);
+    match system::open_read(rt, path) {
+        Ok(mut input) => start(rt, options, &mut input),
+        Err(error) => system::fail(rt, path, error),
     }
-    start(options, input);
-    libc::close(input);
 }
 
-fn print_image() {
+fn print_image<R: Files + Print + Eprint + Alloc>(rt: &R) {
     let path = b"draw.pgm";
-    let mut image = io::large_buffer();
-    let file = os::open_read(path);
-    if file < 0 {
-        os::fail(path);
-        return;
-    }
-    let n = io::read_full(file, &mut image);
-    libc::close(file);
-    io::write_all(STDOUT_FILENO, &image[..n]);
-    printing::text(b"\n");
+    let mut image = [0u8; 65536];
+    let n = match system::open_read(rt, path) {
+        Ok(mut file) => system::read_full(&mut file, &mut image),
+        Err(error) => {
+            system::fail(rt, path, error);
+            return;
+        }
+    };
+    printing::text(rt, &image[..n]);
+    printing::text(rt, b"\n");
 }
 
 fn plain(pgm: bool, known: bool) -> Options {
@@ -53,22 +50,23 @@ fn aligned(align: HorizontalAlignment, background: bool) -> Options {
     }
 }
 
-fn run_aligned() {
+fn run_aligned<R: Files + Print + Eprint + Alloc>(rt: &R) {
     let left = aligned(HorizontalAlignment::Left, false);
-    run(b"left\n", b"lines.txt", left);
+    run(rt, b"left\n", b"lines.txt", left);
     let center = aligned(HorizontalAlignment::Center, false);
-    run(b"center\n", b"lines.txt", center);
+    run(rt, b"center\n", b"lines.txt", center);
     let right = aligned(HorizontalAlignment::Right, true);
-    run(b"right, background\n", b"lines.txt", right);
-    run(b"center, no pixel\n", b"blank.txt", center);
-    run(b"right, refused\n", b"unknown.txt", right);
-    run(b"left, padded with U+0000\n", b"padded.txt", left);
+    run(rt, b"right, background\n", b"lines.txt", right);
+    run(rt, b"center, no pixel\n", b"blank.txt", center);
+    run(rt, b"right, refused\n", b"unknown.txt", right);
+    run(rt, b"left, padded with U+0000\n", b"padded.txt", left);
 }
 
-fn main() {
-    run(b"background\n", b"text.txt", plain(false, true));
-    run(b"background, pgm\n", b"text.txt", plain(true, true));
-    print_image();
-    run_aligned();
-    run(b"a wrong word\n", b"text.txt", plain(false, false));
+fn main(rt: HostRuntime) {
+    let rt = &rt;
+    run(rt, b"background\n", b"text.txt", plain(false, true));
+    run(rt, b"background, pgm\n", b"text.txt", plain(true, true));
+    print_image(rt);
+    run_aligned(rt);
+    run(rt, b"a wrong word\n", b"text.txt", plain(false, false));
 }

@@ -3,9 +3,8 @@
 // measures. What the line says is proved in `measure_program` and `measure_line`.
 #![tactic(auto)]
 
-use libc::STDIN_FILENO;
 use measure_program::measure_file;
 
-fn main() {
-    measure_file(b"font.bin", STDIN_FILENO);
+fn main(rt: HostRuntime) {
+    measure_file(&rt, b"font.bin", &mut rt.reader());
 }

@@ -3,21 +3,20 @@
 #![tactic(auto)]
 
 use measure_program::measure_file;
+use std::rt::Files;
 
 // Measures the text of one file in the font of another.
-fn measure(font: &[u8], text: &[u8]) {
-    let input = os::open_read(text);
-    if input < 0 {
-        os::fail(text);
-        return;
+fn measure<R: Files + Print + Eprint + Alloc>(rt: &R, font: &[u8], text: &[u8]) {
+    match system::open_read(rt, text) {
+        Ok(mut input) => measure_file(rt, font, &mut input),
+        Err(error) => system::fail(rt, text, error),
     }
-    measure_file(font, input);
-    libc::close(input);
 }
 
-fn main() {
-    measure(b"longest.bin", b"longest.txt");
-    measure(b"too_long.bin", b"longest.txt");
-    measure(b"longest.bin", b"too_long.txt");
-    measure(b"missing.bin", b"longest.txt");
+fn main(rt: HostRuntime) {
+    let rt = &rt;
+    measure(rt, b"longest.bin", b"longest.txt");
+    measure(rt, b"too_long.bin", b"longest.txt");
+    measure(rt, b"longest.bin", b"too_long.txt");
+    measure(rt, b"missing.bin", b"longest.txt");
 }

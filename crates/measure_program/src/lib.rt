@@ -9,8 +9,9 @@ ghost use Rattle.numbers.specs.Written.{Written};
 ghost use Rattle.measure_program.specs.Filled.{Filled};
 
 use answer_line::LINE_ROOM;
-use libc::STDOUT_FILENO;
 use measure_line::measure_line;
+use std::io::Read;
+use std::rt::Files;
 
 // Room for a byte more than is allowed, so that what is too long is seen.
 const FONT_ROOM: usize = 65_537;
@@ -19,16 +20,13 @@ const TEXT_ROOM: usize = 4_097;
 
 // Reads the font and answers how many bytes of it there are. A file that is missing or cannot be read
 // is an empty font.
-fn read_font(path: &[u8], font: &mut [u8; FONT_ROOM]) -> usize
+fn read_font<R: Files>(rt: &R, path: &[u8], font: &mut [u8; FONT_ROOM]) -> usize
     ensures { IsPrefixLen result font.new }
 {
-    let file = os::open_read(path);
-    if file < 0 {
-        return 0;
+    match system::open_read(rt, path) {
+        Ok(mut file) => system::read_full(&mut file, font),
+        Err(_) => 0,
     }
-    let n = io::read_full(file, font);
-    libc::close(file);
-    n
 }
 
 // Writes the line of a font file and an input, each of any length, to the start of `out` and answers the
@@ -51,12 +49,12 @@ fn measure_buffers(
 }
 
 // Measures the text that comes from `input` in the font of that path.
-pub fn measure_file(path: &[u8], input: i32) {
+pub fn measure_file<R: Files + Print, I: Read>(rt: &R, path: &[u8], input: &mut I) {
     let mut font = [0u8; FONT_ROOM];
-    let n = read_font(path, &mut font);
+    let n = read_font(rt, path, &mut font);
     let mut text = [0u8; TEXT_ROOM];
-    let k = io::read_full(input, &mut text);
+    let k = system::read_full(input, &mut text);
     let mut line = [0u8; LINE_ROOM];
     let end = measure_buffers(&font, n, &text, k, &mut line);
-    io::write_all(STDOUT_FILENO, &line[..end]);
+    let _ = rt.write_all(&line[..end]);
 }

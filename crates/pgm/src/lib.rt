@@ -5,6 +5,8 @@ ghost use Rattle.numbers.specs.Written.{LineWritten};
 ghost use Rattle.pgm.specs.Images.{pgm_head};
 
 use numbers::writer::{append, append_unsigned};
+use std::io::Write;
+use std::rt::Files;
 use types::geometry::Size;
 
 // The longest head: `P5`, two numbers of ten digits, each after a space, and `255` between newlines.
@@ -21,17 +23,18 @@ fn write_head(size: Size, out: &mut [u8; HEAD_ROOM]) -> usize
 }
 
 // Writes the image to the file of that name, or says why not.
-pub fn write_image(path: &[u8], size: Size, pixels: &[u8]) {
-    let file = os::open_overwrite(path);
-    if file < 0 {
-        os::fail(path);
-        return;
-    }
+pub fn write_image<R: Files + Eprint + Alloc>(rt: &R, path: &[u8], size: Size, pixels: &[u8]) {
+    let mut file = match system::open_overwrite(rt, path) {
+        Ok(file) => file,
+        Err(error) => {
+            system::fail(rt, path, error);
+            return;
+        }
+    };
     let mut head = [0u8; HEAD_ROOM];
     let n = write_head(size, &mut head);
-    io::write_all(file, &head[..n]);
-    if !io::write_all(file, pixels) {
-        os::fail(path);
+    let _ = file.write_all(&head[..n]);
+    if let Err(error) = file.write_all(pixels) {
+        system::fail(rt, path, error);
     }
-    libc::close(file);
 }

@@ -8,7 +8,8 @@ use case_calls::request;
 use cases::case_file::{number, unpack};
 
 // One case: prints it and answers where the next one begins.
-fn replay(
+fn replay<R: Print>(
+    rt: &R,
     file: &[u8],
     at: usize,
     label: &mut [u8],
@@ -33,20 +34,22 @@ fn replay(
     let label_len = l.len;
     let font_len = f.len;
     let text_len = t.len;
-    printing::text(&label[..label_len]);
-    printing::text(b": ");
+    printing::text(rt, &label[..label_len]);
+    printing::text(rt, b": ");
     request::answer(
+        rt,
         file,
         t.next,
         &font[..font_len],
         &text[..text_len],
         framebuffer,
     );
-    printing::text(b"\n");
+    printing::text(rt, b"\n");
     t.next + request::SIZE
 }
 
-fn replay_all(
+fn replay_all<R: Print>(
+    rt: &R,
     file: &[u8],
     label: &mut [u8],
     font: &mut [u8],
@@ -57,30 +60,31 @@ fn replay_all(
     let mut at = 4;
     let mut i = 0;
     while i < count {
-        at = replay(file, at, label, font, text, framebuffer);
+        at = replay(rt, file, at, label, font, text, framebuffer);
         if 1048576 < at {
-            printing::text(b"the file of cases ends too early\n");
+            printing::text(rt, b"the file of cases ends too early\n");
             return;
         }
         i += 1;
     }
 }
 
-fn main() {
+fn main(rt: HostRuntime) {
     let mut file = font_file::buffer();
     let mut font = font_file::buffer();
     let mut text = [0u8; 4200];
     let mut label = [0u8; 128];
     let mut framebuffer = [0u8; 65600];
     let path = b"cases.bin";
-    let fd = os::open_read(path);
-    if fd < 0 {
-        os::fail(path);
-        return;
-    }
-    let n = io::read_full(fd, &mut file);
-    libc::close(fd);
+    let n = match system::open_read(&rt, path) {
+        Ok(mut cases) => system::read_full(&mut cases, &mut file),
+        Err(error) => {
+            system::fail(&rt, path, error);
+            return;
+        }
+    };
     replay_all(
+        &rt,
         &file[..n],
         &mut label,
         &mut font,

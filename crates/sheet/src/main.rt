@@ -6,14 +6,15 @@
 use sheet_options::options::read;
 use sheet_program::program::start;
 
-fn main() {
-    let asked = read();
+fn main(rt: HostRuntime) {
+    let asked = read(&rt);
     if !asked.right {
         printing::text(
+            &rt,
             b"sheet: the arguments are an anchor (baseline, top, center, bottom), align (left, center, right), at X Y (from -1048576 to 1048576) and narrow\n",
         );
         return;
     }
     let options = asked.options;
-    start(b"font.bin", options);
+    start(&rt, b"font.bin", options);
 }

@@ -4,6 +4,7 @@ use crate::number::read_coordinate;
 use crate::values::{Asked, Next, Number};
 use buffers::is_same;
 use sheet_extent::values::{Options, Wanted};
+use std::env::Env;
 use types::geometry::Point;
 use types::style::{HorizontalAlignment, VerticalPosition};
 
@@ -142,9 +143,9 @@ fn with_next(asked: Asked, word: &[u8]) -> Asked {
     }
 }
 
-fn with_argument(asked: Asked, i: usize) -> Asked {
-    let mut word = io::buffer();
-    let n = os::arg(i, &mut word);
+fn with_argument<R: Env>(rt: &R, asked: Asked, i: usize) -> Asked {
+    let mut word = [0u8; 4096];
+    let n = system::arg(rt, i, &mut word);
     with_next(asked, &word[..n])
 }
 
@@ -161,7 +162,7 @@ fn ended(asked: Asked) -> Asked {
 }
 
 // The program's arguments.
-pub fn read() -> Asked {
+pub fn read<R: Env>(rt: &R) -> Asked {
     let mut asked = Asked {
         options: Options {
             vertical_pos: VerticalPosition::Baseline,
@@ -172,10 +173,10 @@ pub fn read() -> Asked {
         next: Next::Any,
         right: true,
     };
-    let n = os::arg_count();
+    let n = system::arg_count(rt);
     let mut i: usize = 1;
     while i < n {
-        asked = with_argument(asked, i);
+        asked = with_argument(rt, asked, i);
         i += 1;
     }
     ended(asked)

@@ -13,11 +13,13 @@ use sheet_extent::place::place_for;
 use sheet_extent::values::Options;
 use sheet_ground::ground::lay_ground;
 use sheet_report::{print_totals, print_verdict};
+use std::rt::Files;
 use types::error::Error;
 use types::place::Place;
 
 // Makes the sheet on framebuffers of the place's size. It is made whether or not its pictures can be written.
-fn fill_sheet(
+fn fill_sheet<R: Files + Print>(
+    rt: &R,
     font: &[u8],
     place: Place,
     narrow: bool,
@@ -31,19 +33,19 @@ fn fill_sheet(
     lay_ground(font, place, &mut ground[..]);
     copy(&ground[..], &mut screen[..]);
     let framebuffer = place.framebuffer;
-    let cells = os::open_overwrite(b"sheet.cells");
-    let begun = write_head(cells, framebuffer);
+    let mut cells = system::open_overwrite(rt, b"sheet.cells").ok();
+    let begun = write_head(&mut cells, framebuffer);
     let trial = Trial { place, narrow };
-    let sheet = run(font, trial, &ground[..], screen, alone, cells);
-    let closed = libc::close(cells);
+    let sheet = run(rt, font, trial, &ground[..], screen, alone, &mut cells);
     let totals = sheet.totals;
-    let written = begun & sheet.written & (closed == 0);
+    let written = begun & sheet.written;
     Sheet { totals, written }
 }
 
 // The same on buffers for the largest framebuffers, of 256 × 256 pixels. Whatever the font, the anchor, the alignment and the place,
 // every reading is counted once and, without the fault, none differs and a refused one leaves the field empty.
-pub fn make_sheet(
+pub fn make_sheet<R: Files + Print>(
+    rt: &R,
     font: &[u8],
     options: Options,
     ground: &mut [u8],
@@ -57,6 +59,7 @@ pub fn make_sheet(
     let framebuffer = place.framebuffer;
     let cell = framebuffer.width * framebuffer.height;
     fill_sheet(
+        rt,
         font,
         place,
         options.narrow,
@@ -67,22 +70,22 @@ pub fn make_sheet(
 }
 
 // Makes the sheet of a font, and prints its totals and the verdict.
-fn show_sheet(font: &[u8], options: Options) {
+fn show_sheet<R: Files + Print>(rt: &R, font: &[u8], options: Options) {
     let mut ground = [0u8; 65536];
     let mut screen = [0u8; 65536];
     let mut alone = [0u8; 65536];
-    let sheet = make_sheet(font, options, &mut ground, &mut screen, &mut alone);
+    let sheet = make_sheet(rt, font, options, &mut ground, &mut screen, &mut alone);
     let totals = sheet.totals;
-    print_totals(totals);
-    print_verdict(totals, sheet.written);
+    print_totals(rt, totals);
+    print_verdict(rt, totals, sheet.written);
 }
 
 // The program, for the font in that file.
-pub fn start(path: &[u8], options: Options) {
+pub fn start<R: Files + Print + Eprint + Alloc>(rt: &R, path: &[u8], options: Options) {
     let mut font = font_file::buffer();
-    match font_file::read(path, &mut font) {
-        FontFile::Unreadable => os::fail(path),
-        FontFile::TooLong => printing::refusal_line(Error::FontLength),
-        FontFile::Length(n) => show_sheet(&font[..n], options),
+    match font_file::read(rt, path, &mut font) {
+        FontFile::Unreadable(error) => system::fail(rt, path, error),
+        FontFile::TooLong => printing::refusal_line(rt, Error::FontLength),
+        FontFile::Length(n) => show_sheet(rt, &font[..n], options),
     }
 }

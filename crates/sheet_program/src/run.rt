@@ -9,16 +9,18 @@ use sheet_ground::texts::COUNT;
 use sheet_report::{Refusals, print_difference, print_refusals, with_answer};
 use sheet_totals::{counted, no_totals};
 use sight::sight_of;
+use std::io::Write;
 
 // Draws all readings, one over the other, reports those that are refused or leave a difference, and writes the pictures. On a
 // ground that is background wherever a reading can stand, none differs.
-pub fn run(
+pub fn run<R: Print, W: Write>(
+    rt: &R,
     font: &[u8],
     trial: Trial,
     ground: &[u8],
     screen: &mut [u8],
     alone: &mut [u8],
-    cells: i32,
+    cells: &mut Option<W>,
 ) -> Sheet
     requires { Begins trial.place.framebuffer ground.now screen.old alone.old }
     ensures { Runs trial.narrow font.now trial.place ground.now screen.new result }
@@ -35,12 +37,12 @@ pub fn run(
         let answer = found.answer;
         let sight = sight_of(answer, framebuffer);
         totals = counted(totals, sight, found.differing);
-        refusals = with_answer(refusals, k, answer);
-        print_difference(k, found.differing);
-        written = write_cell(cells, sight, found.differing, &screen[..]) & written;
+        refusals = with_answer(rt, refusals, k, answer);
+        print_difference(rt, k, found.differing);
+        written = write_cell(&mut *cells, sight, found.differing, &screen[..]) & written;
         old = found.old;
         k += 1;
     }
-    print_refusals(refusals);
+    print_refusals(rt, refusals);
     Sheet { totals, written }
 }

@@ -1,7 +1,6 @@
 // What the sheet's program prints: the readings that are refused or differ, the totals, and the verdict.
 #![tactic(auto)]
 
-use libc::STDOUT_FILENO;
 use sheet_ground::texts::write_reading;
 use sheet_totals::Totals;
 use types::error::Error;
@@ -15,77 +14,82 @@ pub enum Refusals {
     Since(usize, usize, Error),
 }
 
-fn print_reading(k: usize) {
+fn print_reading<R: Print>(rt: &R, k: usize) {
     let mut text = [0u8; 6];
     let start = write_reading(k, &mut text);
-    printing::text(&text[start..]);
+    printing::text(rt, &text[start..]);
 }
 
-fn print_number(n: usize, words: &[u8]) {
-    io::print_decimal(STDOUT_FILENO, n as u64);
-    printing::text(words);
+fn print_number<R: Print>(rt: &R, n: usize, words: &[u8]) {
+    let _ = rt.print(n as u64);
+    printing::text(rt, words);
 }
 
 // One line for all of them.
-pub fn print_refusals(refusals: Refusals) {
+pub fn print_refusals<R: Print>(rt: &R, refusals: Refusals) {
     let Refusals::Since(first, last, error) = refusals else {
         return;
     };
-    print_reading(first);
+    print_reading(rt, first);
     if first != last {
-        printing::text(b" to ");
-        print_reading(last);
+        printing::text(rt, b" to ");
+        print_reading(rt, last);
     }
-    printing::text(b": refused: ");
-    printing::cause(error);
-    printing::text(b"\n");
+    printing::text(rt, b": refused: ");
+    printing::cause(rt, error);
+    printing::text(rt, b"\n");
 }
 
 fn is_same(one: Error, other: Error) -> bool {
     (error_number(one) == error_number(other)) & (error_code_point(one) == error_code_point(other))
 }
 
-fn with_error(refusals: Refusals, k: usize, error: Error) -> Refusals {
+fn with_error<R: Print>(rt: &R, refusals: Refusals, k: usize, error: Error) -> Refusals {
     if let Refusals::Since(first, _, other) = refusals {
         if is_same(error, other) {
             return Refusals::Since(first, k, error);
         }
     }
-    print_refusals(refusals);
+    print_refusals(rt, refusals);
     Refusals::Since(k, k, error)
 }
 
 // The next reading: it may end the refusals so far, or be one more of them.
-pub fn with_answer(refusals: Refusals, k: usize, answer: DimensionsResult) -> Refusals {
+pub fn with_answer<R: Print>(
+    rt: &R,
+    refusals: Refusals,
+    k: usize,
+    answer: DimensionsResult,
+) -> Refusals {
     match answer {
         DimensionsResult::Ok(_) => {
-            print_refusals(refusals);
+            print_refusals(rt, refusals);
             Refusals::Not
         }
-        DimensionsResult::Err(error) => with_error(refusals, k, error),
+        DimensionsResult::Err(error) => with_error(rt, refusals, k, error),
     }
 }
 
-pub fn print_difference(k: usize, differing: usize) {
+pub fn print_difference<R: Print>(rt: &R, k: usize, differing: usize) {
     if differing == 0 {
         return;
     }
-    print_reading(k);
-    printing::text(b": ");
+    print_reading(rt, k);
+    printing::text(rt, b": ");
     if differing == 1 {
-        printing::text(b"1 pixel differs\n");
+        printing::text(rt, b"1 pixel differs\n");
         return;
     }
-    print_number(differing, b" pixels differ\n");
+    print_number(rt, differing, b" pixels differ\n");
 }
 
-pub fn print_totals(totals: Totals) {
-    printing::text(b"901 readings: ");
-    print_number(totals.whole, b" seen whole, ");
-    print_number(totals.part, b" in part, ");
-    print_number(totals.unseen, b" not at all, ");
-    print_number(totals.refused, b" refused; ");
-    print_number(totals.differing, b" with a difference\n");
+pub fn print_totals<R: Print>(rt: &R, totals: Totals) {
+    printing::text(rt, b"901 readings: ");
+    print_number(rt, totals.whole, b" seen whole, ");
+    print_number(rt, totals.part, b" in part, ");
+    print_number(rt, totals.unseen, b" not at all, ");
+    print_number(rt, totals.refused, b" refused; ");
+    print_number(rt, totals.differing, b" with a difference\n");
 }
 
 // Every reading is to be seen whole, and none is to differ.
@@ -94,14 +98,14 @@ fn is_well(totals: Totals) -> bool {
 }
 
 // The last line, by which a script tells how the sheet ended.
-pub fn print_verdict(totals: Totals, written: bool) {
+pub fn print_verdict<R: Print>(rt: &R, totals: Totals, written: bool) {
     if !written {
-        printing::text(b"the pictures cannot be written\n");
+        printing::text(rt, b"the pictures cannot be written\n");
         return;
     }
     if is_well(totals) {
-        printing::text(b"all is well\n");
+        printing::text(rt, b"all is well\n");
         return;
     }
-    printing::text(b"not all is well\n");
+    printing::text(rt, b"not all is well\n");
 }

@@ -8,11 +8,17 @@
 
 use sheet_extent::values::{Options, Wanted};
 use sheet_program::program::start;
+use std::rt::Files;
 use types::geometry::Point;
 use types::style::{HorizontalAlignment, VerticalPosition};
 
-fn run_seen(horizontal_align: HorizontalAlignment, narrow: bool) {
+fn run_seen<R: Files + Print + Eprint + Alloc>(
+    rt: &R,
+    horizontal_align: HorizontalAlignment,
+    narrow: bool,
+) {
     start(
+        rt,
         b"gauge.bin",
         Options {
             vertical_pos: VerticalPosition::Baseline,
@@ -23,9 +29,10 @@ fn run_seen(horizontal_align: HorizontalAlignment, narrow: bool) {
     );
 }
 
-fn run_cut() {
-    printing::text(b"top at -9 -4, in a font that ends within its 5\n");
+fn run_cut<R: Files + Print + Eprint + Alloc>(rt: &R) {
+    printing::text(rt, b"top at -9 -4, in a font that ends within its 5\n");
     start(
+        rt,
         b"cut.bin",
         Options {
             vertical_pos: VerticalPosition::Top,
@@ -36,8 +43,9 @@ fn run_cut() {
     );
 }
 
-fn run_at(x: i32) {
+fn run_at<R: Files + Print + Eprint + Alloc>(rt: &R, x: i32) {
     start(
+        rt,
         b"gauge.bin",
         Options {
             vertical_pos: VerticalPosition::Top,
@@ -48,16 +56,23 @@ fn run_at(x: i32) {
     );
 }
 
-fn main() {
-    printing::text(b"narrow: one column too few is filled\n");
-    run_seen(HorizontalAlignment::Left, true);
-    run_cut();
-    printing::text(b"top at 232 3: long readings run off the framebuffer to the right\n");
-    run_at(232);
-    printing::text(b"top at 256 3: no reading is seen\n");
-    run_at(256);
-    printing::text(b"align center: the middle of each reading stands at its place\n");
-    run_seen(HorizontalAlignment::Center, false);
-    printing::text(b"align right, narrow: one column too few is filled\n");
-    run_seen(HorizontalAlignment::Right, true);
+fn main(rt: HostRuntime) {
+    let rt = &rt;
+    printing::text(rt, b"narrow: one column too few is filled\n");
+    run_seen(rt, HorizontalAlignment::Left, true);
+    run_cut(rt);
+    printing::text(
+        rt,
+        b"top at 232 3: long readings run off the framebuffer to the right\n",
+    );
+    run_at(rt, 232);
+    printing::text(rt, b"top at 256 3: no reading is seen\n");
+    run_at(rt, 256);
+    printing::text(
+        rt,
+        b"align center: the middle of each reading stands at its place\n",
+    );
+    run_seen(rt, HorizontalAlignment::Center, false);
+    printing::text(rt, b"align right, narrow: one column too few is filled\n");
+    run_seen(rt, HorizontalAlignment::Right, true);
 }
