@@ -1,10 +1,10 @@
 -- What a record comes to in the chain, whichever the width of its code. Assumes nothing.
-use Rattle.integers.proofs.Prelude.{◌≡◌, ap, ◌∙◌, Bool, true, false, List, [], ℕ, zero, suc, ◌+◌, ◌<◌, dec_lt, arith, eqb, length, drop}
+use Rattle.integers.proofs.Prelude.{◌≡◌, sym, ap, ◌∙◌, Bool, true, false, List, [], ℕ, zero, suc, ◌+◌, ◌<◌, dec_lt, arith, eqb, length, drop}
 use Rattle.integers.proofs.Prelude.{drop_of_length-le}
 use Rattle.integers.specs.Integers.{pick}
 use Rattle.integers.proofs.Choices.{impossible}
 use Rattle.definitions.specs.Vocabulary.{LookupSteps}
-use Rattle.definitions.specs.Lookup.{Record, next, cut, record8, record16, looked, follow, chain}
+use Rattle.definitions.specs.Lookup.{found, missing, short, Record, here, next, last, end, cut, record8, record16, looked, follow, chain}
 use Rattle.definitions.proofs.LookupLaws.{Looks, looks8, looks16, chain_at}
 use Rattle.records.specs.Records.{record_of}
 
@@ -37,3 +37,25 @@ module _ (width c : ℕ) where
         moves : (jump : ℕ) → record_of width c (drop at font) ≡ next jump → 0 < jump
         moves zero e = absurd (looks.moves (drop at font) e)
         moves (suc n) e = omega arith
+
+    -- What the chain comes to, by what the record says; the record's answer stands first, as the code's read of it ensures.
+    module _ (steps : LookupSteps) where
+      pub comes_here : (n : ℕ) → here n ≡ record_of width c (drop at font)
+          → chain (record_of width c) steps 0 at font ≡ found (at + n) (looked steps)
+      comes_here n e = followed steps (sym e)
+
+      pub comes_next : (jump : ℕ) → next jump ≡ record_of width c (drop at font)
+          → chain (record_of width c) steps 0 at font ≡ chain (record_of width c) (looked steps) 0 (at + jump) font
+      comes_next jump e = followed steps (sym e)
+
+      pub comes_last : last ≡ record_of width c (drop at font) → chain (record_of width c) steps 0 at font ≡ missing (looked steps)
+      comes_last e = followed steps (sym e)
+
+      pub comes_end : end ≡ record_of width c (drop at font) → chain (record_of width c) steps 0 at font ≡ missing steps
+      comes_end e = followed steps (sym e)
+
+      pub comes_cut : cut ≡ record_of width c (drop at font) → chain (record_of width c) steps 0 at font ≡ short
+      comes_cut e = followed steps (sym e)
+
+    pub next_further : (jump : ℕ) → next jump ≡ record_of width c (drop at font) → (at < length font) × (0 < jump)
+    next_further jump e = further jump (sym e)
