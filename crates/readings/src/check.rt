@@ -3,7 +3,6 @@ ghost use Rattle.std.specs.Prelude.{◌≡◌, length};
 ghost use Rattle.redraw_checks.specs.Drawing.{asked, ground_of};
 ghost use Rattle.redraw.specs.Redraw.{reading_on};
 
-use bytes::copy;
 use renderer::render_aligned::render_aligned;
 use types::place::Place;
 use types::results::BoundingBoxResult;
@@ -15,7 +14,7 @@ pub fn draw_alone(font: &[u8], text: &[u8], place: Place, ground: &[u8], alone: 
     ensures { alone.new ≡ reading_on font.now (asked place text.now)
         (ground_of place ground.now) }
 {
-    copy(ground, &mut alone[..]);
+    alone.copy_from_slice(ground);
     let position = place.position;
     let style = place.style;
     let horizontal_align = place.horizontal_align;
@@ -38,7 +37,7 @@ pub fn draw_alone(font: &[u8], text: &[u8], place: Place, ground: &[u8], alone: 
     match result {
         BoundingBoxResult::Ok(_) => {}
         BoundingBoxResult::Err(_) => {
-            copy(ground, alone);
+            alone.copy_from_slice(ground);
         }
     }
 }

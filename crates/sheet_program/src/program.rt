@@ -6,7 +6,6 @@ ghost use Rattle.sheet_program.specs.Sheets.{Buffers, LargeBuffers, SheetOf};
 use crate::cells::write_head;
 use crate::run::run;
 use crate::values::Sheet;
-use bytes::copy;
 use faulty_step::Trial;
 use font_file::FontFile;
 use sheet_extent::place::place_for;
@@ -31,7 +30,7 @@ fn fill_sheet<R: Files + Print>(
     ensures { SheetOf narrow font.now place result }
 {
     lay_ground(font, place, &mut ground[..]);
-    copy(&ground[..], &mut screen[..]);
+    screen.copy_from_slice(&ground[..]);
     let framebuffer = place.framebuffer;
     let mut cells = system::open_overwrite(rt, b"sheet.cells").ok();
     let begun = write_head(&mut cells, framebuffer);
