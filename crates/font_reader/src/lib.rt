@@ -18,6 +18,7 @@ const HEADER_SIZE: usize = 23;
 
 const MAX_FONT_SIZE: usize = 1_048_576;
 
+#[tactic(auto, unfolding(integers::specs::Integers::signed8))]
 fn signed(b: u8) -> i8
     ensures { result ≡ signed8 b }
 {
@@ -35,6 +36,7 @@ fn i8_at(font: &[u8], i: usize) -> i8
     signed(font[i])
 }
 
+#[tactic(auto, using(integers::proofs::Laws::signed8_negative))]
 fn is_negative(b: u8) -> bool
     ensures { result ≡ negative (signed8 b) }
 {
@@ -42,6 +44,7 @@ fn is_negative(b: u8) -> bool
 }
 
 // Whether a width is off its limits, or the font's bounding box negative (cause 2 of SPECIFICATION, Refusals).
+#[tactic(auto, unfolding(definitions::specs::Header::header_off))]
 fn has_bad_header(font: &[u8]) -> bool
     requires { 23 ≤ length font.now }
     ensures { result ≡ header_off font.now }
@@ -58,6 +61,7 @@ fn has_bad_header(font: &[u8]) -> bool
 }
 
 // The font's bounding box height plus 1.
+#[tactic(auto, using(integers::proofs::Laws::signed8_whole))]
 fn get_default_line_height(font: &[u8]) -> u32
     requires { (23 ≤ length font.now) × (pos 0 ≤ℤ signed_byte font.now 10) }
     ensures { result ≡ default_line_height font.now }
@@ -65,6 +69,7 @@ fn get_default_line_height(font: &[u8]) -> u32
     (font[10] as u32) + 1
 }
 
+#[tactic(auto, unfolding(definitions::specs::Header::header))]
 fn read_header(font: &[u8]) -> FontReader
     requires { (23 ≤ length font.now) × (pos 0 ≤ℤ signed_byte font.now 10) }
     ensures { result ≡ header font.now }
@@ -95,6 +100,7 @@ fn read_header(font: &[u8]) -> FontReader
 }
 
 // Opens a font: its header's values and the default line height, or cause 1 or 2.
+#[tactic(auto, using(definitions::proofs::OpenedLaws::opened_limits), unfolding(definitions::specs::Calls::open_font))]
 pub fn new_from_raw_data(font: &[u8]) -> FontReaderResult
     ensures { font_reader_outcome result ≡ open_font font.now }
 {
