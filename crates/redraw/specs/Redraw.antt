@@ -18,8 +18,8 @@ use Rattle.redraw.specs.Contexts.{context_of}
 
 -- what a drawing leaves where none may be left half done: the drawing if it succeeded, and the ground if it did not
 abbrev pub whole_or : Outcome RenderedDimensions → List ℕ → List ℕ → List ℕ
-whole_or (success d) drawing ground = drawing
-whole_or (refused n c) drawing ground = ground
+whole_or (success d) drawing untouched = drawing
+whole_or (refused n c) drawing untouched = untouched
 
 -- A checked text is counted, and shown whole or not at all.
 pub record ReadingDrawn (font text : List ℕ) (pen : Pen) (place : Place) (before after : List ℕ) (r : DimensionsReport) : Type 0 where
@@ -30,7 +30,7 @@ pub record ReadingDrawn (font text : List ℕ) (pen : Pen) (place : Place) (befo
 -- What a reading shows on a ground: the ground with the text drawn on it if drawing the text succeeds, and the ground as it was if
 -- it does not.
 abbrev pub reading_on : List ℕ → Drawing → Ground → List ℕ
-reading_on font r ground = whole_or (drawn font r ground) (after font r ground) ground.before
+reading_on font r p = whole_or (drawn font r p) (after font r p) p.before
 
 -- ---- filling
 

@@ -1,4 +1,5 @@
 pub mod LetterLaws
+pub mod DrawingLaws
 pub mod FirstLineLaws
 pub mod DrawnLineLaws
 pub mod LineLoopLaws

@@ -21,7 +21,7 @@ use utf8::next_char;
 use utf8_sequences::NextChar;
 
 // What is drawn with, and on what.
-#[derive(Drop)]
+#[derive(Clone, Copy)]
 pub struct Context {
     pub color: FontColor,
     pub framebuffer: Framebuffer,

@@ -17,7 +17,7 @@ use types::results::{DimensionsReport, DimensionsResult};
 use types::style::{FontColor, HorizontalAlignment};
 
 // Where a text's lines stand.
-#[derive(Drop)]
+#[derive(Clone, Copy)]
 pub struct LineSetting {
     pub pen: Pen,
     pub horizontal_align: HorizontalAlignment,

@@ -1,0 +1,29 @@
+-- A newline is code point 10; any other is looked up, counted and drawn.
+use Rattle.integers.proofs.Prelude.{sym, ◌∙◌, eq-eqb, ne_eqb}
+use Rattle.answers.proofs.AnswersLaws.{runs_checked}
+use Rattle.renderer.proofs.letters.draw_char.Goals as goal
+
+pub returns-then-ch-NEWLINE : goal.returns-then-ch-NEWLINE
+returns-then-ch-NEWLINE c =
+    let newline = eq-eqb _ _ c.if-ch-NEWLINE.true in
+    record { counted = simp (c.add_newline.ensures, newline); shown = simp newline; brought = simp (c.no_steps.ensures, newline) }
+
+pub draw_answer-requires : goal.draw_answer-requires
+draw_answer-requires c =
+    let looked = c.retrieve_answer-answer.ensures.is in
+    record {
+      runs = λ g e. runs_checked c.requires.opened c.args.pen.ignore_unknown_chars c.args.ch g (sym looked ∙ e);
+      room = c.requires.room;
+      fits = c.requires.fits;
+    }
+
+pub returns : goal.returns
+returns c =
+    let looked = c.retrieve_answer-answer.ensures in
+    let added = c.add_answer-counted.ensures in
+    let other = ne_eqb _ _ c.if-ch-NEWLINE.false in
+    record {
+      counted = simp (added.added, looked.is, other);
+      shown = c.draw_answer.ensures ∙ simp (looked.is, other);
+      brought = added.counted ∙ looked.counted ∙ simp other;
+    }

@@ -1,0 +1,110 @@
+-- The loop keeps that the rest of the text draws from here on what the whole text draws from its start (`DrawnTo`), and that the
+-- steps so far are added up (`Summed`).
+use Rattle.integers.proofs.Prelude.{◌≡◌, refl, sym, ap, subst, ◌∙◌, ℕ, arith, drop}
+use Rattle.integers.proofs.Choices.{impossible}
+use Rattle.definitions.specs.Vocabulary.{RenderedDimensions, LookupSteps}
+use Rattle.definitions.specs.Geometry.{InReach}
+use Rattle.utf8_sequences.specs.Sequences.{as_character}
+use Rattle.definitions.specs.Utf8.{character, first_character}
+use Rattle.definitions.specs.Font.{u8g2}
+use Rattle.definitions.specs.Sums.{plus_steps, brings, Fits32}
+use Rattle.definitions.proofs.Utf8Laws.{Position, position, none_malformed}
+use Rattle.renderer.specs.CharAnswers.{Fits}
+use Rattle.layout.specs.CharResults.{char_outcome, char_steps}
+use Rattle.layout.proofs.MeasureLaws.{checked_characters, measured_room, measured_end, measured_stops}
+use Rattle.layout.proofs.SumLoopLaws.{summed_start, summed_end, summed_fits}
+use Rattle.renderer.proofs.LetterLaws.{drawn_small, drawn_start, drawn_end, drawn_next, drawn_stops, sum_next, sum_stops}
+use Rattle.renderer.proofs.letters.draw_text.Goals as goal
+
+pub loop-at-init : goal.loop-at-init
+loop-at-init c =
+    let k = c.requires.checked in
+    record { drawn = drawn_start _ _ _ _ _ _ _ _ _ k c.requires.room; summed = simp c.no_steps-steps.ensures (summed_start (checked_characters k)) }
+
+-- the text was checked, so this is never reached
+pub returns-in_default : goal.returns-in_default
+returns-in_default c =
+    let l = c.loop-at in
+    absurd (none_malformed _ l.at c.loop-at-test.true l.invariant.drawn.reached.reached.decoded
+    (sym c.next_char-next.ensures ∙ ap as_character c.in_default.is))
+
+-- the character that was read
+module _ (c : goal.In-Char) where
+  first : first_character (drop c.loop-at.at c.args.text.now) ≡ character c.in-Char.ch c.in-Char.len
+  first = sym c.next_char-next.ensures ∙ ap as_character c.in-Char.is
+
+  here : Position c.args.text.now c.loop-at.at c.in-Char.ch c.in-Char.len
+  here = position _ _ first
+
+pub draw_char-requires : goal.draw_char-requires
+draw_char-requires c =
+    let i = c.loop-at.invariant.drawn in
+    record {
+      opened = c.requires.opened;
+      room = measured_room c.requires.checked i.reached;
+      line = c.requires.checked.line;
+      fits = subst (λ (n : ℕ). Fits n c.args.context.framebuffer) (sym i.kept) c.requires.fits;
+    }
+
+-- .. was drawn
+module _ (c : goal.After-draw_char-drawn) where
+  brings_it : {q : LookupSteps} → char_steps c.draw_char-drawn.result ≡ q → q ≡ brings (u8g2 c.args.font.now).steps c.in-Char.ch
+  brings_it e = sym e ∙ c.draw_char-drawn.ensures.brought
+
+  sum_fits : {q : LookupSteps} → char_steps c.draw_char-drawn.result ≡ q → Fits32 (plus_steps c.loop-at.steps q)
+  sum_fits e =
+      let s = c.requires in
+      summed_fits c.loop-at.invariant.summed (first c) (brings_it e) s.opened.least s.opened.most s.checked.short
+
+pub add_steps-requires : goal.add_steps-requires
+add_steps-requires c = sum_fits c (ap char_steps c.in-Err.is)
+
+pub add_steps-requires-2 : goal.add_steps-requires-2
+add_steps-requires-2 c = sum_fits c (ap char_steps c.in-Ok.is)
+
+pub returns-in-Err : goal.returns-in-Err
+returns-in-Err c =
+    let is = c.in-Err.is in
+    let i = c.loop-at.invariant in
+    let d = c.draw_char-drawn.ensures in
+    let stops = sym d.counted ∙ ap char_outcome is in
+    record {
+      counted = sym (measured_stops c.requires.checked i.drawn.reached (first c) stops);
+      summed = c.sum_with.ensures
+          ∙ sum_stops _ i.summed (first c) (brings_it c (ap char_steps is)) c.add_steps-sum.ensures c.args.pen.line_height
+          c.args.pen.origin c.loop-at.dimensions stops refl;
+      shown = drawn_stops _ _ _ _ _ _ _ _ _ c.requires.checked i.drawn (first c) stops d.shown;
+      reach = λ e k. impossible cc;
+    }
+
+pub overflow_add-at : goal.overflow_add-at
+overflow_add-at c = let p = here c in omega (arith, c.requires.checked.short)
+
+pub loop-at-smaller : goal.loop-at-smaller
+loop-at-smaller c = let p = here c in omega arith
+
+pub loop-at-preserved : goal.loop-at-preserved
+loop-at-preserved c =
+    let is = c.in-Ok.is in
+    let i = c.loop-at.invariant in
+    let d = c.draw_char-drawn.ensures in
+    let goes = sym d.counted ∙ ap char_outcome is in
+    record {
+      drawn = drawn_next _ _ _ _ _ _ _ _ _ c.requires.checked i.drawn (first c) (drawn_small c.requires.opened _) goes d.shown
+          c.draw_char-drawn.auto.buffer;
+      summed = sum_next _ i.summed (first c) (brings_it c (ap char_steps is)) c.add_steps.ensures c.args.pen.line_height c.args.pen.origin
+          c.loop-at.dimensions goes;
+    }
+
+pub returns : goal.returns
+returns c =
+    let i = c.loop-at.invariant in
+    let k = c.requires.checked in
+    let over = c.loop-at-test.false in
+    record {
+      counted = sym (measured_end k i.drawn.reached over);
+      summed = summed_end i.summed over;
+      shown = drawn_end _ _ _ _ _ _ _ _ _ k i.drawn over;
+      reach = λ e k. let same : c.loop-at.dimensions ≡ e = cc in
+          subst (λ (x : RenderedDimensions). InReach x.bounding_box) same i.drawn.reached.reached.within.box;
+    }

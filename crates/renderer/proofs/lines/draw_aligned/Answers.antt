@@ -1,0 +1,26 @@
+-- By the alignment: Left is the plain text, the others move lines.
+use Rattle.integers.proofs.Prelude.{sym, subst}
+use Rattle.checks.proofs.OriginLaws.{as_line}
+use Rattle.layout.proofs.MeasureLaws.{within_start}
+use Rattle.renderer.specs.Texts.{Moves}
+use Rattle.renderer.proofs.DrawnLineLaws.{plain_text}
+use Rattle.renderer.proofs.lines.draw_aligned.Goals as goal
+
+pub draw_text-requires : goal.draw_text-requires
+draw_text-requires c =
+    let s = c.requires in
+    record {
+      opened = s.opened;
+      checked = as_line s.checked;
+      room = simp c.no_dimensions.ensures (within_start (as_line s.checked));
+      fits = s.fits;
+    }
+
+pub draw_lines-requires : goal.draw_lines-requires
+draw_lines-requires c = (c.requires, subst Moves (sym c.in-Center.is) tt)
+
+pub draw_lines-requires-2 : goal.draw_lines-requires-2
+draw_lines-requires-2 c = (c.requires, subst Moves (sym c.in-Right.is) tt)
+
+pub returns-in-Left : goal.returns-in-Left
+returns-in-Left c = plain_text c.in-Left.is c.no_dimensions.ensures c.draw_text.ensures

@@ -1,0 +1,10 @@
+-- The loop keeps that the rest of the text leads from the lines so far to where the whole text leads from its start (`LinesTo`).
+use Rattle.integers.proofs.Prelude.{◌+◌, ◌-◌, length}
+use Rattle.renderer.proofs.LineLoopLaws.{LinesTo}
+use Rattle.renderer.proofs.lines.draw_lines.Given as goal
+
+abbrev pub invariant-loop : goal.invariant-loop
+invariant-loop l = LinesTo l.font l.text l.initial.buffer l.setting l.context l.buffer l.dimensions l.steps l.at
+
+abbrev pub decreases-loop : goal.decreases-loop
+decreases-loop l = length l.text + 1 - l.at
