@@ -13,7 +13,7 @@ use vertical_offset::compute_vertical_offset;
 
 // What a checked text is set with: where it begins, how far below a line the next one lies, and whether unknown characters are
 // skipped.
-#[derive(Drop)]
+#[derive(Clone, Copy)]
 pub struct Pen {
     pub origin: Point,
     pub line_height: u32,
