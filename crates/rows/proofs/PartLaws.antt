@@ -1,9 +1,10 @@
 -- The visible part of a glyph lies in the glyph and on the framebuffer. Assumes nothing.
-use Rattle.integers.proofs.Prelude.{◌≡◌, List, ℕ, ◌+◌, ◌-◌, ◌*◌, ◌≤◌, ◌<◌, add-mul, mul-le-mul_right, mul-le-mul, mul_comm, arith, length}
-use Rattle.definitions.specs.Vocabulary.{GlyphReader, Framebuffer}
+use Rattle.integers.proofs.Prelude.{◌≡◌, refl, List, ℕ, ◌+◌, ◌-◌, ◌*◌, ◌≤◌, ◌<◌, add-mul, mul-le-mul_right, mul-le-mul, mul_comm, arith, length}
+use Rattle.definitions.specs.Vocabulary.{FontReader, GlyphReader, Framebuffer}
+use Rattle.runs.specs.declared.Runs.{Runs}
 use Rattle.visible_part.specs.declared.VisiblePart.{VisiblePart}
-use Rattle.rows.specs.Ones.{PartFits, ones_of}
-use Rattle.rows.proofs.StateLaws.{Lies}
+use Rattle.rows.specs.Ones.{PartFits, PartDrawable, ones_of}
+use Rattle.rows.proofs.StateLaws.{Lies, State, part_in}
 
 module _ {g : GlyphReader} {part : VisiblePart} {framebuffer : Framebuffer} {bytes : ℕ} (f : PartFits g part framebuffer bytes) where
   rows_in : part.rows.first * g.glyph_width + (part.rows.past - part.rows.first) * g.glyph_width ≤ g.glyph_width * g.glyph_height
@@ -39,3 +40,14 @@ module _ {g : GlyphReader} {part : VisiblePart} {framebuffer : Framebuffer} {byt
   line_small =
       let k : part.top + 1 ≤ framebuffer.height = omega (arith, f.bottom, f.some_rows) in
       omega (arith, part_small, f.window.area, mul-le-mul_right framebuffer.width k, mul_comm framebuffer.width framebuffer.height, f.right)
+
+module _ {font : List ℕ} {head : FontReader} {g : GlyphReader} {part : VisiblePart} {value : ℕ} {framebuffer : Framebuffer} {entry buffer : List ℕ}
+    {runs : Runs} {from to line left : ℕ} (p : PartDrawable font head g part framebuffer (length entry))
+    (s : State font head g part value framebuffer entry buffer runs from to line left) where
+  -- The row's part lies on the framebuffer ..
+  pub room : line + (part.columns.past - part.columns.first) ≤ length buffer
+  room = omega (arith, s.long, part_in (part_lies p.fits _ _ refl) s.at)
+
+  -- .. and is small.
+  pub room_small : line + (part.columns.past - part.columns.first) ≤ 65536
+  room_small = omega (arith, room, s.long, part_small p.fits)

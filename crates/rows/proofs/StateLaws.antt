@@ -2,13 +2,17 @@
 use Rattle.integers.proofs.Prelude.{◌≡◌, sym, ap, subst, ◌∙◌, List, ℕ, ◌+◌, ◌-◌, ◌*◌, ◌≤◌, ◌<◌, max, mul-le-mul_right, arith, lt-ltb, le-ltb}
 use Rattle.integers.proofs.Prelude.{length, get_or}
 use borrow.Rule.Slice.PartMut.{mid_of, put_mid}
+use Rattle.definitions.specs.Vocabulary.{FontReader, GlyphReader, Framebuffer}
+use Rattle.definitions.specs.Font.{u8g2, pixels_of}
 use Rattle.definitions.specs.Framebuffer.{shown}
 use Rattle.runs.specs.declared.Runs.{Runs}
-use Rattle.runs.specs.RunReads.{in_font, next_pair}
+use Rattle.runs.specs.RunReads.{Short, in_font, next_pair}
 use Rattle.runs.specs.Stands.{Stands}
 use Rattle.runs.proofs.StandsLaws.{stands_pixel, stands_on, stands_next}
 use Rattle.framebuffer.specs.Columns.{Filled}
+use Rattle.visible_part.specs.declared.VisiblePart.{VisiblePart}
 use Rattle.rows.specs.Ink.{Ones, ink_picture}
+use Rattle.rows.specs.Ones.{ones_of}
 use Rattle.rows.proofs.InkLaws.{ink_none, ink_zeros, ink_all, ink_ones}
 
 -- The rows lie in a glyph of n pixels, and their visible part on the framebuffer that is `entry` at the call.
@@ -30,6 +34,14 @@ pub record At (font : List ℕ) (m0 m1 n : ℕ) (s : Ones) (width : ℕ) (entry 
   pub drawn : buffer ≡ shown width (ink_picture s (row * s.wide + from)) entry
   pub stands : Stands font m0 m1 n s.ps runs (runs.zeros + runs.ones) (s.start + (row * s.wide + to))
   pub ones : (k : ℕ) → row * s.wide + from ≤ k → k < row * s.wide + to → k < s.rows * s.wide → get_or s.ps (s.start + k) 0 ≡ 1
+
+-- The same of a glyph's rows, the framebuffer being `entry` at the call: what both loops keep.
+pub record State (font : List ℕ) (head : FontReader) (g : GlyphReader) (part : VisiblePart) (value : ℕ) (framebuffer : Framebuffer) (entry buffer : List ℕ)
+    (runs : Runs) (from to line left : ℕ) : Type 0 where
+  pub short : Short runs
+  pub long : length buffer ≡ length entry
+  pub at : At font head.m0 head.m1 (g.glyph_width * g.glyph_height) (ones_of (pixels_of (u8g2 font) g) g.glyph_width part value) framebuffer.width
+      entry buffer runs from to line left
 
 module _ {font : List ℕ} {m0 m1 n : ℕ} {ps : List ℕ} {runs : Runs} {offset i : ℕ} (s : Stands font m0 m1 n ps runs offset i) where
   -- a pixel of the zero run, or of the one run
