@@ -1,11 +1,11 @@
 #!/usr/bin/env bash
-# Exercises both bindings: bindings/test.sh. It needs cc, rustc and the static library, in target/staticlib or in the folder
+# Exercises both bindings: bindings/test.sh. It needs cc, rustc and the static library, in crates/c_api/out or in the folder
 # that PAPAYAHELM_LIB_DIR names. c++, make, rustdoc, cargo, clippy and rustfmt are used if they are there. One line a check; the
 # exit status is 0 only if none fails. All that it makes goes to target/bindings.
 set -u -o pipefail
 here=$(cd "$(dirname "$0")" && pwd)
 root=$(dirname "$here")
-lib=$(realpath -m "${PAPAYAHELM_LIB_DIR:-$root/target/staticlib}")
+lib=$(realpath -m "${PAPAYAHELM_LIB_DIR:-$root/crates/c_api/out}")
 out=$root/target/bindings
 log=$out/log
 failed=0
@@ -13,7 +13,7 @@ mkdir -p "$out/c" "$out/2021" "$out/2024"
 cd "$root" || exit 1
 
 if [ ! -f "$lib/libc_api.a" ]; then
-  echo "There is no libc_api.a in $lib: run \`rt staticlib c_api\` in the repository, or set PAPAYAHELM_LIB_DIR" >&2
+  echo "There is no libc_api.a in $lib: run \`rt lib\` in $root/crates/c_api, or set PAPAYAHELM_LIB_DIR" >&2
   exit 1
 fi
 for tool in cc rustc; do
@@ -104,7 +104,7 @@ fi
 if there make; then
   check "the C examples build by make" make -C "$here/c" LIB_DIR="$lib" OUT="$out/c"
   check "make says which command makes a missing library" \
-    fails make -C "$here/c" LIB_DIR="$out/nowhere" OUT="$out/nowhere" -- 'rt staticlib c_api'
+    fails make -C "$here/c" LIB_DIR="$out/nowhere" OUT="$out/nowhere" -- 'rt lib'
 fi
 for example in redraw short icon; do
   check "the C example $example compiles without a warning" compile_c "$here/c/$example.c" $example
@@ -163,7 +163,7 @@ if there cargo; then
   there cargo-clippy && check "cargo clippy, without a warning" in_package cargo clippy "${offline[@]}" --all-targets -- -D warnings
   there cargo-fmt && check "cargo fmt" in_package cargo fmt --check
   no_library() { (cd "$here/rust" && PAPAYAHELM_LIB_DIR=$out/nowhere cargo build "${offline[@]}"); }
-  check "the build script says which command makes a missing library" fails no_library -- 'rt staticlib c_api'
+  check "the build script says which command makes a missing library" fails no_library -- 'rt lib'
 fi
 
 [ $failed = 0 ] && echo "all as expected" || echo "not all as expected"

@@ -1,6 +1,6 @@
 #!/usr/bin/env bash
 # The benchmark of docs/BENCHMARKS.md: oracle/bench.sh [FOLDER]. Prints its tables. Two builds of the Rust: as `cargo build
-# --release` makes it, and with `lto=fat` and one codegen unit. Ours is the static library of `rt staticlib` in both.
+# --release` makes it, and with `lto=fat` and one codegen unit. Ours is the static library of `rt lib` in both.
 set -eu
 here=$(cd "$(dirname "$0")" && pwd)
 root=$(dirname "$here")
@@ -25,7 +25,7 @@ build() {
   core=(--extern "embedded_graphics_core=$out/libembedded_graphics_core.rlib")
   compile $2 --crate-type rlib --crate-name embedded_graphics_core --out-dir "$out" "$here/embedded_graphics_core.rs"
   compile $2 --crate-type rlib --crate-name u8g2_fonts "${core[@]}" --out-dir "$out" "$root/target/oracle/tree/lib.rs"
-  compile $2 --crate-type rlib --crate-name papayahelm -L "native=$root/target/staticlib" --out-dir "$out" "$root/bindings/rust/src/lib.rs"
+  compile $2 --crate-type rlib --crate-name papayahelm -L "native=$root/crates/c_api/out" --out-dir "$out" "$root/bindings/rust/src/lib.rs"
   compile $2 $3 --crate-type bin --crate-name bench "${core[@]}" --extern "u8g2_fonts=$out/libu8g2_fonts.rlib" \
     --extern "papayahelm=$out/libpapayahelm.rlib" --out-dir "$out" "$here/driver/bench.rs"
   "$out/bench" "$bench/fonts" names > "$out/names"
@@ -36,4 +36,4 @@ build() {
 }
 build release "" ""
 build lto "-C codegen-units=1" "-C lto=fat"
-python3 "$here/bench_table.py" "$bench" "$root/target/staticlib/libc_api.a" "$root/bindings/c/papayahelm.h"
+python3 "$here/bench_table.py" "$bench" "$root/crates/c_api/out/libc_api.a" "$root/bindings/c/papayahelm.h"

@@ -1,7 +1,7 @@
 #!/usr/bin/env bash
 # Builds the oracle: the Rust files of a folder, unchanged, with overflow checks and debug assertions on, our stand-ins for
-# what is not there, our static library (`rt staticlib c_api`), the package bindings/rust and the driver. Plain rustc; all goes
-# to target/oracle.
+# what is not there, our static library (`rt lib` in crates/c_api), the package bindings/rust and the driver. Plain rustc; all
+# else goes to target/oracle.
 #   oracle/build.sh [FOLDER]     FOLDER holds src/..; default ../shared/docs/src beside the repository
 set -eu
 here=$(cd "$(dirname "$0")" && pwd)
@@ -29,8 +29,8 @@ compile() {
 }
 compile --crate-type rlib --crate-name embedded_graphics_core -o "$out/libembedded_graphics_core.rlib" "$here/embedded_graphics_core.rs"
 compile --crate-type rlib --crate-name u8g2_fonts --extern "embedded_graphics_core=$out/libembedded_graphics_core.rlib" -o "$out/libu8g2_fonts.rlib" "$tree/lib.rs"
-(cd "$root" && rt staticlib c_api > "$out/staticlib.log" 2>&1) || { tail -n 20 "$out/staticlib.log" >&2; exit 1; }
-compile --crate-type rlib --crate-name papayahelm -L "native=$root/target/staticlib" -o "$out/libpapayahelm.rlib" "$root/bindings/rust/src/lib.rs"
+(cd "$root/crates/c_api" && rt lib > "$out/staticlib.log" 2>&1) || { tail -n 20 "$out/staticlib.log" >&2; exit 1; }
+compile --crate-type rlib --crate-name papayahelm -L "native=$root/crates/c_api/out" -o "$out/libpapayahelm.rlib" "$root/bindings/rust/src/lib.rs"
 compile --crate-type bin --crate-name driver --extern "embedded_graphics_core=$out/libembedded_graphics_core.rlib" \
   --extern "u8g2_fonts=$out/libu8g2_fonts.rlib" --extern "papayahelm=$out/libpapayahelm.rlib" -o "$out/driver" "$here/driver/main.rs"
-cc -Wall -Wextra -O2 -I "$root/bindings/c" -o "$out/boundary" "$here/boundary.c" -L "$root/target/staticlib" -lc_api
+cc -Wall -Wextra -O2 -I "$root/bindings/c" -o "$out/boundary" "$here/boundary.c" -L "$root/crates/c_api/out" -lc_api

@@ -39,38 +39,43 @@ take_font() { # FILE
   head -c 1048577 2> /dev/null < "$1" > "$room/font.bin" || fail "'$1' cannot be read, or $temporary has no room for it"
 }
 
+# What rt makes itself, in the crates' out/ folders, is no source.
 is_stale() { # PROGRAM
-  [ ! -x "$1" ] || [ -n "$(find "$here/crates" "$here/crates.txt" -newer "$1" -print -quit 2> /dev/null)" ]
+  [ ! -x "$1" ] || [ -n "$(find "$here/crates.txt" -newer "$1" -print -quit 2> /dev/null)" ] ||
+    [ -n "$(find "$here/crates" -mindepth 2 -name out -prune -o -newer "$1" -print -quit 2> /dev/null)" ]
 }
 
-# Has rt build the program. What is newer than the build's beginning makes it stale again, and so does a build that fails.
-build() { # PROGRAM, TIME OF A FIRST BUILD
+# A line for each crate of which rt has proved something: its name stands in one line, the verdict in a later one.
+proved='/^crate /h; /^logic=proved/ { x; / checked=0$/d; s/^crate \([a-z0-9_]*\):.*/  \1 proved/p; }'
+
+# Has rt build the program, and keeps a copy. rt also runs it, and it finds no font then. What is newer than the build's beginning
+# makes it stale again, and so does a build that fails.
+build() { # PROGRAM
   local log
   command -v rt > /dev/null || fail "the program $1 must be built, and rt of the Rattle kit is not on the PATH"
   log=$(mktemp 2> /dev/null) || fail "no temporary file can be made in $temporary"
   touch "$room/begun"
-  [ -x "$program" ] || rm -f "$here/target/stamp/$1"
-  echo "$name: building the program $1 (the first time takes about $2 on two cores)" >&2
-  if (cd "$here" && rt check "$1") < /dev/null 2>&1 | tee "$log" | sed -nu 's/^rt: \([a-z0-9_]* proved ([0-9]* s)\)$/  \1/p' >&2 &&
-    [ -x "$program" ]; then
+  echo "$name: building the program $1 (the first time each crate below it is proved, which takes minutes)" >&2
+  if (cd "$here/crates/$1" && rt run) < /dev/null 2>&1 | tee "$log" | sed -nu "$proved" >&2 &&
+    { cp "$here/crates/$1/out/$1" "$program.new" && mv -f "$program.new" "$program"; } 2> /dev/null; then
     touch -r "$room/begun" "$program"
     rm -f "$log"
   else
     rm -f "$program"
-    grep -E '^rt: .*(NOT PROVED|FAILED|not what)' "$log" | head -n 5 >&2
+    grep -E ': (error|not proved|no proof)' "$log" | cut -c 1-200 | head -n 5 >&2
     fail "the build of the program $1 failed; all that rt said is in $log"
   fi
 }
 
 # Sets `program`, built again if it is older than a file of the crates. Tests name another folder with programs.
-take_program() { # PROGRAM, TIME OF A FIRST BUILD
+take_program() { # PROGRAM
   program=${PAPAYAHELM_PROGRAMS:-$here/target/bin}/$1
   if [ -n "${PAPAYAHELM_PROGRAMS:-}" ] || ! is_stale "$program"; then return; fi
-  mkdir -p "$here/target" 2> /dev/null
+  mkdir -p "$here/target/bin" 2> /dev/null
   [ -w "$here/target" ] || fail "the program $1 must be built, and $here/target cannot be written to"
   {
     flock 9 2> /dev/null # two runs do not build at once
-    if is_stale "$program"; then build "$1" "$2"; fi
+    if is_stale "$program"; then build "$1"; fi
   } 9> "$here/target/lock"
 }
 

@@ -7,7 +7,7 @@ here=$(dirname "$(dirname "$(readlink -f "$0")")")
 
 make_room
 take_font "$here/fonts/gauge.bin"
-take_program sheet "six minutes"
+take_program sheet
 for fault in "" narrow; do
   run ${fault:+"$fault"}
   make_picture sheet_png.py "$room/sheet.cells" "$here/docs/sheet-${fault:-right}.png" +9.0 3

@@ -1,7 +1,7 @@
 /* The calls of the static library libc_api.a: reading, measuring and drawing fonts in the U8g2 format.
  *
- * `rt staticlib c_api` in the repository writes target/staticlib/libc_api.a, for x86-64. Link it with -lc_api; it needs nothing
- * but memset. It keeps nothing between calls, allocates nothing and calls nothing back, so that any thread may call it.
+ * `rt lib` in the repository's folder crates/c_api writes crates/c_api/out/libc_api.a, for x86-64. Link it with -lc_api; it needs
+ * nothing but memset. It keeps nothing between calls, allocates nothing and calls nothing back, so that any thread may call it.
  *
  * THE STATUS that each call returns:
  *   0        success

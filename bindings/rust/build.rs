@@ -1,5 +1,5 @@
 //! Tells the linker where the static library lies: the folder that `PAPAYAHELM_LIB_DIR` names, or
-//! target/staticlib of the repository that this package stands in.
+//! crates/c_api/out of the repository that this package stands in.
 
 use std::env;
 use std::path::{absolute, Path, PathBuf};
@@ -17,7 +17,7 @@ fn main() -> ExitCode {
 
     let folder = match env::var_os(VARIABLE) {
         Some(folder) => PathBuf::from(folder),
-        None => Path::new(env!("CARGO_MANIFEST_DIR")).join("../../target/staticlib"),
+        None => Path::new(env!("CARGO_MANIFEST_DIR")).join("../../crates/c_api/out"),
     };
     let folder = absolute(&folder).unwrap_or(folder);
     let library = folder.join(LIBRARY);
@@ -25,7 +25,7 @@ fn main() -> ExitCode {
     if !library.is_file() {
         eprintln!("There is no {LIBRARY} in {}.", folder.display());
         eprintln!(
-            "Run `rt staticlib c_api` in the repository: it writes target/staticlib/{LIBRARY}."
+            "Run `rt lib` in crates/c_api of the repository: it writes crates/c_api/out/{LIBRARY}."
         );
         eprintln!("Or name the folder that holds it: {VARIABLE}=FOLDER cargo build");
         return ExitCode::FAILURE;

@@ -142,8 +142,8 @@
 //!
 //! # Linking
 //!
-//! `rt staticlib c_api` in the repository writes target/staticlib/libc_api.a, where the build
-//! script looks for it. The variable `PAPAYAHELM_LIB_DIR` names another folder.
+//! `rt lib` in the repository's folder crates/c_api writes crates/c_api/out/libc_api.a, where the
+//! build script looks for it. The variable `PAPAYAHELM_LIB_DIR` names another folder.
 
 #![no_std]
 #![warn(missing_docs)]

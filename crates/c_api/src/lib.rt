@@ -1,4 +1,4 @@
-// The calls for programs in C or Rust, which link the static library (`rt staticlib c_api`). Numbers
+// The calls for programs in C or Rust, which link the static library (`rt lib`). Numbers
 // and slices go in; a slice is a pointer and a length. Each call answers with a status: 0 for
 // success, the number of a refusal, 255 where a code has no meaning or `out` is too short. The
 // answer's values are stored in `out`: Replies.antt of c_values says which. bindings/c/papayahelm.h
