@@ -17,7 +17,7 @@ use types::results::{GlyphLookup, GlyphResult};
 use types::steps::LookupSteps;
 
 // A character shows a glyph, or nothing where it is unknown and skipped, or stops the text; with the steps of its lookup.
-#[derive(Drop)]
+#[derive(Clone, Copy)]
 pub enum Answer {
     Shows(GlyphReader, LookupSteps),
     Nothing(LookupSteps),

@@ -64,7 +64,7 @@ pub fn add_glyph(
 }
 
 // What a character comes to, with the steps of its lookup either way.
-#[derive(Drop)]
+#[derive(Clone, Copy)]
 pub enum CharResult {
     Ok(RenderedDimensions, LookupSteps),
     Err(Error, LookupSteps),
