@@ -1,0 +1,29 @@
+-- `widened` meets its contract: each edge is chosen and stored, and ExtentLaws.antt has that it stays in reach. Assumes nothing.
+use Rattle.integers.proofs.Prelude.{refl, sym, ap, subst, ◌∙◌, ◌<◌, ◌^◌, ℤ, pos, ◌+ℤ◌, w32, w64, SFits, rules}
+use Rattle.integers.proofs.Laws.{stored}
+use Rattle.sheet_extent.specs.Extent.{NearExtent}
+use Rattle.sheet_extent.proofs.ExtentLaws.{near_widened, least_stored, most_stored, four_edges}
+use Rattle.sheet_extent.proofs.extent.widened.Goals as goal
+
+pub returns : goal.returns
+returns c =
+    let a = c.args in
+    let fl : SFits w64 a.extent.left = search rules in
+    let ft : SFits w64 a.extent.top = search rules in
+    let fr : SFits w64 a.extent.right = search rules in
+    let fb : SFits w64 a.extent.bottom = search rules in
+    let fx : SFits w32 a.r.top_left.x = search rules in
+    let fy : SFits w32 a.r.top_left.y = search rules in
+    let fw : a.r.size.width < 2 ^ 32 = search rules in
+    let fh : a.r.size.height < 2 ^ 32 = search rules in
+    let x = stored w32 fx.sfits refl in
+    let y = stored w32 fy.sfits refl in
+    let l = least_stored c.lesser.type_inv c.start_edge.type_inv fl c.lesser.ensures (c.start_edge.ensures ∙ x) in
+    let t = least_stored c.lesser-2.type_inv c.start_edge-2.type_inv ft c.lesser-2.ensures (c.start_edge-2.ensures ∙ y) in
+    let width = ap (λ (z : ℤ). z +ℤ pos a.r.size.width) x in
+    let r = most_stored c.greater.type_inv c.end_edge.type_inv fr c.greater.ensures (c.end_edge.ensures ∙ width) in
+    let height = ap (λ (z : ℤ). z +ℤ pos a.r.size.height) y in
+    let m = most_stored c.greater-2.type_inv c.end_edge-2.type_inv fb c.greater-2.ensures (c.end_edge-2.ensures ∙ height) in
+    let e = four_edges a.extent a.r l t r m in
+    let near = near_widened a.extent a.r c.requires fx fy fw fh in
+    (e, subst NearExtent (sym e) near)
