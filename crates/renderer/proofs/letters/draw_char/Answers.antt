@@ -3,9 +3,9 @@ use Rattle.integers.proofs.Prelude.{sym, ◌∙◌, eq-eqb, ne_eqb}
 use Rattle.answers.proofs.AnswersLaws.{runs_checked}
 use Rattle.renderer.proofs.letters.draw_char.Goals as goal
 
-pub returns-then-ch-NEWLINE : goal.returns-then-ch-NEWLINE
-returns-then-ch-NEWLINE c =
-    let newline = eq-eqb _ _ c.if-ch-NEWLINE.true in
+pub returns-then-ch-eq-NEWLINE : goal.returns-then-ch-eq-NEWLINE
+returns-then-ch-eq-NEWLINE c =
+    let newline = eq-eqb _ _ c.if-ch-eq-NEWLINE.true in
     record { counted = simp (c.add_newline.ensures, newline); shown = simp newline; brought = simp (c.no_steps.ensures, newline) }
 
 pub draw_answer-requires : goal.draw_answer-requires
@@ -21,7 +21,7 @@ pub returns : goal.returns
 returns c =
     let looked = c.retrieve_answer-answer.ensures in
     let added = c.add_answer-counted.ensures in
-    let other = ne_eqb _ _ c.if-ch-NEWLINE.false in
+    let other = ne_eqb _ _ c.if-ch-eq-NEWLINE.false in
     record {
       counted = simp (added.added, looked.is, other);
       shown = c.draw_answer.ensures ∙ simp (looked.is, other);

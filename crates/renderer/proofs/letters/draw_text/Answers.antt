@@ -15,6 +15,7 @@ use Rattle.layout.proofs.MeasureLaws.{checked_characters, measured_room, measure
 use Rattle.layout.proofs.SumLoopLaws.{summed_start, summed_end, summed_fits}
 use Rattle.renderer.proofs.LetterLaws.{drawn_small, drawn_start, drawn_end, drawn_next, drawn_stops, sum_next, sum_stops}
 use Rattle.renderer.proofs.letters.draw_text.Goals as goal
+use Rattle.renderer.proofs.letters.draw_text.Goals.{After-draw_char-drawn}
 
 pub loop-at-init : goal.loop-at-init
 loop-at-init c =
@@ -28,16 +29,8 @@ returns-in_default c =
     absurd (none_malformed _ l.at c.loop-at-test.true l.invariant.drawn.reached.reached.decoded
     (sym c.next_char-next.ensures ∙ ap as_character c.in_default.is))
 
--- the character that was read
-module _ (c : goal.In-Char) where
-  first : first_character (drop c.loop-at.at c.args.text.now) ≡ character c.in-Char.ch c.in-Char.len
-  first = sym c.next_char-next.ensures ∙ ap as_character c.in-Char.is
-
-  here : Position c.args.text.now c.loop-at.at c.in-Char.ch c.in-Char.len
-  here = position _ _ first
-
-pub draw_char-requires : goal.draw_char-requires
-draw_char-requires c =
+pub draw_char-drawn-requires : goal.draw_char-drawn-requires
+draw_char-drawn-requires c =
     let i = c.loop-at.invariant.drawn in
     record {
       opened = c.requires.opened;
@@ -46,21 +39,27 @@ draw_char-requires c =
       fits = subst (λ (n : ℕ). Fits n c.args.context.framebuffer) (sym i.kept) c.requires.fits;
     }
 
--- .. was drawn
-module _ (c : goal.After-draw_char-drawn) where
+-- the character that was read, and drawn
+module _ (c : After-draw_char-drawn) where
+  first : first_character (drop c.loop-at.at c.args.text.now) ≡ character c.in-Char.ch c.in-Char.len
+  first = sym c.next_char-next.ensures ∙ ap as_character c.in-Char.is
+
+  here : Position c.args.text.now c.loop-at.at c.in-Char.ch c.in-Char.len
+  here = position _ _ first
+
   brings_it : {q : LookupSteps} → char_steps c.draw_char-drawn.result ≡ q → q ≡ brings (u8g2 c.args.font.now).steps c.in-Char.ch
   brings_it e = sym e ∙ c.draw_char-drawn.ensures.brought
 
   sum_fits : {q : LookupSteps} → char_steps c.draw_char-drawn.result ≡ q → Fits32 (plus_steps c.loop-at.steps q)
   sum_fits e =
       let s = c.requires in
-      summed_fits c.loop-at.invariant.summed (first c) (brings_it e) s.opened.least s.opened.most s.checked.short
+      summed_fits c.loop-at.invariant.summed first (brings_it e) s.opened.least s.opened.most s.checked.short
 
-pub add_steps-requires : goal.add_steps-requires
-add_steps-requires c = sum_fits c (ap char_steps c.in-Err.is)
+pub add_steps-sum-requires : goal.add_steps-sum-requires
+add_steps-sum-requires c = sum_fits (goal.at.add_steps-sum-requires c).After-draw_char-drawn (ap char_steps c.in-Err.is)
 
-pub add_steps-requires-2 : goal.add_steps-requires-2
-add_steps-requires-2 c = sum_fits c (ap char_steps c.in-Ok.is)
+pub add_steps-steps-requires : goal.add_steps-steps-requires
+add_steps-steps-requires c = sum_fits (goal.at.add_steps-steps-requires c).After-draw_char-drawn (ap char_steps c.in-Ok.is)
 
 pub returns-in-Err : goal.returns-in-Err
 returns-in-Err c =
@@ -69,19 +68,19 @@ returns-in-Err c =
     let d = c.draw_char-drawn.ensures in
     let stops = sym d.counted ∙ ap char_outcome is in
     record {
-      counted = sym (measured_stops c.requires.checked i.drawn.reached (first c) stops);
+      counted = sym (measured_stops c.requires.checked i.drawn.reached (first (goal.at.returns-in-Err c).After-draw_char-drawn) stops);
       summed = c.sum_with.ensures
-          ∙ sum_stops _ i.summed (first c) (brings_it c (ap char_steps is)) c.add_steps-sum.ensures c.args.pen.line_height
+          ∙ sum_stops _ i.summed (first (goal.at.returns-in-Err c).After-draw_char-drawn) (brings_it (goal.at.returns-in-Err c).After-draw_char-drawn (ap char_steps is)) c.add_steps-sum.ensures c.args.pen.line_height
           c.args.pen.origin c.loop-at.dimensions stops refl;
-      shown = drawn_stops _ _ _ _ _ _ _ _ _ c.requires.checked i.drawn (first c) stops d.shown;
+      shown = drawn_stops _ _ _ _ _ _ _ _ _ c.requires.checked i.drawn (first (goal.at.returns-in-Err c).After-draw_char-drawn) stops d.shown;
       reach = λ e k. impossible cc;
     }
 
 pub overflow_add-at : goal.overflow_add-at
-overflow_add-at c = let p = here c in omega (arith, c.requires.checked.short)
+overflow_add-at c = let p = here (goal.at.overflow_add-at c).After-draw_char-drawn in omega (arith, c.requires.checked.short)
 
 pub loop-at-smaller : goal.loop-at-smaller
-loop-at-smaller c = let p = here c in omega arith
+loop-at-smaller c = let p = here (goal.at.loop-at-smaller c).After-draw_char-drawn in omega arith
 
 pub loop-at-preserved : goal.loop-at-preserved
 loop-at-preserved c =
@@ -90,9 +89,9 @@ loop-at-preserved c =
     let d = c.draw_char-drawn.ensures in
     let goes = sym d.counted ∙ ap char_outcome is in
     record {
-      drawn = drawn_next _ _ _ _ _ _ _ _ _ c.requires.checked i.drawn (first c) (drawn_small c.requires.opened _) goes d.shown
+      drawn = drawn_next _ _ _ _ _ _ _ _ _ c.requires.checked i.drawn (first (goal.at.loop-at-preserved c).After-draw_char-drawn) (drawn_small c.requires.opened _) goes d.shown
           c.draw_char-drawn.auto.buffer;
-      summed = sum_next _ i.summed (first c) (brings_it c (ap char_steps is)) c.add_steps.ensures c.args.pen.line_height c.args.pen.origin
+      summed = sum_next _ i.summed (first (goal.at.loop-at-preserved c).After-draw_char-drawn) (brings_it (goal.at.loop-at-preserved c).After-draw_char-drawn (ap char_steps is)) c.add_steps-steps.ensures c.args.pen.line_height c.args.pen.origin
           c.loop-at.dimensions goes;
     }
 
