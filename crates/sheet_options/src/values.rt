@@ -2,7 +2,7 @@
 use sheet_extent::values::Options;
 
 // What the next word is read as: any word, after `align` the alignment, or after `at` the x and then the y of the place.
-#[derive(Drop)]
+#[derive(Clone, Copy)]
 pub enum Next {
     Any,
     Align,
@@ -11,7 +11,7 @@ pub enum Next {
 }
 
 // What the words so far ask for. A wrong word leaves `right` false.
-#[derive(Drop)]
+#[derive(Clone, Copy)]
 pub struct Asked {
     pub options: Options,
     pub next: Next,
@@ -19,14 +19,14 @@ pub struct Asked {
 }
 
 // A coordinate that a word writes in decimal.
-#[derive(Drop)]
+#[derive(Clone, Copy)]
 pub enum Number {
     Of(i32),
     NotOne,
 }
 
 // What digits write, or that another character stands among them.
-#[derive(Drop)]
+#[derive(Clone, Copy)]
 pub enum Digits {
     Value(u32),
     NotDigits,
