@@ -23,7 +23,7 @@ use utf8_sequences::NextChar;
 use utils::combine_bounding_boxes;
 
 // The text so far: the line from its own start, how far below the origin it lies, and the box of the lines that have ended.
-#[derive(Drop)]
+#[derive(Clone, Copy)]
 pub struct LineState {
     pub line: RenderedDimensions,
     pub advance_y: i32,

@@ -1,0 +1,6 @@
+-- A newline is code point 10; any other is looked up.
+use Rattle.text_lines.proofs.LinesLaws.{answer_room}
+use Rattle.text_lines.proofs.add_char.Goals as goal
+
+pub add_answer-requires : goal.add_answer-requires
+add_answer-requires c = answer_room c.requires.room
