@@ -15,32 +15,96 @@ use Rattle.checks.proofs.LimitLaws.{color_is}
 use Rattle.checks.proofs.SizeLaws.{size_fits}
 use Rattle.renderer.proofs.RenderLaws.{reported, reported_refused, font_refused, size_refused, position_refused, color_refused, drawn_whole_lem}
 use Rattle.renderer.proofs.aligned_drawing.aligned_drawing.Goals as goal
-
-abbrev asked : goal.Start → Request
-asked c = let a = c.args in request a.text.now a.placement a.style.vertical_pos a.horizontal_align
+use Rattle.renderer.proofs.aligned_drawing.aligned_drawing.Goals.{In-Ok, After-checked_origin}
 
 -- opening succeeded
-module _ (c : goal.In-Ok) where
-  opens : open_font c.args.font.now ≡ success c.in-Ok.head
-  opens = sym c.new_from_raw_data.ensures ∙ ap font_reader_outcome c.in-Ok.is
+opens : (c : In-Ok) → open_font c.args.font.now ≡ success c.in-Ok.head
+opens c = sym c.in-Ok.ensures
+
+-- .. the framebuffer has its size, and the place was tested
+module _ (c : After-checked_origin) where
+  abbrev asked : Request
+  asked = let a = c.args in request a.text.now a.placement a.style.vertical_pos a.horizontal_align
+
+  known : open_font c.args.font.now ≡ success c.in-Ok.head
+  known = sym c.in-Ok.ensures
 
   is_open : Opened c.args.font.now c.in-Ok.head
-  is_open = opened _ c.in-Ok.head opens
+  is_open = opened _ c.in-Ok.head known
 
   heights : SFits w8 c.in-Ok.head.ascent × SFits w8 c.in-Ok.head.descent
-  heights = heights_fit _ c.type_inv.font is_open
+  heights = heights_fit c.args.font.now (λ i. omega (arith, c.type_inv.font i)) is_open
 
--- .. the framebuffer has its size
-module _ (c : goal.Else-has_bad_size) where
   size_in : (framebuffer_cause c.args.framebuffer c.args.buffer.now).applies ≡ false
   size_in = sym c.has_bad_size.ensures ∙ c.if-has_bad_size.false
 
--- .. and the text and its place passed
-module _ (c : goal.In-Ok-origin) where
-  passes : tested c.args.font.now (opens c) (asked c) ≡ success c.in-Ok-origin.origin
-  passes = sym (simp (to_z-of_z, (heights c).0, (heights c).1) at c.checked_origin.ensures) ∙ ap origin_outcome c.in-Ok-origin.is
+  passed : origin_outcome c.checked_origin.result ≡ tested c.args.font.now known asked
+  passed = simp (to_z-of_z, heights.0, heights.1) at c.checked_origin.ensures
 
   -- the answer to the colour is the cause's
   color_tested : let a = c.args in (background_cause a.style.color (u8g2 a.font.now).background).applies
       ≡ background_off a.style.color c.in-Ok.head.supports_background_color
-  color_tested = sym (color_is (is_open c) c.args.style.color)
+  color_tested = sym (color_is is_open c.args.style.color)
+
+pub returns-in-Err : goal.returns-in-Err
+returns-in-Err c =
+    let a = c.args in
+    let q = request a.text.now a.placement a.style.vertical_pos a.horizontal_align in
+    let off = sym c.in-Err.ensures in
+    let told = reported_refused a.font.now q a.style.color a.framebuffer a.buffer.now c.refused.ensures
+    (font_refused a.font.now q a.style.color a.framebuffer a.buffer.now off) (open_early a.font.now off) in
+    record { answered = told.0; shown = told.1.0; summed = told.1.1 }
+
+pub returns-then-has_bad_size : goal.returns-then-has_bad_size
+returns-then-has_bad_size c =
+    let k = (goal.at.returns-then-has_bad_size c).In-Ok in
+    let a = c.args in
+    let q = request a.text.now a.placement a.style.vertical_pos a.horizontal_align in
+    let told = reported_refused a.font.now q a.style.color a.framebuffer a.buffer.now c.refused-then-has_bad_size.ensures
+    (size_refused a.font.now q a.style.color a.framebuffer a.buffer.now (opens k) (sym c.has_bad_size.ensures ∙ c.if-has_bad_size.true))
+    refl in
+    record { answered = told.0; shown = told.1.0; summed = told.1.1 }
+
+pub returns-in-Err-checked_origin : goal.returns-in-Err-checked_origin
+returns-in-Err-checked_origin c =
+    let k = (goal.at.returns-in-Err-checked_origin c).After-checked_origin in
+    let a = c.args in
+    let off = sym (passed k) ∙ ap origin_outcome c.in-Err-checked_origin.is in
+    let told = reported_refused a.font.now (asked k) a.style.color a.framebuffer a.buffer.now c.refused-in-Err-checked_origin.ensures
+    (position_refused a.font.now (asked k) a.style.color a.framebuffer a.buffer.now (known k) (size_in k) off)
+    (tested_early a.font.now (known k) (asked k) off) in
+    record { answered = told.0; shown = told.1.0; summed = told.1.1 }
+
+pub returns-then-has_bad_color : goal.returns-then-has_bad_color
+returns-then-has_bad_color c =
+    let k = (goal.at.returns-then-has_bad_color c).After-checked_origin in
+    let a = c.args in
+    let on = sym (passed k) ∙ ap origin_outcome c.in-Ok-checked_origin.is in
+    let told = reported_refused a.font.now (asked k) a.style.color a.framebuffer a.buffer.now c.refused-then-has_bad_color.ensures
+    (color_refused a.font.now (asked k) a.style.color a.framebuffer a.buffer.now (known k) (size_in k) on
+    (color_tested k ∙ sym c.has_bad_color.ensures ∙ c.if-has_bad_color.true))
+    refl in
+    record { answered = told.0; shown = told.1.0; summed = told.1.1 }
+
+pub draw_aligned-requires : goal.draw_aligned-requires
+draw_aligned-requires c =
+    let k = (goal.at.draw_aligned-requires c).After-checked_origin in
+    let a = c.args in
+    let on = sym (passed k) ∙ ap origin_outcome c.in-Ok-checked_origin.is in
+    record {
+      opened = is_open k;
+      checked = request_checked _ (known k) (asked k) (heights k).0 (heights k).1 on;
+      fits = size_fits a.framebuffer a.buffer.now (size_in k);
+    }
+
+pub returns-else-has_bad_color : goal.returns-else-has_bad_color
+returns-else-has_bad_color c =
+    let k = (goal.at.returns-else-has_bad_color c).After-checked_origin in
+    let a = c.args in
+    let on = sym (passed k) ∙ ap origin_outcome c.in-Ok-checked_origin.is in
+    let d = c.draw_aligned.ensures in
+    let whole = drawn_whole_lem a.font.now (asked k) a.style.color a.framebuffer a.buffer.now (known k) (size_in k) on
+    (color_tested k ∙ sym c.has_bad_color.ensures ∙ c.if-has_bad_color.false) in
+    let told = reported a.font.now (asked k) a.style.color a.framebuffer a.buffer.now c.draw_aligned.result
+    (d.told.counted ∙ whole.0, d.shown ∙ whole.1) d.told.summed in
+    record { answered = told.0; shown = told.1.0; summed = told.1.1 }

@@ -19,8 +19,8 @@ draw_text-requires c =
 pub draw_lines-requires : goal.draw_lines-requires
 draw_lines-requires c = (c.requires, subst Moves (sym c.in-Center.is) tt)
 
-pub draw_lines-requires-2 : goal.draw_lines-requires-2
-draw_lines-requires-2 c = (c.requires, subst Moves (sym c.in-Right.is) tt)
+pub draw_lines-requires-in-Right : goal.draw_lines-requires-in-Right
+draw_lines-requires-in-Right c = (c.requires, subst Moves (sym c.in-Right.is) tt)
 
 pub returns-in-Left : goal.returns-in-Left
 returns-in-Left c = plain_text c.in-Left.is c.no_dimensions.ensures c.draw_text.ensures

@@ -10,51 +10,54 @@ use Rattle.renderer.proofs.LineLoopLaws.{stopped_counted, stopped_shown, stopped
 use Rattle.renderer.proofs.lines.draw_lines.Goals as goal
 use Rattle.renderer.proofs.lines.draw_lines.Goals.{After-line_end-end}
 
-pub loop-init : goal.loop-init
-loop-init c =
+pub loop-error-init : goal.loop-error-init
+loop-error-init c =
     let a = c.args in
     simp (c.no_dimensions-dimensions.ensures, c.no_steps-steps.ensures)
     (lines_begin a.font.now a.text.now a.buffer.now a.setting a.context c.requires.0.checked)
 
 pub line_end-end-requires : goal.line_end-end-requires
-line_end-end-requires c = c.loop.invariant.summed.reached.inside
+line_end-end-requires c = c.loop-error.invariant.summed.reached.inside
 
 -- the line's end was found
 module _ (c : After-line_end-end) where
-  lent : take (c.line_end-end.result - c.loop.at) (drop c.loop.at c.args.text.now) ≡ line_of (drop c.loop.at c.args.text.now)
-  lent = line_lent _ _ _ _ _ c.loop.invariant c.line_end-end.ensures
+  lent : take (c.line_end-end.result - c.loop-error.at) (drop c.loop-error.at c.args.text.now) ≡ line_of (drop c.loop-error.at c.args.text.now)
+  lent = line_lent _ _ _ _ _ c.loop-error.invariant c.line_end-end.ensures
 
   within : c.line_end-end.result ≤ length c.args.text.now
   within =
-      let at = c.loop.at in
-      omega (arith, c.line_end-end.ensures, line_short (drop at c.args.text.now), length-drop at c.args.text.now, c.loop.invariant.summed.reached.inside)
+      let at = c.loop-error.at in
+      omega (arith, c.line_end-end.ensures, line_short (drop at c.args.text.now), length-drop at c.args.text.now, c.loop-error.invariant.summed.reached.inside)
 
-  last_here : c.line_end-end.result ≡ length c.args.text.now → length (drop c.loop.at c.args.text.now) ≤ length (line_of (drop c.loop.at c.args.text.now))
-  last_here e = omega (arith, c.line_end-end.ensures, length-drop c.loop.at c.args.text.now)
+  last_here : c.line_end-end.result ≡ length c.args.text.now → length (drop c.loop-error.at c.args.text.now) ≤ length (line_of (drop c.loop-error.at c.args.text.now))
+  last_here e = omega (arith, c.line_end-end.ensures, length-drop c.loop-error.at c.args.text.now)
 
-  more_here : (c.line_end-end.result ≡ length c.args.text.now → ⊥) → length (line_of (drop c.loop.at c.args.text.now)) < length (drop c.loop.at c.args.text.now)
-  more_here n = omega (arith, within, c.line_end-end.ensures, length-drop c.loop.at c.args.text.now, n)
+  more_here : (c.line_end-end.result ≡ length c.args.text.now → ⊥) → length (line_of (drop c.loop-error.at c.args.text.now)) < length (drop c.loop-error.at c.args.text.now)
+  more_here n = omega (arith, within, c.line_end-end.ensures, length-drop c.loop-error.at c.args.text.now, n)
+
+pub slice_bounds-draw_line-end : goal.slice_bounds-draw_line-end
+slice_bounds-draw_line-end c = within (goal.at.slice_bounds-draw_line-end c).After-line_end-end
 
 pub draw_line-drawn-requires : goal.draw_line-drawn-requires
 draw_line-drawn-requires c =
     let k = c.requires.0 in
-    line_drawable _ _ _ _ _ c.loop.invariant k.opened k.checked k.fits (lent (goal.at.draw_line-drawn-requires c).After-line_end-end)
+    line_drawable _ _ _ _ _ c.loop-error.invariant k.opened k.checked k.fits (lent (goal.at.draw_line-drawn-requires c).After-line_end-end)
 
 pub add_steps-sum-requires : goal.add_steps-sum-requires
 add_steps-sum-requires c =
     let p = c.requires.0 in
-    line_fits _ _ _ _ _ c.loop.invariant (lent (goal.at.add_steps-sum-requires c).After-line_end-end) _ c.draw_line-drawn.ensures (ap char_steps c.in-Err.is)
+    line_fits _ _ _ _ _ c.loop-error.invariant (lent (goal.at.add_steps-sum-requires c).After-line_end-end) _ c.draw_line-drawn.ensures (ap char_steps c.in-Err.is)
     p.opened.least p.opened.most p.checked.short
 
 pub add_steps-steps-requires : goal.add_steps-steps-requires
 add_steps-steps-requires c =
     let p = c.requires.0 in
-    line_fits _ _ _ _ _ c.loop.invariant (lent (goal.at.add_steps-steps-requires c).After-line_end-end) _ c.draw_line-drawn.ensures (ap char_steps c.in-Ok.is)
+    line_fits _ _ _ _ _ c.loop-error.invariant (lent (goal.at.add_steps-steps-requires c).After-line_end-end) _ c.draw_line-drawn.ensures (ap char_steps c.in-Ok.is)
     p.opened.least p.opened.most p.checked.short
 
 pub returns-in-Err : goal.returns-in-Err
 returns-in-Err c =
-    let i = c.loop.invariant in
+    let i = c.loop-error.invariant in
     let d = c.draw_line-drawn.ensures in
     let is = c.in-Err.is in
     let stop = ap char_outcome is in
@@ -63,33 +66,33 @@ returns-in-Err c =
     (stopped_shown _ _ _ _ _ i (lent (goal.at.returns-in-Err c).After-line_end-end) _ d stop)
     (c.sum_with.ensures ∙ stopped_summed _ _ _ _ _ i (lent (goal.at.returns-in-Err c).After-line_end-end) _ d stop (ap char_steps is) c.add_steps-sum.ensures refl)
 
-pub returns-then-end-eq-text : goal.returns-then-end-eq-text
-returns-then-end-eq-text c =
-    let i = c.loop.invariant in
+pub returns-then-end-text : goal.returns-then-end-text
+returns-then-end-text c =
+    let i = c.loop-error.invariant in
     let d = c.draw_line-drawn.ensures in
     let is = c.in-Ok.is in
     let goes = ap char_outcome is in
-    let over = last_here (goal.at.returns-then-end-eq-text c).After-line_end-end c.if-end-eq-text.true in
+    let over = last_here (goal.at.returns-then-end-text c).After-line_end-end c.if-end-text.true in
     as_text _ _ _ _ _ c.requires.1 _
-    (last_counted _ _ _ _ _ i (lent (goal.at.returns-then-end-eq-text c).After-line_end-end) _ d goes (ap char_steps is) c.add_steps-steps.ensures over)
-    (last_shown _ _ _ _ _ i (lent (goal.at.returns-then-end-eq-text c).After-line_end-end) _ d goes (ap char_steps is) c.add_steps-steps.ensures over)
-    (last_summed _ _ _ _ _ i (lent (goal.at.returns-then-end-eq-text c).After-line_end-end) _ d goes (ap char_steps is) c.add_steps-steps.ensures over)
+    (last_counted _ _ _ _ _ i (lent (goal.at.returns-then-end-text c).After-line_end-end) _ d goes (ap char_steps is) c.add_steps-steps.ensures over)
+    (last_shown _ _ _ _ _ i (lent (goal.at.returns-then-end-text c).After-line_end-end) _ d goes (ap char_steps is) c.add_steps-steps.ensures over)
+    (last_summed _ _ _ _ _ i (lent (goal.at.returns-then-end-text c).After-line_end-end) _ d goes (ap char_steps is) c.add_steps-steps.ensures over)
 
 pub add_newline-dimensions-requires : goal.add_newline-dimensions-requires
 add_newline-dimensions-requires c =
     let is = c.in-Ok.is in (
-      next_near _ _ _ _ _ c.loop.invariant (lent (goal.at.add_newline-dimensions-requires c).After-line_end-end) _ c.draw_line-drawn.ensures (ap char_outcome is) (ap char_steps is) c.add_steps-steps.ensures (more_here (goal.at.add_newline-dimensions-requires c).After-line_end-end c.if-end-eq-text.false),
+      next_near _ _ _ _ _ c.loop-error.invariant (lent (goal.at.add_newline-dimensions-requires c).After-line_end-end) _ c.draw_line-drawn.ensures (ap char_outcome is) (ap char_steps is) c.add_steps-steps.ensures (more_here (goal.at.add_newline-dimensions-requires c).After-line_end-end c.if-end-text.false),
       c.requires.0.checked.line,
     )
 
 pub overflow_add-at : goal.overflow_add-at
 overflow_add-at c = omega (arith, within (goal.at.overflow_add-at c).After-line_end-end, c.requires.0.checked.short)
 
-pub loop-smaller : goal.loop-smaller
-loop-smaller c = omega (arith, within (goal.at.loop-smaller c).After-line_end-end, c.line_end-end.ensures)
+pub loop-error-smaller : goal.loop-error-smaller
+loop-error-smaller c = omega (arith, within (goal.at.loop-error-smaller c).After-line_end-end, c.line_end-end.ensures)
 
-pub loop-preserved : goal.loop-preserved
-loop-preserved c =
+pub loop-error-preserved : goal.loop-error-preserved
+loop-error-preserved c =
     let is = c.in-Ok.is in
-    next_turn _ _ _ _ _ c.loop.invariant (lent (goal.at.loop-preserved c).After-line_end-end) _ c.draw_line-drawn.ensures (ap char_outcome is) (ap char_steps is) c.add_steps-steps.ensures
-    (more_here (goal.at.loop-preserved c).After-line_end-end c.if-end-eq-text.false) c.add_newline-dimensions.ensures c.line_end-end.ensures
+    next_turn _ _ _ _ _ c.loop-error.invariant (lent (goal.at.loop-error-preserved c).After-line_end-end) _ c.draw_line-drawn.ensures (ap char_outcome is) (ap char_steps is) c.add_steps-steps.ensures
+    (more_here (goal.at.loop-error-preserved c).After-line_end-end c.if-end-text.false) c.add_newline-dimensions.ensures c.line_end-end.ensures
