@@ -1,6 +1,6 @@
 -- `fill_with_rubbish` meets its contract: WriteLaws.antt of buffers has the step. Assumes nothing.
 use Rattle.integers.proofs.Prelude.{refl, arith}
-use Rattle.buffers.proofs.WriteLaws.{none_written, write_next}
+use Rattle.buffers.proofs.WriteLaws.{write_next}
 use Rattle.sheet_ground.proofs.GroundLaws.{all_rubbish}
 use Rattle.sheet_ground.proofs.ground.fill_with_rubbish.Goals as goal
 
