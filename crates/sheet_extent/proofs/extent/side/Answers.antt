@@ -1,5 +1,5 @@
 -- `side` meets its contract: in 64 bits the sums fit, and ExtentLaws.antt has the tests. Assumes nothing.
-use Rattle.integers.proofs.Prelude.{ℤ, pos, ◌+ℤ◌, ◌≤ℤ◌, w32, w64, SFits, to_z-of_z, sfits_widen}
+use Rattle.integers.proofs.Prelude.{ℤ, pos, ◌+ℤ◌, w32, w64, SFits, to_z-of_z, sfits_widen}
 use Rattle.integers.proofs.Laws.{zarith, plus, range}
 use Rattle.sheet_extent.specs.Extent.{NearEdge}
 use Rattle.sheet_extent.proofs.ExtentLaws.{whole_side}
