@@ -8,7 +8,7 @@ use Rattle.definitions.specs.Header.{Opened}
 use Rattle.definitions.specs.Utf8.{character, first_character, decode, code_points}
 use Rattle.definitions.specs.Text.{Answer, shows}
 use Rattle.definitions.specs.TextSteps.{step, step_shown, draw_from}
-use Rattle.definitions.specs.Font.{u8g2, drawn_answer, pixels_of}
+use Rattle.definitions.specs.Font.{u8g2, drawn_answer}
 use Rattle.definitions.specs.Sums.{plus_steps, brings, sums}
 use Rattle.definitions.proofs.LetterRefusals.{drawn_blames}
 use Rattle.definitions.proofs.GlyphLaws.{glyph_range}

@@ -12,7 +12,7 @@ use Rattle.definitions.specs.Header.{Opened}
 use Rattle.definitions.specs.Lookup.{no_steps}
 use Rattle.definitions.specs.Geometry.{join}
 use Rattle.definitions.specs.Utf8.{characters, decode, code_points, is_utf8, newlines}
-use Rattle.definitions.specs.Text.{Answer, stops, Layout, join_all, point, dimensions_of, dimensions, Lines, last, lines, newline, line_by_line}
+use Rattle.definitions.specs.Text.{Answer, stops, Layout, join_all, point, dimensions_of, dimensions, Lines, lines, newline, line_by_line}
 use Rattle.definitions.specs.TextSteps.{newline_step, start}
 use Rattle.definitions.specs.Font.{u8g2, pixels_of}
 use Rattle.definitions.specs.Picture.{text_picture}

@@ -1,12 +1,11 @@
 -- The causes are tested in the definition's order; where none applies, the text is drawn. RenderLaws says what is left of a call.
 use Rattle.integers.proofs.Prelude.{◌≡◌, refl, sym, ap, ◌∙◌, false, arith, w8, SFits, to_z-of_z}
-use Rattle.definitions.specs.Vocabulary.{FontReader}
 use Rattle.definitions.specs.Refusals.{success}
 use Rattle.definitions.specs.Header.{Opened}
 use Rattle.definitions.specs.Font.{u8g2}
 use Rattle.definitions.specs.Framebuffer.{framebuffer_cause}
 use Rattle.definitions.specs.Limits.{background_off, background_cause}
-use Rattle.definitions.specs.Calls.{open_font, Request, request, font_reader_outcome}
+use Rattle.definitions.specs.Calls.{open_font, Request, request}
 use Rattle.definitions.proofs.OpenedLaws.{opened, heights_fit}
 use Rattle.definitions.proofs.SumsLaws.{open_early}
 use Rattle.checks.specs.Origins.{origin_outcome}

@@ -1,7 +1,5 @@
 -- The loop keeps that the rest of the text leads from the lines so far to where the whole text leads from its start (`LinesTo`).
-use Rattle.integers.proofs.Prelude.{◌≡◌, refl, ap, ◌∙◌, ◌+◌, ◌-◌, ◌≤◌, ◌<◌, arith, length, take, drop, length-drop}
-use Rattle.definitions.specs.Vocabulary.{LookupSteps}
-use Rattle.definitions.specs.Sums.{plus_steps, Fits32}
+use Rattle.integers.proofs.Prelude.{◌≡◌, refl, ap, ◌∙◌, ◌-◌, ◌≤◌, ◌<◌, arith, length, take, drop, length-drop}
 use Rattle.layout.specs.CharResults.{char_outcome, char_steps}
 use Rattle.renderer.specs.Lines.{line_of}
 use Rattle.renderer.proofs.FirstLineLaws.{line_short}
