@@ -8,7 +8,7 @@ invariant-loop-i g l = record {
   font-long : length l.font ≡ length l.initial.font;
   text-long : length l.text ≡ length l.initial.text;
   framebuffer-long : length l.framebuffer ≡ length l.initial.framebuffer;
-  within : l.at ≤ 1048576
+  within : l.at ≤ 1048576;
 }
 
 abbrev pub decreases-loop-i : goal.decreases-loop-i
