@@ -1,0 +1,26 @@
+-- The answer is what drawing ensures once the codes have a meaning.
+use Rattle.integers.proofs.Prelude.{refl, ap, ◌∙◌, to_z-of_z}
+use Rattle.c_values.specs.Replies.{aligned_reply}
+use Rattle.c_codes.proofs.CodesLaws.{has_room}
+use Rattle.c_values.proofs.RepliesLaws.{not_drawn, drawn}
+use Rattle.c_api.proofs.papayahelm_draw_aligned.Goals as goal
+
+pub returns-in_default : goal.returns-in_default
+returns-in_default c =
+    let n = not_drawn c.in_default.ensures _ _ _ _ refl in
+    record { answered = n.0; shown = n.1 }
+
+pub store-requires : goal.store-requires
+store-requires c = has_room _ _ _ _ _ c.in-Known.ensures refl
+
+pub returns : goal.returns
+returns c =
+    let call = c.render_aligned-report.ensures in
+    let style = c.style_of-style.ensures in
+    let answered = simp (to_z-of_z, c.ranges.x, c.ranges.y, style) at call.answered in
+    let shown = simp (to_z-of_z, c.ranges.x, c.ranges.y, style) at call.shown in
+    let summed = simp (to_z-of_z, c.ranges.x, c.ranges.y, style) at call.summed in
+    let d =
+    drawn c.in-Known.ensures _ _ _ _ refl (c.of_bounding_box.ensures ∙ ap aligned_reply answered) summed c.store.ensures shown
+    in
+    record { answered = d.0; shown = d.1 }
