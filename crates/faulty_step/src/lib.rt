@@ -19,7 +19,7 @@ use types::place::Place;
 use types::results::DimensionsResult;
 
 // What is tried: the place of the readings, and whether with a fault put in, one column too few being filled.
-#[derive(Drop)]
+#[derive(Clone, Copy)]
 pub struct Trial {
     pub place: Place,
     pub narrow: bool,
