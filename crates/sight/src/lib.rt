@@ -10,7 +10,7 @@ use types::geometry::BoundingBox;
 use types::results::DimensionsResult;
 
 // A text without a pixel is not seen.
-#[derive(Drop)]
+#[derive(Clone, Copy)]
 pub enum Sight {
     Whole,
     Part,
