@@ -15,8 +15,8 @@ loop-k-init g c =
       counts = c.no_totals-totals.ensures ∙ start_totals a.trial.narrow a.font.now a.trial.place a.ground.now;
     }
 
-pub counted-requires : goal.counted-requires
-counted-requires g c =
+pub counted-totals-requires : goal.counted-totals-requires
+counted-totals-requires g c =
     let a = c.args in
     few a.trial.narrow a.font.now a.trial.place a.ground.now c.loop-k-test.true c.loop-k.invariant.counts
 

@@ -9,7 +9,7 @@ invariant-loop-k g l = record {
   screen-length : length l.screen ≡ length l.initial.screen;
   alone-length : length l.alone ≡ length l.initial.alone;
   here : screen_of l.old l.screen ≡ screen_at l.trial.narrow l.font l.trial.place l.ground l.k;
-  counts : l.totals ≡ totals_to l.trial.narrow l.font l.trial.place l.ground l.k
+  counts : l.totals ≡ totals_to l.trial.narrow l.font l.trial.place l.ground l.k;
 }
 
 abbrev pub decreases-loop-k : goal.decreases-loop-k
