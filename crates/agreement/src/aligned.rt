@@ -12,7 +12,7 @@ use types::results::BoundingBoxReport;
 use types::style::{FontStyle, HorizontalAlignment, Placement};
 
 // What each of the four calls answered.
-#[derive(Drop)]
+#[derive(Clone, Copy)]
 pub struct AlignedAnswers {
     pub first: BoundingBoxReport,
     pub second: BoundingBoxReport,

@@ -12,7 +12,7 @@ use types::results::DimensionsReport;
 use types::style::{FontStyle, Placement};
 
 // What each of the four calls answered.
-#[derive(Drop)]
+#[derive(Clone, Copy)]
 pub struct Answers {
     pub first: DimensionsReport,
     pub second: DimensionsReport,

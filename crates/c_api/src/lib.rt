@@ -169,12 +169,12 @@ pub extern "C" fn papayahelm_draw(
     let Codes::Known(m) = known_codes(anchor, 0, skip, background, out.len()) else {
         return BAD_ARGUMENT;
     };
+    let style = style_of(m, fg, bg);
     let placement = Placement {
         position: Point { x, y },
         line_height,
         ignore_unknown_chars: m.skip,
     };
-    let style = style_of(m, fg, bg);
     let framebuffer = Framebuffer { width, height };
     let report = render(font, text, placement, style, framebuffer, buffer);
     let result = report.result;
@@ -214,12 +214,12 @@ pub extern "C" fn papayahelm_draw_aligned(
         return BAD_ARGUMENT;
     };
     let horizontal_align = m.horizontal_align;
+    let style = style_of(m, fg, bg);
     let placement = Placement {
         position: Point { x, y },
         line_height,
         ignore_unknown_chars: m.skip,
     };
-    let style = style_of(m, fg, bg);
     let framebuffer = Framebuffer { width, height };
     let report = render_aligned(
         font,

@@ -6,25 +6,25 @@ ghost use Rattle.c_codes.specs.Codes.{anchor_of, alignment_of, flag_of, meaning_
 
 use types::style::{FontColor, FontStyle, HorizontalAlignment, VerticalPosition};
 
-#[derive(Drop)]
+#[derive(Clone, Copy)]
 pub enum Anchor {
     Known(VerticalPosition),
     Unknown,
 }
 
-#[derive(Drop)]
+#[derive(Clone, Copy)]
 pub enum Alignment {
     Known(HorizontalAlignment),
     Unknown,
 }
 
-#[derive(Drop)]
+#[derive(Clone, Copy)]
 pub enum Flag {
     Known(bool),
     Unknown,
 }
 
-#[derive(Drop)]
+#[derive(Clone, Copy)]
 pub struct Meaning {
     pub vertical_pos: VerticalPosition,
     pub horizontal_align: HorizontalAlignment,
@@ -32,7 +32,7 @@ pub struct Meaning {
     pub background: bool,
 }
 
-#[derive(Drop)]
+#[derive(Clone, Copy)]
 pub enum Codes {
     Known(Meaning),
     Unknown,

@@ -11,7 +11,7 @@ use types::steps::LookupSteps;
 use utils::error::{error_code_point, error_number};
 
 // The numbers are as wide as every value that goes into them.
-#[derive(Drop)]
+#[derive(Clone, Copy)]
 pub struct Reply {
     pub status: u32,
     pub code_point: i64,

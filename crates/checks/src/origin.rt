@@ -20,7 +20,7 @@ pub struct Pen {
     pub ignore_unknown_chars: bool,
 }
 
-#[derive(Drop)]
+#[derive(Clone, Copy)]
 pub enum OriginResult {
     Ok(Point),
     Err(Error),

@@ -12,7 +12,7 @@ use types::results::DimensionsResult;
 use types::style::{FontColor, FontStyle, HorizontalAlignment, Placement, VerticalPosition};
 
 // How the lines of a text are set: how far below a line the next one lies, and which side of each stands at the text's x.
-#[derive(Drop)]
+#[derive(Clone, Copy)]
 pub struct Setting {
     pub line_height: u32,
     pub align: HorizontalAlignment,

@@ -15,7 +15,7 @@ use unicode_jumptable_reader::{JumpOffset, calculate_jump_offset};
 // Where the records begin: the first byte after the header.
 const U8G2_FONT_DATA_STRUCT_SIZE: usize = 23;
 
-#[derive(Drop)]
+#[derive(Clone, Copy)]
 pub enum SearchResult {
     // the glyph begins at this byte
     Found(usize, LookupSteps),

@@ -19,7 +19,7 @@ use types::steps::LookupSteps;
 use types::style::HorizontalAlignment;
 
 // The pen of a line, or why the line is stopped; with the steps of its lookups either way.
-#[derive(Drop)]
+#[derive(Clone, Copy)]
 pub enum PenResult {
     Ok(Pen, LookupSteps),
     Err(Error, LookupSteps),

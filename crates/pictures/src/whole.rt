@@ -13,7 +13,7 @@ use types::geometry::{BoundingBox, Point, Rectangle, RenderedDimensions, Size};
 use types::results::{DimensionsResult, FontReaderResult};
 use types::style::{FontColor, HorizontalAlignment, Placement, VerticalPosition};
 
-#[derive(Drop)]
+#[derive(Clone, Copy)]
 pub enum DrawResult {
     // the answer and the framebuffer's size; its pixels begin the buffer
     Drawn(RenderedDimensions, Size),

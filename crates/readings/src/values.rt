@@ -3,7 +3,7 @@ use types::results::DimensionsResult;
 
 // What is found of one step: its answer, the number of the reading that the next step is to clear, and how many pixels of the
 // screen are not what it is to show.
-#[derive(Drop)]
+#[derive(Clone, Copy)]
 pub struct Found {
     pub answer: DimensionsResult,
     pub old: usize,

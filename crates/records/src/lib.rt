@@ -9,7 +9,7 @@ ghost use Rattle.records.specs.Records.{as_record, record_of};
 
 use utils::big_endian::u16_at;
 
-#[derive(Drop)]
+#[derive(Clone, Copy)]
 pub enum Record {
     // the glyph begins so many bytes on
     Here(u8),

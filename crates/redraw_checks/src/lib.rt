@@ -15,14 +15,14 @@ use types::results::FontReaderResult;
 use types::style::Placement;
 
 // The header that was read, and what each text is set with.
-#[derive(Drop)]
+#[derive(Clone, Copy)]
 pub struct Step {
     pub head: FontReader,
     pub old_pen: Pen,
     pub new_pen: Pen,
 }
 
-#[derive(Drop)]
+#[derive(Clone, Copy)]
 pub enum StepResult {
     Ok(Step),
     Err(Error),

@@ -2,7 +2,7 @@
 use sheet_totals::Totals;
 
 // The totals, and whether all pictures were written.
-#[derive(Drop)]
+#[derive(Clone, Copy)]
 pub struct Sheet {
     pub totals: Totals,
     pub written: bool,

@@ -8,7 +8,7 @@ use types::results::DimensionsResult;
 use utils::error::{error_code_point, error_number};
 
 // Readings one after the other that are refused for one cause, the first and the last of them.
-#[derive(Drop)]
+#[derive(Clone, Copy)]
 pub enum Refusals {
     Not,
     Since(usize, usize, Error),

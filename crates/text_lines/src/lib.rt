@@ -31,7 +31,7 @@ pub struct LineState {
 }
 
 // What a character comes to, with the steps of its lookup either way.
-#[derive(Drop)]
+#[derive(Clone, Copy)]
 pub enum LineResult {
     Ok(LineState, LookupSteps),
     Err(Error, LookupSteps),

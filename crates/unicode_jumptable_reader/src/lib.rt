@@ -8,7 +8,7 @@ ghost use Rattle.unicode_jumptable_reader.specs.Distances.{distance};
 use utils::big_endian::u16_at;
 
 // How far from the table the records begin, or none if the table ends before; and how many entries were read.
-#[derive(Drop)]
+#[derive(Clone, Copy)]
 pub enum JumpOffset {
     Some(usize, u32),
     None(u32),

@@ -6,7 +6,7 @@ ghost use Rattle.definitions.specs.Utf8.{is_in, two, three, four, sequence};
 ghost use Rattle.utf8_sequences.specs.Sequences.{as_character};
 
 // The character at a position of a text: its code point and how many bytes it has.
-#[derive(Drop)]
+#[derive(Clone, Copy)]
 pub enum NextChar {
     Char(u32, usize),
     Malformed,
