@@ -1,4 +1,4 @@
--- The kit's copy between buffers of one length. Assumes nothing.
+-- A buffer copied whole onto another of its length. Assumes nothing.
 use Rattle.integers.proofs.Prelude.{◌≡◌, List, ◌++◌, append-nil, ℕ, ◌≤◌, arith, length, take, drop, drop_of_length-le, take-length}
 
 pub whole : (from to : List ℕ) → length from ≡ length to → take (length from) from ++ drop (length from) to ≡ from

@@ -11,7 +11,7 @@ use Rattle.definitions.specs.Header.{header}
 use Rattle.definitions.specs.Lookup.{Search, found, missing, short, search, steps_of}
 use Rattle.definitions.specs.Glyph.{fields, from_search, glyph}
 use Rattle.definitions.specs.Geometry.{InsideBox}
-use Rattle.definitions.specs.Text.{Answer, shows, nothing, answer, join_all, Layout, point, dimensions_of, dimensions}
+use Rattle.definitions.specs.Text.{Answer, shows, nothing, answer, join_all, Layout, dimensions_of, dimensions}
 use Rattle.definitions.specs.Runs.{Pixels, pixels, cut}
 use Rattle.definitions.specs.Font.{Font, u8g2, measured_answer, with_runs, drawable, drawn_answer, pixel_list, pixels_of}
 use Rattle.definitions.specs.Picture.{Paint, text_picture}

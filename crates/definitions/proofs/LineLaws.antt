@@ -5,7 +5,7 @@ use Rattle.definitions.specs.Vocabulary.{Point, RenderedDimensions, GlyphReader,
 use Rattle.definitions.specs.Refusals.{Outcome, success, refused}
 use Rattle.definitions.specs.Geometry.{join}
 use Rattle.definitions.specs.Runs.{Pixels, pixels, cut}
-use Rattle.definitions.specs.Text.{Answer, shows, nothing, stops, answer, Placed, box_of, join_all, Layout, point, before, place, letters, Lines, last, first, newline, line_by_line}
+use Rattle.definitions.specs.Text.{Answer, shows, nothing, stops, answer, Placed, box_of, join_all, Layout, point, place, letters, Lines, last, first, newline, line_by_line}
 use Rattle.definitions.specs.Text.{horizontal_offset, with_offset, moved_line}
 use Rattle.definitions.specs.Font.{Font, measured_answer, with_runs, drawable, drawn_answer}
 use Rattle.definitions.specs.Picture.{box_picture, text_picture}
