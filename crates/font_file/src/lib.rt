@@ -8,7 +8,7 @@ use std::io::{Error, Read};
 use std::rt::Files;
 
 // What comes of reading a font file into a buffer.
-#[derive(Drop)]
+#[derive(Clone, Copy)]
 pub enum FontFile {
     // the font's bytes begin the buffer, and there are so many of them
     Length(usize),
