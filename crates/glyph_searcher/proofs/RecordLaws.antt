@@ -59,3 +59,6 @@ module _ (width c : ℕ) where
 
     pub next_further : (jump : ℕ) → next jump ≡ record_of width c (drop at font) → (at < length font) × (0 < jump)
     next_further jump e = further jump (sym e)
+
+-- .. by one name, as the proof of `search_chain` takes them.
+pub ruleset records_come = (comes_here, comes_next, comes_last, comes_end, comes_cut, next_further)

@@ -28,7 +28,7 @@ pub enum SearchResult {
 // The chain from the record at `start` on, of records whose codes have char_width bytes, after so many entries of the jump
 // table. A record counts where its code was looked at: one that ends the chain by its jump does from 256 on, and does not up to
 // 255 (amended by A3).
-#[tactic(auto, using(crate::proofs::RecordLaws::comes_here, crate::proofs::RecordLaws::comes_next, crate::proofs::RecordLaws::comes_last, crate::proofs::RecordLaws::comes_end, crate::proofs::RecordLaws::comes_cut, crate::proofs::RecordLaws::next_further))]
+#[tactic(auto, using(crate::proofs::RecordLaws::records_come))]
 fn search_chain(font: &[u8], start: usize, ch: u16, char_width: usize, entries: u32) -> SearchResult
     requires { InLimits (length font.now) start }
     ensures { searched result ≡ chain (record_of char_width ch) (after_entries entries) 0 start font.now }
@@ -71,7 +71,7 @@ fn chain_start(head: FontReader, ch: u32) -> usize
 
 // Code points from 256 to 65535: the jump table begins at `table`, and leads to the chain. Each may
 // begin exactly at the font's end, but not past it.
-#[tactic(auto, using(definitions::proofs::LookupLaws::table_past, definitions::proofs::LookupLaws::table_none, definitions::proofs::LookupLaws::table_sum, definitions::proofs::LookupLaws::chain_past, definitions::proofs::LookupLaws::looks16))]
+#[tactic(auto, using(crate::proofs::TableRules::table_leads))]
 fn search_unicode(font: &[u8], table: usize, encoding: u16) -> SearchResult
     requires { (23 ≤ length font.now) × (length font.now ≤ 1048576) }
     ensures { searched result ≡ search_table font.now table encoding }

@@ -1,5 +1,4 @@
--- The loop keeps that the rest of the text draws from here on what the whole text draws from its start (`DrawnTo`), and that the
--- steps so far are added up (`Summed`).
+-- LetterLaws and SumLoopLaws have the loop's steps and its ends; here they are applied to the character that was read.
 use Rattle.integers.proofs.Prelude.{◌≡◌, refl, sym, ap, subst, ◌∙◌, ℕ, arith, drop}
 use Rattle.integers.proofs.Choices.{impossible}
 use Rattle.definitions.specs.Vocabulary.{RenderedDimensions, LookupSteps}
@@ -63,17 +62,18 @@ add_steps-steps-requires c = sum_fits (goal.at.add_steps-steps-requires c).After
 
 pub returns-in-Err : goal.returns-in-Err
 returns-in-Err c =
+    let k = (goal.at.returns-in-Err c).After-draw_char-drawn in
     let is = c.in-Err.is in
     let i = c.loop-at.invariant in
     let d = c.draw_char-drawn.ensures in
     let stops = sym d.counted ∙ ap char_outcome is in
     record {
-      counted = sym (measured_stops c.requires.checked i.drawn.reached (first (goal.at.returns-in-Err c).After-draw_char-drawn) stops);
+      counted = sym (measured_stops c.requires.checked i.drawn.reached (first k) stops);
       summed = c.sum_with.ensures
-          ∙ sum_stops _ i.summed (first (goal.at.returns-in-Err c).After-draw_char-drawn) (brings_it (goal.at.returns-in-Err c).After-draw_char-drawn (ap char_steps is)) c.add_steps-sum.ensures c.args.pen.line_height
+          ∙ sum_stops _ i.summed (first k) (brings_it k (ap char_steps is)) c.add_steps-sum.ensures c.args.pen.line_height
           c.args.pen.origin c.loop-at.dimensions stops refl;
-      shown = drawn_stops _ _ _ _ _ _ _ _ _ c.requires.checked i.drawn (first (goal.at.returns-in-Err c).After-draw_char-drawn) stops d.shown;
-      reach = λ e k. impossible cc;
+      shown = drawn_stops _ _ _ _ _ _ _ _ _ c.requires.checked i.drawn (first k) stops d.shown;
+      reach = λ e h. impossible cc;
     }
 
 pub overflow_add-at : goal.overflow_add-at
@@ -84,15 +84,16 @@ loop-at-smaller c = let p = here (goal.at.loop-at-smaller c).After-draw_char-dra
 
 pub loop-at-preserved : goal.loop-at-preserved
 loop-at-preserved c =
+    let k = (goal.at.loop-at-preserved c).After-draw_char-drawn in
     let is = c.in-Ok.is in
     let i = c.loop-at.invariant in
     let d = c.draw_char-drawn.ensures in
     let goes = sym d.counted ∙ ap char_outcome is in
     record {
-      drawn = drawn_next _ _ _ _ _ _ _ _ _ c.requires.checked i.drawn (first (goal.at.loop-at-preserved c).After-draw_char-drawn) (drawn_small c.requires.opened _) goes d.shown
+      drawn = drawn_next _ _ _ _ _ _ _ _ _ c.requires.checked i.drawn (first k) (drawn_small c.requires.opened _) goes d.shown
           c.draw_char-drawn.auto.buffer;
-      summed = sum_next _ i.summed (first (goal.at.loop-at-preserved c).After-draw_char-drawn) (brings_it (goal.at.loop-at-preserved c).After-draw_char-drawn (ap char_steps is)) c.add_steps-steps.ensures c.args.pen.line_height c.args.pen.origin
-          c.loop-at.dimensions goes;
+      summed = sum_next _ i.summed (first k) (brings_it k (ap char_steps is)) c.add_steps-steps.ensures c.args.pen.line_height
+          c.args.pen.origin c.loop-at.dimensions goes;
     }
 
 pub returns : goal.returns

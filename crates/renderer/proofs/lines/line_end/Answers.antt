@@ -1,4 +1,4 @@
--- The loop keeps that the line ends where the line from `end` on does.
+-- FirstLineLaws has each step: the byte is a newline, another, or none.
 use Rattle.integers.proofs.Prelude.{arith}
 use Rattle.renderer.proofs.FirstLineLaws.{line_ends, line_goes_on, line_over}
 use Rattle.renderer.proofs.lines.line_end.Goals as goal
