@@ -16,7 +16,7 @@ ghost use Rattle.c_values.specs.Replies.{Answers, drawn_by, box_reply, text_repl
 ghost use Rattle.c_values.specs.Headers.{Opens};
 ghost use Rattle.c_api.specs.Places.{place_by};
 
-use c_codes::{Codes, known_codes, style_of};
+use c_codes::known_codes;
 use c_values::header::store_header;
 use c_values::reply::{of_bounding_box, of_dimensions, of_rectangle, store};
 use font_reader::new_from_raw_data;
@@ -31,7 +31,6 @@ use types::framebuffer::Framebuffer;
 use types::geometry::Point;
 use types::place::Place;
 use types::results::FontReaderResult;
-use types::style::Placement;
 use utils::error::error_number;
 
 const BAD_ARGUMENT: u32 = 255;
@@ -60,7 +59,7 @@ pub extern "C" fn papayahelm_font_box(font: &[u8], anchor: u32, out: &mut [i64])
         (λ m. without_steps (box_reply (font_bounding_box font.now m.vertical_pos))) result out.old
         out.new }
 {
-    let Codes::Known(m) = known_codes(anchor, 0, 0, 0, out.len()) else {
+    let Some(m) = known_codes(anchor, 0, 0, 0, out.len()) else {
         return BAD_ARGUMENT;
     };
     let vertical_pos = m.vertical_pos;
@@ -85,15 +84,11 @@ pub extern "C" fn papayahelm_measure(
         (plain text.now (placed_by m x y line_height) m.vertical_pos))) result out.old
         out.new }
 {
-    let Codes::Known(m) = known_codes(anchor, 0, skip, 0, out.len()) else {
+    let Some(m) = known_codes(anchor, 0, skip, 0, out.len()) else {
         return BAD_ARGUMENT;
     };
     let vertical_pos = m.vertical_pos;
-    let placement = Placement {
-        position: Point { x, y },
-        line_height,
-        ignore_unknown_chars: m.skip,
-    };
+    let placement = m.placement(x, y, line_height);
     let report = get_rendered_dimensions(font, text, placement, vertical_pos);
     let result = report.result;
     let steps = report.steps;
@@ -118,16 +113,12 @@ pub extern "C" fn papayahelm_measure_aligned(
         (request text.now (placed_by m x y line_height) m.vertical_pos m.horizontal_align))) result
         out.old out.new }
 {
-    let Codes::Known(m) = known_codes(anchor, align, skip, 0, out.len()) else {
+    let Some(m) = known_codes(anchor, align, skip, 0, out.len()) else {
         return BAD_ARGUMENT;
     };
     let vertical_pos = m.vertical_pos;
     let horizontal_align = m.horizontal_align;
-    let placement = Placement {
-        position: Point { x, y },
-        line_height,
-        ignore_unknown_chars: m.skip,
-    };
+    let placement = m.placement(x, y, line_height);
     let report = get_rendered_dimensions_aligned(
         font,
         text,
@@ -166,15 +157,11 @@ pub extern "C" fn papayahelm_draw(
         (λ m. draw_buffer (u8g2 font.now) (plain text.now (placed_by m x y line_height)
         m.vertical_pos) (ink_of m.background fg bg) (sized width height) buffer.old) buffer.old }
 {
-    let Codes::Known(m) = known_codes(anchor, 0, skip, background, out.len()) else {
+    let Some(m) = known_codes(anchor, 0, skip, background, out.len()) else {
         return BAD_ARGUMENT;
     };
-    let style = style_of(m, fg, bg);
-    let placement = Placement {
-        position: Point { x, y },
-        line_height,
-        ignore_unknown_chars: m.skip,
-    };
+    let style = m.style(fg, bg);
+    let placement = m.placement(x, y, line_height);
     let framebuffer = Framebuffer { width, height };
     let report = render(font, text, placement, style, framebuffer, buffer);
     let result = report.result;
@@ -210,16 +197,12 @@ pub extern "C" fn papayahelm_draw_aligned(
         m.vertical_pos m.horizontal_align) (ink_of m.background fg bg) (sized width height)
         buffer.old) buffer.old }
 {
-    let Codes::Known(m) = known_codes(anchor, align, skip, background, out.len()) else {
+    let Some(m) = known_codes(anchor, align, skip, background, out.len()) else {
         return BAD_ARGUMENT;
     };
     let horizontal_align = m.horizontal_align;
-    let style = style_of(m, fg, bg);
-    let placement = Placement {
-        position: Point { x, y },
-        line_height,
-        ignore_unknown_chars: m.skip,
-    };
+    let style = m.style(fg, bg);
+    let placement = m.placement(x, y, line_height);
     let framebuffer = Framebuffer { width, height };
     let report = render_aligned(
         font,
@@ -267,11 +250,11 @@ pub extern "C" fn papayahelm_redraw(
         (ground_of (place_by m x y line_height fg bg clear_color (sized width height)) buffer.old))
         buffer.old }
 {
-    let Codes::Known(m) = known_codes(anchor, align, 0, background, out.len()) else {
+    let Some(m) = known_codes(anchor, align, 0, background, out.len()) else {
         return BAD_ARGUMENT;
     };
     let horizontal_align = m.horizontal_align;
-    let style = style_of(m, fg, bg);
+    let style = m.style(fg, bg);
     let place = Place {
         position: Point { x, y },
         style,

@@ -2,27 +2,10 @@
 #![tactic(auto)]
 
 ghost use Rattle.std.specs.Prelude.{◌≡◌};
-ghost use Rattle.c_codes.specs.Codes.{anchor_of, alignment_of, flag_of, meaning_of, style_of};
+ghost use Rattle.c_codes.specs.Codes.{anchor_of, alignment_of, flag_of, meaning_of, placed_by, style_of};
 
-use types::style::{FontColor, FontStyle, HorizontalAlignment, VerticalPosition};
-
-#[derive(Clone, Copy)]
-pub enum Anchor {
-    Known(VerticalPosition),
-    Unknown,
-}
-
-#[derive(Clone, Copy)]
-pub enum Alignment {
-    Known(HorizontalAlignment),
-    Unknown,
-}
-
-#[derive(Clone, Copy)]
-pub enum Flag {
-    Known(bool),
-    Unknown,
-}
+use types::geometry::Point;
+use types::style::{FontColor, FontStyle, HorizontalAlignment, Placement, VerticalPosition};
 
 #[derive(Clone, Copy)]
 pub struct Meaning {
@@ -32,89 +15,92 @@ pub struct Meaning {
     pub background: bool,
 }
 
-#[derive(Clone, Copy)]
-pub enum Codes {
-    Known(Meaning),
-    Unknown,
+impl Meaning {
+    // Where the text of the call stands.
+    pub fn placement(self, x: i32, y: i32, line_height: u32) -> Placement
+        ensures { result ≡ placed_by self x y line_height }
+    {
+        Placement {
+            position: Point { x, y },
+            line_height,
+            ignore_unknown_chars: self.skip,
+        }
+    }
+
+    // The style of a drawing: with a background colour or transparent.
+    pub fn style(self, fg: u8, bg: u8) -> FontStyle
+        ensures { result ≡ style_of self fg bg }
+    {
+        let color = if self.background {
+            FontColor::WithBackground { fg, bg }
+        } else {
+            FontColor::Transparent(fg)
+        };
+        FontStyle {
+            color,
+            vertical_pos: self.vertical_pos,
+        }
+    }
 }
 
 #[tactic(auto, unfolding(crate::specs::Codes::anchor_of))]
-fn known_anchor(code: u32) -> Anchor
+fn known_anchor(code: u32) -> Option<VerticalPosition>
     ensures { result ≡ anchor_of code }
 {
     match code {
-        0 => Anchor::Known(VerticalPosition::Baseline),
-        1 => Anchor::Known(VerticalPosition::Top),
-        2 => Anchor::Known(VerticalPosition::Center),
-        3 => Anchor::Known(VerticalPosition::Bottom),
-        _ => Anchor::Unknown,
+        0 => Some(VerticalPosition::Baseline),
+        1 => Some(VerticalPosition::Top),
+        2 => Some(VerticalPosition::Center),
+        3 => Some(VerticalPosition::Bottom),
+        _ => None,
     }
 }
 
 #[tactic(auto, unfolding(crate::specs::Codes::alignment_of))]
-fn known_alignment(code: u32) -> Alignment
+fn known_alignment(code: u32) -> Option<HorizontalAlignment>
     ensures { result ≡ alignment_of code }
 {
     match code {
-        0 => Alignment::Known(HorizontalAlignment::Left),
-        1 => Alignment::Known(HorizontalAlignment::Center),
-        2 => Alignment::Known(HorizontalAlignment::Right),
-        _ => Alignment::Unknown,
+        0 => Some(HorizontalAlignment::Left),
+        1 => Some(HorizontalAlignment::Center),
+        2 => Some(HorizontalAlignment::Right),
+        _ => None,
     }
 }
 
 #[tactic(auto, unfolding(crate::specs::Codes::flag_of))]
-fn known_flag(code: u32) -> Flag
+fn known_flag(code: u32) -> Option<bool>
     ensures { result ≡ flag_of code }
 {
     match code {
-        0 => Flag::Known(false),
-        1 => Flag::Known(true),
-        _ => Flag::Unknown,
+        0 => Some(false),
+        1 => Some(true),
+        _ => None,
     }
 }
 
 // A call hands 0 for a code that it does not have, and the length of what it stores its answer in.
 #[tactic(auto, unfolding(crate::specs::Codes::meaning_of))]
-pub fn known_codes(anchor_code: u32, align: u32, skip: u32, background: u32, room: usize) -> Codes
-    ensures { result ≡ meaning_of anchor_code align skip background room }
+pub fn known_codes(
+    anchor: u32,
+    align: u32,
+    skip: u32,
+    background: u32,
+    room: usize,
+) -> Option<Meaning>
+    ensures { result ≡ meaning_of anchor align skip background room }
 {
-    let Anchor::Known(vertical_pos) = known_anchor(anchor_code) else {
-        return Codes::Unknown;
-    };
-    let Alignment::Known(horizontal_align) = known_alignment(align) else {
-        return Codes::Unknown;
-    };
-    let Flag::Known(skips) = known_flag(skip) else {
-        return Codes::Unknown;
-    };
-    let Flag::Known(fills) = known_flag(background) else {
-        return Codes::Unknown;
-    };
+    let vertical_pos = known_anchor(anchor)?;
+    let horizontal_align = known_alignment(align)?;
+    let skip = known_flag(skip)?;
+    let background = known_flag(background)?;
     if room < 10 {
-        return Codes::Unknown;
+        return None;
     }
-    Codes::Known(Meaning {
+    Some(Meaning {
         vertical_pos,
         horizontal_align,
-        skip: skips,
-        background: fills,
+        skip,
+        background,
     })
-}
-
-// The style of a drawing: with a background colour or transparent.
-pub fn style_of(m: Meaning, fg: u8, bg: u8) -> FontStyle
-    ensures { result ≡ style_of m fg bg }
-{
-    let vertical_pos = m.vertical_pos;
-    if m.background {
-        return FontStyle {
-            color: FontColor::WithBackground { fg, bg },
-            vertical_pos,
-        };
-    }
-    FontStyle {
-        color: FontColor::Transparent(fg),
-        vertical_pos,
-    }
 }

@@ -1,14 +1,15 @@
 -- What opening a font stores for the caller: the header's values and the default line height.
-use Rattle.std.specs.Prelude.{◌≡◌, cond, List, [], ◌∷◌, ◌++◌, ℕ, ltb, ℤ, pos}
+use Rattle.std.specs.Prelude.{◌≡◌, List, [], ◌∷◌, ℕ, ltb, ℤ, pos}
+use lib.Seq.{sets}
+use Rattle.std.specs.Int.{from_bool}
 use Rattle.integers.specs.Integers.{pick}
 use Rattle.definitions.specs.Vocabulary.{FontReader}
 use Rattle.definitions.specs.Refusals.{Outcome, success, refused}
-use Rattle.c_values.specs.Replies.{stored_at}
 
-abbrev pub width_values : FontReader → List ℤ
-width_values h =
+abbrev pub header_values : FontReader → List ℤ
+header_values h =
     pos h.glyph_count
-    ∷ cond h.supports_background_color (pos 1) (pos 0)
+    ∷ pos (from_bool h.supports_background_color)
     ∷ pos h.m0
     ∷ pos h.m1
     ∷ pos h.bitcnt_w
@@ -16,34 +17,19 @@ width_values h =
     ∷ pos h.bitcnt_x
     ∷ pos h.bitcnt_y
     ∷ pos h.bitcnt_d
-    ∷ []
-
-abbrev pub box_values : FontReader → List ℤ
-box_values h =
-    h.font_bounding_box_width
+    ∷ h.font_bounding_box_width
     ∷ h.font_bounding_box_height
     ∷ h.font_bounding_box_x_offset
     ∷ h.font_bounding_box_y_offset
-    ∷ []
-
-abbrev pub height_values : FontReader → List ℤ
-height_values h =
-    h.ascent
+    ∷ h.ascent
     ∷ h.descent
     ∷ h.ascent_of_parentheses
     ∷ h.descent_of_parentheses
-    ∷ []
-
-abbrev pub offset_values : FontReader → List ℤ
-offset_values h =
-    pos h.array_offset_upper_a
+    ∷ pos h.array_offset_upper_a
     ∷ pos h.array_offset_lower_a
     ∷ pos h.array_offset_0x0100
     ∷ pos h.line_height
     ∷ []
-
-abbrev pub header_values : FontReader → List ℤ
-header_values h = width_values h ++ box_values h ++ height_values h ++ offset_values h
 
 -- The status, and what `out` then holds: as it was where the font is refused.
 abbrev pub open_status : Outcome FontReader → ℕ
@@ -51,7 +37,7 @@ open_status (success h) = 0
 open_status (refused n c) = n
 
 abbrev pub open_stored : Outcome FontReader → List ℤ → List ℤ
-open_stored (success h) out = stored_at 0 (header_values h) out
+open_stored (success h) out = sets out 0 (header_values h)
 open_stored (refused n c) out = out
 
 -- `out` needs room for 21 numbers; else the status is 255.

@@ -1,5 +1,6 @@
 -- How a call's outcome reaches a caller in C: a status, and ten numbers stored in the slice `out`.
-use Rattle.std.specs.Prelude.{◌≡◌, List, [], ◌∷◌, ℕ, suc, ℤ, pos, set}
+use Rattle.std.specs.Prelude.{◌≡◌, List, [], ◌∷◌, ◌++◌, Option, Some as Known, None as Unknown, ℕ, ℤ, pos}
+use lib.Seq.{sets}
 use Rattle.definitions.specs.Vocabulary.{Error, BoundingBox, None, Some, Point, Rectangle, RenderedDimensions, LookupSteps}
 use Rattle.definitions.specs.Refusals.{Outcome, success, refused, error_number, code_point}
 use Rattle.definitions.specs.Lookup.{no_steps}
@@ -7,8 +8,6 @@ use Rattle.definitions.specs.Text.{point}
 use Rattle.definitions.specs.Font.{u8g2}
 use Rattle.definitions.specs.Sums.{sums}
 use Rattle.c_values.specs.declared.reply.Reply.{Reply}
-use Rattle.c_codes.specs.declared.Codes.{Codes}
-use Rattle.c_codes.specs.declared.Codes.TheVariants.{Known, Unknown}
 use Rattle.c_codes.specs.declared.Meaning.{Meaning}
 
 -- A refusal: its number (SPECIFICATION, Refusals) as the status, the code point, and zeros.
@@ -91,27 +90,23 @@ values r =
 abbrev pub step_values : LookupSteps → List ℤ
 step_values q = pos q.records ∷ pos q.entries ∷ []
 
--- A list with other numbers from place i on.
-abbrev pub stored_at : ℕ → List ℤ → List ℤ → List ℤ
-stored_at i [] out = out
-stored_at i (v ∷ vs) out = stored_at (suc i) vs (set out i v)
-
+-- The numbers stored in front of what stands there.
 abbrev pub stored : Counted → List ℤ → List ℤ
-stored a out = stored_at 0 (values a.reply) (stored_at 8 (step_values a.steps) out)
+stored a out = sets out 0 (values a.reply ++ step_values a.steps)
 
 -- What a call comes to by its codes: status 255 and nothing stored where one has no meaning.
-abbrev pub status : Codes → (Meaning → Counted) → ℕ
+abbrev pub status : Option Meaning → (Meaning → Counted) → ℕ
 status Unknown answer = 255
 status (Known m) answer = (answer m).reply.status
 
-abbrev pub stored_reply : Codes → (Meaning → Counted) → List ℤ → List ℤ
+abbrev pub stored_reply : Option Meaning → (Meaning → Counted) → List ℤ → List ℤ
 stored_reply Unknown answer out = out
 stored_reply (Known m) answer out = stored (answer m) out
 
-abbrev pub Answers : Codes → (Meaning → Counted) → ℕ → List ℤ → List ℤ → Type 0
+abbrev pub Answers : Option Meaning → (Meaning → Counted) → ℕ → List ℤ → List ℤ → Type 0
 Answers codes answer r before after = (r ≡ status codes answer) × (after ≡ stored_reply codes answer before)
 
 -- What the framebuffer holds after drawing: as it was where a code has no meaning.
-abbrev pub drawn_by : Codes → (Meaning → List ℕ) → List ℕ → List ℕ
+abbrev pub drawn_by : Option Meaning → (Meaning → List ℕ) → List ℕ → List ℕ
 drawn_by Unknown drawn buffer = buffer
 drawn_by (Known m) drawn buffer = drawn m

@@ -2,7 +2,7 @@
 ghost use Rattle.std.specs.Prelude.{◌≡◌, ◌≤◌, pos, length};
 ghost use Rattle.definitions.specs.Calls.{rectangle_outcome, dimensions_outcome, bounding_box_outcome};
 ghost use Rattle.c_values.specs.Replies.{refused_reply, error_reply, boxed_reply, bounds_reply, box_reply, text_reply, aligned_reply};
-ghost use Rattle.c_values.specs.Replies.{counted, values, step_values, stored_at, stored};
+ghost use Rattle.c_values.specs.Replies.{counted, stored};
 
 use types::error::Error;
 use types::geometry::{BoundingBox, Point, Rectangle};
@@ -26,24 +26,12 @@ pub struct Reply {
     pub height: i64,
 }
 
-fn signed(n: i32) -> i64
-    ensures { result ≡ n }
-{
-    n as i64
-}
-
-pub fn unsigned(n: u32) -> i64
-    ensures { result ≡ pos n }
-{
-    n as i64
-}
-
 fn refused(status: u32, code_point: u32) -> Reply
     ensures { result ≡ refused_reply status code_point }
 {
     Reply {
         status,
-        code_point: unsigned(code_point),
+        code_point: i64::from(code_point),
         x: 0,
         y: 0,
         boxed: 0,
@@ -66,13 +54,13 @@ fn boxed(advance: Point, area: Rectangle) -> Reply
     Reply {
         status: 0,
         code_point: 0,
-        x: signed(advance.x),
-        y: signed(advance.y),
+        x: i64::from(advance.x),
+        y: i64::from(advance.y),
         boxed: 1,
-        left: signed(area.top_left.x),
-        top: signed(area.top_left.y),
-        width: unsigned(area.size.width),
-        height: unsigned(area.size.height),
+        left: i64::from(area.top_left.x),
+        top: i64::from(area.top_left.y),
+        width: i64::from(area.size.width),
+        height: i64::from(area.size.height),
     }
 }
 
@@ -84,8 +72,8 @@ fn of_bounds(advance: Point, bounding_box: BoundingBox) -> Reply
         BoundingBox::None => Reply {
             status: 0,
             code_point: 0,
-            x: signed(advance.x),
-            y: signed(advance.y),
+            x: i64::from(advance.x),
+            y: i64::from(advance.y),
             boxed: 0,
             left: 0,
             top: 0,
@@ -126,46 +114,22 @@ pub fn of_bounding_box(res: BoundingBoxResult) -> Reply
     }
 }
 
-// Stores the reply's eight numbers and answers with its status.
-fn store_reply(out: &mut [i64], reply: Reply) -> u32
-    requires { 8 ≤ length out.old }
-    ensures { (result ≡ reply.status) × (out.new ≡ stored_at 0 (values reply) out.old) }
-{
-    let code_point = reply.code_point;
-    let x = reply.x;
-    let y = reply.y;
-    let boxed = reply.boxed;
-    let left = reply.left;
-    let top = reply.top;
-    let width = reply.width;
-    let height = reply.height;
-    out[0] = code_point;
-    out[1] = x;
-    out[2] = y;
-    out[3] = boxed;
-    out[4] = left;
-    out[5] = top;
-    out[6] = width;
-    out[7] = height;
-    reply.status
-}
-
-// .. and the two of the steps behind them.
-fn store_steps(out: &mut [i64], steps: LookupSteps)
-    requires { 10 ≤ length out.old }
-    ensures { out.new ≡ stored_at 8 (step_values steps) out.old }
-{
-    let records = unsigned(steps.records);
-    let entries = unsigned(steps.entries);
-    out[8] = records;
-    out[9] = entries;
-}
-
 // Stores the ten numbers and answers with the reply's status.
 pub fn store(out: &mut [i64], reply: Reply, steps: LookupSteps) -> u32
     requires { 10 ≤ length out.old }
     ensures { (result ≡ reply.status) × (out.new ≡ stored (counted reply steps) out.old) }
 {
-    store_steps(out, steps);
-    store_reply(out, reply)
+    out[..10].copy_from_slice(&[
+        reply.code_point,
+        reply.x,
+        reply.y,
+        reply.boxed,
+        reply.left,
+        reply.top,
+        reply.width,
+        reply.height,
+        i64::from(steps.records),
+        i64::from(steps.entries),
+    ]);
+    reply.status
 }

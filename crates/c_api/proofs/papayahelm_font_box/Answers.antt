@@ -9,11 +9,11 @@ pub returns-in_default : goal.returns-in_default
 returns-in_default c = bad_argument c.in_default.ensures _ _ refl
 
 pub store-requires : goal.store-requires
-store-requires c = has_room _ _ _ _ _ c.in-Known.ensures refl
+store-requires c = has_room _ _ _ _ _ c.in-Some.ensures refl
 
 pub returns : goal.returns
 returns c =
-    answers c.in-Known.ensures _ _ refl
+    answers c.in-Some.ensures _ _ refl
     (c.of_rectangle.ensures ∙ ap box_reply c.get_font_bounding_box-result.ensures)
     c.no_steps.ensures
     c.store.ensures

@@ -9,10 +9,11 @@ pub returns-in_default : goal.returns-in_default
 returns-in_default c = bad_argument c.in_default.ensures _ _ refl
 
 pub store-requires : goal.store-requires
-store-requires c = has_room _ _ _ _ _ c.in-Known.ensures refl
+store-requires c = has_room _ _ _ _ _ c.in-Some.ensures refl
 
 pub returns : goal.returns
 returns c =
-    let measured = simp (to_z-of_z, c.ranges.x, c.ranges.y) at c.get_rendered_dimensions_aligned-report.ensures.answered in
-    let summed = simp (to_z-of_z, c.ranges.x, c.ranges.y) at c.get_rendered_dimensions_aligned-report.ensures.summed in
-    answers c.in-Known.ensures _ _ refl (c.of_bounding_box.ensures ∙ ap aligned_reply measured) summed c.store.ensures
+    let placement = simp (to_z-of_z, c.ranges.x, c.ranges.y) at c.placement-placement.ensures in
+    let measured = rw placement at c.get_rendered_dimensions_aligned-report.ensures.answered in
+    let summed = rw placement at c.get_rendered_dimensions_aligned-report.ensures.summed in
+    answers c.in-Some.ensures _ _ refl (c.of_bounding_box.ensures ∙ ap aligned_reply measured) summed c.store.ensures

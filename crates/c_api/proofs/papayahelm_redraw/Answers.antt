@@ -11,16 +11,16 @@ returns-in_default c =
     record { answered = n.0; shown = n.1 }
 
 pub store-requires : goal.store-requires
-store-requires c = has_room _ _ _ _ _ c.in-Known.ensures refl
+store-requires c = has_room _ _ _ _ _ c.in-Some.ensures refl
 
 pub returns : goal.returns
 returns c =
     let call = c.redraw-report.ensures in
-    let style = c.style_of-style.ensures in
+    let style = c.style-style.ensures in
     let answered = simp (to_z-of_z, c.ranges.x, c.ranges.y, style) at call.answered in
     let shown = simp (to_z-of_z, c.ranges.x, c.ranges.y, style) at call.shown in
     let summed = simp (to_z-of_z, c.ranges.x, c.ranges.y, style) at call.summed in
     let d =
-    drawn c.in-Known.ensures _ _ _ _ refl (c.of_dimensions.ensures ∙ ap text_reply answered) summed c.store.ensures shown
+    drawn c.in-Some.ensures _ _ _ _ refl (c.of_dimensions.ensures ∙ ap text_reply answered) summed c.store.ensures shown
     in
     record { answered = d.0; shown = d.1 }
