@@ -9,7 +9,7 @@ use Rattle.numbers.proofs.DecimalLaws.{decimal_small, decimal_more}
 code : (d : ℕ) → d < 10 → hex_digit_ascii d ≡ 48 + d
 code d h = simp (lt-ltb d 10 h)
 
-spelled : (k n : ℕ) → IsDigitCount 10 1 n k → last_digits 10 k n ≡ decimal n
+pub spelled : (k n : ℕ) → IsDigitCount 10 1 n k → last_digits 10 k n ≡ decimal n
 spelled zero n f = absurd (omega arith)
 spelled (suc zero) n f =
     let h : n < 10 = omega arith in
@@ -25,7 +25,7 @@ spelled (suc (suc k)) n f =
     rw (decimal_more n ten, e, code (n % 10) (omega arith))
 
 -- .. and a u32 has at most ten.
-at_most_ten : (k n : ℕ) → n < 2 ^ 32 → IsDigitCount 10 1 n k → k ≤ 10
+pub at_most_ten : (k n : ℕ) → n < 2 ^ 32 → IsDigitCount 10 1 n k → k ≤ 10
 at_most_ten k n h f = split (dec_lt 10 k)
   where
     split : Dec (10 < k) → k ≤ 10

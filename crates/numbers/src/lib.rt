@@ -1,4 +1,5 @@
-// Numbers in decimal, and pieces of a line, written into a buffer.
+// Text of a fixed capacity, and numbers in decimal in it.
 #![tactic(auto)]
 
+pub mod text;
 pub mod writer;

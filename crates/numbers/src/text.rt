@@ -1,0 +1,92 @@
+ghost use Rattle.std.specs.Prelude.{◌≡◌, ◌∷◌, ◌++◌, ◌+◌, ◌≤◌, [], length};
+ghost use Rattle.numbers.specs.Decimal.{decimal, signed_decimal};
+
+use std::marker::Model;
+
+/// A text of at most `N` bytes, written from its start on.
+#[derive(Drop)]
+pub struct Text<const N: usize> {
+    bytes: [u8; N],
+    len: usize,
+}
+
+// Clauses see what is written so far.
+impl<const N: usize> Model for Text<N> {
+    ghost use Rattle.std.specs.Prelude.{◌≤◌, List, ℕ, take};
+
+    ghost Value = { List ℕ };
+
+    ghost view = { λ t. take t.len t.bytes };
+
+    ghost invariant = { λ t. t.len ≤ N };
+}
+
+impl<const N: usize> Text<N> {
+    pub fn new() -> Self
+        ensures { result ≡ [] }
+    {
+        Text {
+            bytes: [0; N],
+            len: 0,
+        }
+    }
+
+    pub fn as_bytes(&self) -> &[u8]
+        ensures { result.now ≡ self.now }
+    {
+        &self.bytes[..self.len]
+    }
+
+    pub fn push(&mut self, byte: u8)
+        requires { length self.old + 1 ≤ N }
+        ensures { self.new ≡ self.old ++ byte ∷ [] }
+    {
+        self.bytes[self.len] = byte;
+        self.len += 1;
+    }
+
+    pub fn push_bytes(&mut self, piece: &[u8])
+        requires { length self.old + length piece.now ≤ N }
+        ensures { self.new ≡ self.old ++ piece.now }
+    {
+        let end = self.len + piece.len();
+        let bytes = &mut self.bytes[..];
+        bytes[self.len..end].copy_from_slice(piece);
+        self.len = end;
+    }
+
+    // The digits of a number, of which a u32 has at most ten.
+    #[tactic(auto, using(crate::proofs::DigitsLaws::spelled))]
+    fn push_digits(&mut self, n: u32)
+        requires { length self.old + 10 ≤ N }
+        ensures digits { self.new ≡ self.old ++ decimal n }
+        ensures few { length self.new ≤ length self.old + 10 }
+    {
+        let mut digits = [0u8; 20];
+        let count = io::decimal(u64::from(n), &mut digits);
+        self.push_bytes(&digits[..count]);
+    }
+
+    /// A number after a space.
+    pub fn push_unsigned(&mut self, n: u32)
+        requires { length self.old + 11 ≤ N }
+        ensures number { self.new ≡ self.old ++ 32 ∷ decimal n }
+        ensures few { length self.new ≤ length self.old + 11 }
+    {
+        self.push_bytes(b" ");
+        self.push_digits(n);
+    }
+
+    pub fn push_signed(&mut self, n: i32)
+        requires { length self.old + 12 ≤ N }
+        ensures number { self.new ≡ self.old ++ 32 ∷ signed_decimal n }
+        ensures few { length self.new ≤ length self.old + 12 }
+    {
+        if n < 0 {
+            self.push_bytes(b" -");
+            self.push_digits(n.unsigned_abs());
+        } else {
+            self.push_unsigned(n.unsigned_abs());
+        }
+    }
+}
