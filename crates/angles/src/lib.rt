@@ -1,60 +1,59 @@
 // The text of an angle, as the gauge shows it: "-12.5", "+0.3", "0.0".
 #![tactic(auto)]
 
-ghost use Rattle.std.specs.Prelude.{◌≡◌, ◌≤◌, length};
-ghost use Rattle.angles.specs.AngleText.{digit, RoomForByte, BytePut, RoomForDegrees, DegreesPut, TenthsPut};
-ghost use Rattle.angles.specs.AngleText.{RoomForAngle, AnglePut};
+ghost use Rattle.std.specs.Prelude.{◌≡◌, ◌++◌, ◌+◌, ◌≤◌, [], pos, negsuc, length, ◌≤ℤ◌};
+ghost use Rattle.angles.specs.AngleText.{digit, degrees_then, sign_then, angle_text};
 
-use utils::number::magnitude;
+use numbers::text::Text;
 
-// Puts a byte in front of the text that begins at `start` and answers where it begins now.
-fn put_before(out: &mut [u8], start: usize, byte: u8) -> usize
-    requires { RoomForByte (length out.old) start }
-    ensures { BytePut out.old start byte result out.new }
-{
-    out[start - 1] = byte;
-    start - 1
-}
+// The longest text: a sign, two digits, the point and a digit.
+pub const ANGLE_ROOM: usize = 5;
 
 fn digit_of(n: u32) -> u8
     requires { n ≤ 9 }
     ensures { result ≡ digit n }
 {
-    48 + (n as u8)
+    b'0' + (n as u8)
+}
+
+fn sign_of(tenths: i32) -> Text<ANGLE_ROOM>
+    ensures sign { result ≡ sign_then tenths [] }
+    ensures few { length result ≤ 1 }
+{
+    let mut text = Text::new();
+    if tenths < 0 {
+        text.push(b'-');
+    } else if 0 < tenths {
+        text.push(b'+');
+    }
+    text
 }
 
 // One digit, or two from 10 on.
-fn put_degrees(out: &mut [u8], start: usize, n: u32) -> usize
-    requires { RoomForDegrees (length out.old) start n }
-    ensures { DegreesPut out.old start n result out.new }
+#[tactic(auto, using(crate::proofs::AngleLaws::one_digit, crate::proofs::AngleLaws::two_digits, std::proofs::Common::append_assoc))]
+fn push_degrees(text: &mut Text<ANGLE_ROOM>, degrees: u32)
+    requires { (length text.old ≤ 3) × (degrees ≤ 99) }
+    ensures degrees { text.new ≡ text.old ++ degrees_then degrees [] }
+    ensures few { length text.new ≤ length text.old + 2 }
 {
-    let at = put_before(&mut out[..], start, digit_of(n % 10));
-    if n < 10 {
-        return at;
+    if degrees < 10 {
+        text.push(digit_of(degrees));
+    } else {
+        text.push(digit_of(degrees / 10));
+        text.push(digit_of(degrees % 10));
     }
-    put_before(&mut out[..], at, digit_of(n / 10))
 }
 
-fn put_tenths(out: &mut [u8], n: u32) -> usize
-    requires { (length out.old ≡ 6) × (n ≤ 999) }
-    ensures { TenthsPut n result out.new }
+/// The text of an angle below 100 degrees.
+#[tactic(auto, using(crate::proofs::AngleLaws::in_pieces))]
+pub fn angle_text(tenths: i32) -> Text<ANGLE_ROOM>
+    requires { (negsuc 998 ≤ℤ tenths) × (tenths ≤ℤ pos 999) }
+    ensures { result ≡ angle_text tenths }
 {
-    let tenth = put_before(&mut out[..], 6, digit_of(n % 10));
-    let point = put_before(&mut out[..], tenth, b'.');
-    put_degrees(&mut out[..], point, n / 10)
-}
-
-// Writes the text of an angle below 100 degrees at the end of `out` and answers where it begins.
-pub fn write_angle(tenths: i32, out: &mut [u8]) -> usize
-    requires { RoomForAngle (length out.old) tenths }
-    ensures { AnglePut tenths result out.new }
-{
-    let start = put_tenths(&mut out[..], magnitude(tenths));
-    if tenths < 0 {
-        return put_before(&mut out[..], start, b'-');
-    }
-    if 0 < tenths {
-        return put_before(&mut out[..], start, b'+');
-    }
-    start
+    let n = tenths.unsigned_abs();
+    let mut text = sign_of(tenths);
+    push_degrees(&mut text, n / 10);
+    text.push(b'.');
+    text.push(digit_of(n % 10));
+    text
 }

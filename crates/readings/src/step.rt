@@ -14,7 +14,7 @@ use crate::values::Found;
 use buffers::count_differences;
 use faulty_step::{Trial, redraw_on};
 use redraw::reading::is_taken;
-use sheet_ground::texts::write_reading;
+use sheet_ground::texts::reading_text;
 use types::place::Place;
 use types::results::DimensionsResult;
 
@@ -25,11 +25,15 @@ fn draw_over(font: &[u8], old: usize, k: usize, trial: Trial, screen: &mut [u8])
     ensures shown { screen.new ≡ step_buffer trial.narrow font.now (reading_text old)
         (reading trial.place k) trial.place.background (ground_of trial.place screen.old) }
 {
-    let mut old_text = [0u8; 6];
-    let mut new_text = [0u8; 6];
-    let a = write_reading(old, &mut old_text);
-    let b = write_reading(k, &mut new_text);
-    redraw_on(font, &old_text[a..], &new_text[b..], trial, screen)
+    let old_text = reading_text(old);
+    let new_text = reading_text(k);
+    redraw_on(
+        font,
+        old_text.as_bytes(),
+        new_text.as_bytes(),
+        trial,
+        screen,
+    )
 }
 
 // How many pixels of the screen are not those of reading k drawn alone on the ground, whole or not at all.
@@ -44,9 +48,8 @@ fn compare(
     requires { (length ground.now ≡ length alone.old) × (length screen.now ≡ length alone.old) }
     ensures { result ≡ differences screen.now (wanted font.now place ground.now k) }
 {
-    let mut text = [0u8; 6];
-    let start = write_reading(k, &mut text);
-    draw_alone(font, &text[start..], place, ground, &mut alone[..]);
+    let text = reading_text(k);
+    draw_alone(font, text.as_bytes(), place, ground, &mut alone[..]);
     count_differences(screen, alone)
 }
 

@@ -1,5 +1,5 @@
 -- The readings of the sheet, and where they are drawn.
-use Rattle.std.specs.Prelude.{◌≡◌, List, [], ℕ, ◌≤◌, leb, pos, ◌-ℤ◌, drop}
+use Rattle.std.specs.Prelude.{List, [], ℕ, ◌≤◌, leb, pos, ◌-ℤ◌}
 use Rattle.integers.specs.Integers.{pick}
 use Rattle.redraw_checks.specs.Drawing.{Drawing, asked}
 use Rattle.angles.specs.AngleText.{angle_text}
@@ -8,11 +8,6 @@ use Rattle.definitions.specs.Vocabulary.{Place}
 -- The text of a reading, -45.0 to +45.0 in tenths, by its number from 0; no text past the last, which is 900.
 abbrev pub reading_text : ℕ → List ℕ
 reading_text k = pick (leb 901 k) [] (angle_text (pos k -ℤ pos 450))
-
--- Its text stands from r to the end.
-pub record ReadingPut (k r : ℕ) (after : List ℕ) : Type 0 where
-  pub within : r ≤ 6
-  pub text : drop r after ≡ reading_text k
 
 -- how it is drawn at the place
 abbrev pub reading : Place → ℕ → Drawing

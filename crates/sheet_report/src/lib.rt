@@ -1,7 +1,7 @@
 // What the sheet's program prints: the readings that are refused or differ, the totals, and the verdict.
 #![tactic(auto)]
 
-use sheet_ground::texts::write_reading;
+use sheet_ground::texts::reading_text;
 use sheet_totals::Totals;
 use types::error::Error;
 use types::results::DimensionsResult;
@@ -15,9 +15,7 @@ pub enum Refusals {
 }
 
 fn print_reading<R: Print>(rt: &R, k: usize) {
-    let mut text = [0u8; 6];
-    let start = write_reading(k, &mut text);
-    printing::text(rt, &text[start..]);
+    printing::text(rt, reading_text(k).as_bytes());
 }
 
 fn print_number<R: Print>(rt: &R, n: usize, words: &[u8]) {
