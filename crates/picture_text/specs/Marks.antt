@@ -1,6 +1,5 @@
 -- The colours of a picture, and how it is shown as text.
-use Rattle.std.specs.Prelude.{◌≡◌, Bool, List, ℕ, ◌*◌, ◌≤◌, ◌<◌, length, get_or, eqb}
-use Rattle.io.specs.Counts.{IsPrefixLen}
+use Rattle.std.specs.Prelude.{◌≡◌, Bool, ℕ, ◌*◌, ◌≤◌, eqb}
 use Rattle.integers.specs.Integers.{pick}
 use Rattle.definitions.specs.Vocabulary.{FontColor, Transparent, WithBackground}
 
@@ -11,12 +10,6 @@ ink_of background = pick background (WithBackground 0 192) (Transparent 0)
 -- A pixel as a character: '#' (35) for the ink, ':' (58) for a glyph's background, '.' (46) elsewhere.
 abbrev pub shade : ℕ → ℕ
 shade pixel = pick (eqb pixel 0) 35 (pick (eqb pixel 192) 58 46)
-
--- The first n bytes of `out` show the pixels.
-pub record Shades (pixels out : List ℕ) (n : ℕ) : Type 0 where
-  pub counted : IsPrefixLen n out
-  pub all : n ≡ length pixels
-  pub each : (k : ℕ) → k < n → get_or out k 0 ≡ shade (get_or pixels k 0)
 
 -- So many pixels are a picture of that width and height.
 pub record IsPicture (width height pixels : ℕ) : Type 0 where
