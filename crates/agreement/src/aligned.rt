@@ -8,16 +8,17 @@ ghost use Rattle.agreement.specs.Calls.{as_aligned_results};
 use measuring::rendered_dimensions_aligned::get_rendered_dimensions_aligned;
 use renderer::render_aligned::render_aligned;
 use types::framebuffer::Framebuffer;
-use types::results::BoundingBoxReport;
+use types::geometry::Rectangle;
+use types::results::Report;
 use types::style::{FontStyle, HorizontalAlignment, Placement};
 
 // What each of the four calls answered.
 #[derive(Clone, Copy)]
 pub struct AlignedAnswers {
-    pub first: BoundingBoxReport,
-    pub second: BoundingBoxReport,
-    pub first_measured: BoundingBoxReport,
-    pub second_measured: BoundingBoxReport,
+    pub first: Report<Option<Rectangle>>,
+    pub second: Report<Option<Rectangle>>,
+    pub first_measured: Report<Option<Rectangle>>,
+    pub second_measured: Report<Option<Rectangle>>,
 }
 
 // Draws one text, aligned, on two framebuffers, on each with a font of its own, and measures it so aligned with both fonts. Whatever

@@ -8,16 +8,17 @@ ghost use Rattle.agreement.specs.Calls.{as_results};
 use measuring::rendered_dimensions::get_rendered_dimensions;
 use renderer::render::render;
 use types::framebuffer::Framebuffer;
-use types::results::DimensionsReport;
+use types::geometry::RenderedDimensions;
+use types::results::Report;
 use types::style::{FontStyle, Placement};
 
 // What each of the four calls answered.
 #[derive(Clone, Copy)]
 pub struct Answers {
-    pub first: DimensionsReport,
-    pub second: DimensionsReport,
-    pub first_measured: DimensionsReport,
-    pub second_measured: DimensionsReport,
+    pub first: Report<RenderedDimensions>,
+    pub second: Report<RenderedDimensions>,
+    pub first_measured: Report<RenderedDimensions>,
+    pub second_measured: Report<RenderedDimensions>,
 }
 
 // Draws one text on two framebuffers, on each with a font of its own, and measures it with both fonts. Whatever the input, the four

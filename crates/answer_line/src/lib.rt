@@ -1,22 +1,20 @@
 // The line that a measuring call's outcome is printed as (SPECIFICATION, Measuring program).
 #![tactic(auto)]
 
-ghost use Rattle.std.specs.Prelude.{◌+◌, ◌≤◌, length};
-ghost use Rattle.definitions.specs.Refusals.{success, refusal};
-ghost use Rattle.definitions.specs.Calls.{dimensions_outcome};
+ghost use Rattle.std.specs.Prelude.{Some, ◌+◌, ◌≤◌, length};
+ghost use Rattle.definitions.specs.Refusals.{success, refusal, outcome};
 ghost use Rattle.answer_line.specs.Line.{spaced, box_words, outcome_line};
 ghost use Rattle.numbers.specs.Written.{Written, WrittenWithin};
 
 use numbers::writer::{append, append_signed, append_unsigned};
 use types::error::Error;
-use types::geometry::{BoundingBox, Rectangle, RenderedDimensions};
-use types::results::DimensionsResult;
+use types::geometry::{Rectangle, RenderedDimensions};
 use utils::error::{error_code_point, error_number};
 
 // Left, top, width and height.
 fn append_rectangle(out: &mut [u8], at: usize, r: Rectangle) -> usize
     requires { at + 46 ≤ length out.old }
-    ensures { WrittenWithin 46 out.old at (spaced (box_words (BoundingBox.Some r))) result out.new }
+    ensures { WrittenWithin 46 out.old at (spaced (box_words (Some r))) result out.new }
 {
     let left = append_signed(out, at, r.top_left.x);
     let top = append_signed(out, left, r.top_left.y);
@@ -24,13 +22,13 @@ fn append_rectangle(out: &mut [u8], at: usize, r: Rectangle) -> usize
     append_unsigned(out, width, r.size.height)
 }
 
-fn append_bounding_box(out: &mut [u8], at: usize, b: BoundingBox) -> usize
+fn append_bounding_box(out: &mut [u8], at: usize, b: Option<Rectangle>) -> usize
     requires { at + 46 ≤ length out.old }
     ensures { WrittenWithin 46 out.old at (spaced (box_words b)) result out.new }
 {
     match b {
-        BoundingBox::None => append(out, at, b" none"),
-        BoundingBox::Some(r) => append_rectangle(out, at, r),
+        None => append(out, at, b" none"),
+        Some(r) => append_rectangle(out, at, r),
     }
 }
 
@@ -60,11 +58,11 @@ fn refusal_line(out: &mut [u8; LINE_ROOM], e: Error) -> usize
     append(out, end, b"\n")
 }
 
-pub fn result_line(out: &mut [u8; LINE_ROOM], res: DimensionsResult) -> usize
-    ensures { Written out.old 0 (outcome_line (dimensions_outcome res)) result out.new }
+pub fn result_line(out: &mut [u8; LINE_ROOM], res: Result<RenderedDimensions, Error>) -> usize
+    ensures { Written out.old 0 (outcome_line (outcome res)) result out.new }
 {
     match res {
-        DimensionsResult::Ok(d) => success_line(out, d),
-        DimensionsResult::Err(e) => refusal_line(out, e),
+        Ok(d) => success_line(out, d),
+        Err(e) => refusal_line(out, e),
     }
 }

@@ -30,7 +30,6 @@ use renderer::render_aligned::render_aligned;
 use types::framebuffer::Framebuffer;
 use types::geometry::Point;
 use types::place::Place;
-use types::results::FontReaderResult;
 use utils::error::error_number;
 
 const BAD_ARGUMENT: u32 = 255;
@@ -44,8 +43,8 @@ pub extern "C" fn papayahelm_open(font: &[u8], out: &mut [i64]) -> u32
         return BAD_ARGUMENT;
     }
     match new_from_raw_data(font) {
-        FontReaderResult::Err(error) => error_number(error),
-        FontReaderResult::Ok(head) => {
+        Err(error) => error_number(error),
+        Ok(head) => {
             store_header(out, head);
             0
         }

@@ -1,12 +1,11 @@
 // What a call answers, and how it is stored for the caller.
 ghost use Rattle.std.specs.Prelude.{◌≡◌, ◌≤◌, pos, length};
-ghost use Rattle.definitions.specs.Calls.{rectangle_outcome, dimensions_outcome, bounding_box_outcome};
+ghost use Rattle.definitions.specs.Refusals.{outcome};
 ghost use Rattle.c_values.specs.Replies.{refused_reply, error_reply, boxed_reply, bounds_reply, box_reply, text_reply, aligned_reply};
 ghost use Rattle.c_values.specs.Replies.{counted, stored};
 
 use types::error::Error;
-use types::geometry::{BoundingBox, Point, Rectangle};
-use types::results::{BoundingBoxResult, DimensionsResult, RectangleResult};
+use types::geometry::{Point, Rectangle, RenderedDimensions};
 use types::steps::LookupSteps;
 use utils::error::{error_code_point, error_number};
 
@@ -64,12 +63,12 @@ fn boxed(advance: Point, area: Rectangle) -> Reply
     }
 }
 
-fn of_bounds(advance: Point, bounding_box: BoundingBox) -> Reply
+fn of_bounds(advance: Point, bounding_box: Option<Rectangle>) -> Reply
     ensures { result ≡ bounds_reply advance bounding_box }
 {
     match bounding_box {
-        BoundingBox::Some(area) => boxed(advance, area),
-        BoundingBox::None => Reply {
+        Some(area) => boxed(advance, area),
+        None => Reply {
             status: 0,
             code_point: 0,
             x: i64::from(advance.x),
@@ -83,34 +82,34 @@ fn of_bounds(advance: Point, bounding_box: BoundingBox) -> Reply
     }
 }
 
-pub fn of_rectangle(res: RectangleResult) -> Reply
-    ensures { result ≡ box_reply (rectangle_outcome res) }
+pub fn of_rectangle(res: Result<Rectangle, Error>) -> Reply
+    ensures { result ≡ box_reply (outcome res) }
 {
     match res {
-        RectangleResult::Ok(area) => boxed(Point { x: 0, y: 0 }, area),
-        RectangleResult::Err(error) => of_error(error),
+        Ok(area) => boxed(Point { x: 0, y: 0 }, area),
+        Err(error) => of_error(error),
     }
 }
 
-pub fn of_dimensions(res: DimensionsResult) -> Reply
-    ensures { result ≡ text_reply (dimensions_outcome res) }
+pub fn of_dimensions(res: Result<RenderedDimensions, Error>) -> Reply
+    ensures { result ≡ text_reply (outcome res) }
 {
     match res {
-        DimensionsResult::Ok(dimensions) => {
+        Ok(dimensions) => {
             let advance = dimensions.advance;
             let bounding_box = dimensions.bounding_box;
             of_bounds(advance, bounding_box)
         }
-        DimensionsResult::Err(error) => of_error(error),
+        Err(error) => of_error(error),
     }
 }
 
-pub fn of_bounding_box(res: BoundingBoxResult) -> Reply
-    ensures { result ≡ aligned_reply (bounding_box_outcome res) }
+pub fn of_bounding_box(res: Result<Option<Rectangle>, Error>) -> Reply
+    ensures { result ≡ aligned_reply (outcome res) }
 {
     match res {
-        BoundingBoxResult::Ok(bounding_box) => of_bounds(Point { x: 0, y: 0 }, bounding_box),
-        BoundingBoxResult::Err(error) => of_error(error),
+        Ok(bounding_box) => of_bounds(Point { x: 0, y: 0 }, bounding_box),
+        Err(error) => of_error(error),
     }
 }
 

@@ -11,12 +11,9 @@ use redraw::reading::redraw;
 use renderer::render::render;
 use renderer::render_aligned::render_aligned;
 use types::framebuffer::Framebuffer;
-use types::geometry::{BoundingBox, Point};
+use types::geometry::{Point, Rectangle, RenderedDimensions};
 use types::place::Place;
-use types::results::{
-    BoundingBoxReport, BoundingBoxResult, DimensionsReport, DimensionsResult, FontReaderResult,
-    RectangleResult,
-};
+use types::results::Report;
 use types::steps::LookupSteps;
 use types::style::{FontColor, FontStyle, HorizontalAlignment, Placement, VerticalPosition};
 
@@ -58,28 +55,28 @@ fn font_color(code: u32, fg: u8, bg: u8) -> FontColor {
 
 fn answer_open<R: Print>(rt: &R, font: &[u8]) {
     match new_from_raw_data(font) {
-        FontReaderResult::Ok(head) => {
+        Ok(head) => {
             printing::text(rt, b"ok");
             header::print(rt, head);
         }
-        FontReaderResult::Err(e) => printing::refusal(rt, e),
+        Err(e) => printing::refusal(rt, e),
     }
 }
 
 fn answer_font_box<R: Print>(rt: &R, font: &[u8], anchor: VerticalPosition) {
     match get_font_bounding_box(font, anchor) {
-        RectangleResult::Ok(r) => {
+        Ok(r) => {
             printing::text(rt, b"ok");
             printing::rectangle(rt, r);
         }
-        RectangleResult::Err(e) => printing::refusal(rt, e),
+        Err(e) => printing::refusal(rt, e),
     }
 }
 
-fn print_box<R: Print>(rt: &R, bounding_box: BoundingBox) {
+fn print_box<R: Print>(rt: &R, bounding_box: Option<Rectangle>) {
     match bounding_box {
-        BoundingBox::Some(r) => printing::rectangle(rt, r),
-        BoundingBox::None => printing::text(rt, b" none"),
+        Some(r) => printing::rectangle(rt, r),
+        None => printing::text(rt, b" none"),
     }
 }
 
@@ -93,30 +90,30 @@ fn print_sums<R: Print>(rt: &R, kind: u32, sums: LookupSteps) {
     printing::unsigned(rt, sums.entries);
 }
 
-fn print_dimensions<R: Print>(rt: &R, kind: u32, report: DimensionsReport) {
+fn print_dimensions<R: Print>(rt: &R, kind: u32, report: Report<RenderedDimensions>) {
     let result = report.result;
     match result {
-        DimensionsResult::Ok(d) => {
+        Ok(d) => {
             printing::text(rt, b"ok");
             printing::signed(rt, d.advance.x);
             printing::signed(rt, d.advance.y);
             let bounding_box = d.bounding_box;
             print_box(rt, bounding_box);
         }
-        DimensionsResult::Err(e) => printing::refusal(rt, e),
+        Err(e) => printing::refusal(rt, e),
     }
     let sums = report.steps;
     print_sums(rt, kind, sums);
 }
 
-fn print_aligned<R: Print>(rt: &R, kind: u32, report: BoundingBoxReport) {
+fn print_aligned<R: Print>(rt: &R, kind: u32, report: Report<Option<Rectangle>>) {
     let result = report.result;
     match result {
-        BoundingBoxResult::Ok(b) => {
+        Ok(b) => {
             printing::text(rt, b"ok");
             print_box(rt, b);
         }
-        BoundingBoxResult::Err(e) => printing::refusal(rt, e),
+        Err(e) => printing::refusal(rt, e),
     }
     let sums = report.steps;
     print_sums(rt, kind, sums);
@@ -138,7 +135,7 @@ fn redraw_texts(
     align: HorizontalAlignment,
     framebuffer: Framebuffer,
     buffer: &mut [u8],
-) -> DimensionsReport
+) -> Report<RenderedDimensions>
     requires { at ≤ 1048576 }
 {
     let old_len = least(number(file, at + 56) as usize, texts.len());

@@ -1,7 +1,7 @@
 -- Where a text begins, from the ascent and the descent of the font's header, and what the checks of a call leave.
 use Rattle.std.specs.Prelude.{◌≡◌, true, List, [], ◌∷◌, ℕ, ◌*◌, ◌≤◌, ℤ, pos, negsuc, ◌+ℤ◌, length, ◌≤ℤ◌}
 use Rattle.definitions.specs.Vocabulary.{Point, FontReader}
-use Rattle.definitions.specs.Refusals.{Outcome, success, refusal, unless_refused}
+use Rattle.definitions.specs.Refusals.{Outcome, success, unless_refused}
 use Rattle.definitions.specs.Header.{Opened}
 use Rattle.definitions.specs.Utf8.{decode, is_utf8, newlines}
 use Rattle.definitions.specs.VerticalOffset.{vertical_offset}
@@ -9,8 +9,6 @@ use Rattle.definitions.specs.Text.{point}
 use Rattle.definitions.specs.Limits.{text_cause, position_cause}
 use Rattle.definitions.specs.Calls.{Request, code_points_of}
 use Rattle.checks.specs.declared.origin.Pen.{Pen}
-use Rattle.checks.specs.declared.origin.OriginResult.{OriginResult}
-use Rattle.checks.specs.declared.origin.OriginResult.TheVariants.{Ok, Err}
 
 -- `origin` of Calls.antt, of these two instead of the font
 abbrev pub origin_by : ℤ → ℤ → Request → Point
@@ -23,10 +21,6 @@ origin_by ascent descent r =
 abbrev pub checked_origin : ℤ → ℤ → Request → Outcome Point
 checked_origin ascent descent r =
     unless_refused (text_cause r.text ∷ position_cause r.position r.line_height ∷ []) (success (origin_by ascent descent r))
-
-abbrev pub origin_outcome : OriginResult → Outcome Point
-origin_outcome (Ok p) = success p
-origin_outcome (Err e) = refusal e
 
 -- What the checks of a call leave of a text and its place: the text is UTF-8 of at most 4,096 bytes, the line height at most
 -- 65,535, and the place within its limits, moved by the anchor.

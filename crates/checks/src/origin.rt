@@ -1,8 +1,9 @@
 // Where a text begins: its place, moved by the anchor. Of the header only the ascent and the descent are needed.
 ghost use Rattle.std.specs.Prelude.{◌≡◌, false};
+ghost use Rattle.definitions.specs.Refusals.{outcome};
 ghost use Rattle.definitions.specs.Limits.{text_cause, position_cause};
 ghost use Rattle.definitions.specs.Calls.{plain};
-ghost use Rattle.checks.specs.Origins.{origin_by, checked_origin, origin_outcome};
+ghost use Rattle.checks.specs.Origins.{origin_by, checked_origin};
 
 use crate::limits::{has_bad_position, has_bad_text};
 use content::text::get_newline_count;
@@ -18,12 +19,6 @@ pub struct Pen {
     pub origin: Point,
     pub line_height: u32,
     pub ignore_unknown_chars: bool,
-}
-
-#[derive(Clone, Copy)]
-pub enum OriginResult {
-    Ok(Point),
-    Err(Error),
 }
 
 pub fn text_origin(
@@ -59,16 +54,16 @@ pub fn checked_origin(
     text: &[u8],
     placement: Placement,
     vertical_pos: VerticalPosition,
-) -> OriginResult
-    ensures { origin_outcome result ≡ checked_origin ascent descent (plain text.now placement vertical_pos) }
+) -> Result<Point, Error>
+    ensures { outcome result ≡ checked_origin ascent descent (plain text.now placement vertical_pos) }
 {
     let bad_text = has_bad_text(text);
     let bad_position = has_bad_position(placement);
     if bad_text {
-        return OriginResult::Err(Error::TextEncoding);
+        return Err(Error::TextEncoding);
     }
     if bad_position {
-        return OriginResult::Err(Error::PositionOrLineHeight);
+        return Err(Error::PositionOrLineHeight);
     }
-    OriginResult::Ok(text_origin(ascent, descent, text, placement, vertical_pos))
+    Ok(text_origin(ascent, descent, text, placement, vertical_pos))
 }

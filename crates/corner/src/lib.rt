@@ -2,13 +2,13 @@
 #![tactic(auto)]
 
 ghost use Rattle.std.specs.Prelude.{◌≡◌, pos, negsuc, ◌-ℤ◌, length, ◌≤ℤ◌};
-ghost use Rattle.definitions.specs.Calls.{dimensions_outcome};
+ghost use Rattle.definitions.specs.Refusals.{outcome};
 ghost use Rattle.corner.specs.Corners.{Cornered, CornerDrawn};
 
 use renderer::aligned_drawing::aligned_drawing;
+use types::error::Error;
 use types::framebuffer::Framebuffer;
-use types::geometry::{Point, Rectangle};
-use types::results::DimensionsResult;
+use types::geometry::{Point, Rectangle, RenderedDimensions};
 use types::style::{FontColor, FontStyle, HorizontalAlignment, Placement, VerticalPosition};
 
 // How the lines of a text are set: how far below a line the next one lies, and which side of each stands at the text's x.
@@ -34,10 +34,10 @@ pub fn draw_at_corner(
     color: FontColor,
     framebuffer: Framebuffer,
     pixels: &mut [u8],
-) -> DimensionsResult
+) -> Result<RenderedDimensions, Error>
     requires { Cornered font.now text.now setting rectangle framebuffer (length pixels.old) }
     ensures { CornerDrawn font.now text.now setting color rectangle pixels.old
-        pixels.new (dimensions_outcome result) }
+        pixels.new (outcome result) }
 {
     let placement = Placement {
         position: Point {

@@ -3,14 +3,6 @@
 use Rattle.std.specs.Prelude.{Bool, List, [], ◌∷◌, ◌++◌, ℕ, ◌*◌, pos, nat_abs, ◌+ℤ◌, ◌-ℤ◌}
 use Rattle.integers.specs.Integers.{pick}
 use Rattle.definitions.specs.Vocabulary.{FontReader, Framebuffer, BoundingBox, Point, Rectangle, RenderedDimensions, FontColor, HorizontalAlignment, VerticalPosition, Placement}
-use Rattle.types.specs.declared.results.BoundingBoxResult.{BoundingBoxResult}
-use Rattle.types.specs.declared.results.BoundingBoxResult.TheVariants.{Ok as BoundingBox-as-Ok, Err as BoundingBox-as-Err}
-use Rattle.types.specs.declared.results.DimensionsResult.{DimensionsResult}
-use Rattle.types.specs.declared.results.DimensionsResult.TheVariants.{Ok as Dimensions-as-Ok, Err as Dimensions-as-Err}
-use Rattle.types.specs.declared.results.FontReaderResult.{FontReaderResult}
-use Rattle.types.specs.declared.results.FontReaderResult.TheVariants.{Ok as FontReader-as-Ok, Err as FontReader-as-Err}
-use Rattle.types.specs.declared.results.RectangleResult.{RectangleResult}
-use Rattle.types.specs.declared.results.RectangleResult.TheVariants.{Ok as Rectangle-as-Ok, Err as Rectangle-as-Err}
 use Rattle.types.specs.declared.style.HorizontalAlignment.TheVariants.{Left}
 use Rattle.definitions.specs.Refusals.{Outcome, success, and_then, refusal, Cause, unless_refused, any_applies}
 use Rattle.definitions.specs.Header.{header, font_causes}
@@ -26,10 +18,6 @@ use Rattle.definitions.specs.Limits.{text_cause, position_cause, background_caus
 
 unfoldable pub open_font : List ℕ → Outcome FontReader
 open_font font = unless_refused (font_causes font) (success (header font))
-
-abbrev pub font_reader_outcome : FontReaderResult → Outcome FontReader
-font_reader_outcome (FontReader-as-Ok reader) = success reader
-font_reader_outcome (FontReader-as-Err e) = refusal e
 
 -- ---- the font box, at the anchor's number with t = 0
 
@@ -47,10 +35,6 @@ font_box h v = record {
 
 unfoldable pub font_bounding_box : List ℕ → VerticalPosition → Outcome Rectangle
 font_bounding_box font v = unless_refused (font_causes font) (success (font_box (header font) v))
-
-abbrev pub rectangle_outcome : RectangleResult → Outcome Rectangle
-rectangle_outcome (Rectangle-as-Ok r) = success r
-rectangle_outcome (Rectangle-as-Err e) = refusal e
 
 -- ---- a text
 
@@ -108,10 +92,6 @@ measured_text font r = laid font r (measured_answer font r.skip) (measured_answe
 unfoldable pub measure : Font → Request → Outcome RenderedDimensions
 measure font r = unless_refused (measure_causes font r) (dimensions (measured_text font r))
 
-abbrev pub dimensions_outcome : DimensionsResult → Outcome RenderedDimensions
-dimensions_outcome (Dimensions-as-Ok d) = success d
-dimensions_outcome (Dimensions-as-Err e) = refusal e
-
 -- ---- aligned measuring: the box or none
 
 abbrev pub box_of_layout : Layout → Outcome Point → Outcome BoundingBox
@@ -119,10 +99,6 @@ box_of_layout l advance = and_then advance (λ a. success (join_all l.glyphs))
 
 unfoldable pub measure_aligned : Font → Request → Outcome BoundingBox
 measure_aligned font r = unless_refused (measure_causes font r) (let l = measured_text font r in box_of_layout l l.advance)
-
-abbrev pub bounding_box_outcome : BoundingBoxResult → Outcome BoundingBox
-bounding_box_outcome (BoundingBox-as-Ok b) = success b
-bounding_box_outcome (BoundingBox-as-Err e) = refusal e
 
 -- ---- drawing
 

@@ -1,8 +1,6 @@
 -- SPECIFICATION, Bits and fields: a glyph's fields, in the order w, h, x, y, advance, and the answer to a code point.
 use Rattle.std.specs.Prelude.{List, ℕ, ◌+◌, ◌*◌}
 use Rattle.definitions.specs.Vocabulary.{FontReader, GlyphReader}
-use Rattle.types.specs.declared.results.GlyphResult.{GlyphResult}
-use Rattle.types.specs.declared.results.GlyphResult.TheVariants.{Ok, Err}
 use Rattle.definitions.specs.Refusals.{Outcome, success, refused, and_then, refusal}
 use Rattle.definitions.specs.Header.{header}
 use Rattle.definitions.specs.Bits.{Read, got, ends, read_at, biased}
@@ -45,8 +43,3 @@ from_search font c short = refused 8 c
 -- What the font answers to the code point c: the glyph, or the reason there is none.
 unfoldable pub glyph : List ℕ → ℕ → Outcome GlyphReader
 glyph font c = from_search font c (search font c)
-
--- how the code's answer is read
-abbrev pub glyph_outcome : GlyphResult → Outcome GlyphReader
-glyph_outcome (Ok g) = success g
-glyph_outcome (Err e) = refusal e

@@ -1,6 +1,6 @@
 -- SPECIFICATION, Refusals: what a call comes to, the number and the code point of each refusal, and the order in
 -- which causes are tested.
-use Rattle.std.specs.Prelude.{Bool, false, ◌||◌, List, [], ◌∷◌, ℕ}
+use Rattle.std.specs.Prelude.{Bool, false, ◌||◌, List, [], ◌∷◌, ℕ, Result, Ok, Err}
 use Rattle.integers.specs.Integers.{pick}
 use Rattle.definitions.specs.Vocabulary.{Error}
 use Rattle.types.specs.declared.error.Error.TheVariants.{FontLength, FontHeader, FramebufferSize, TextEncoding, PositionOrLineHeight, BackgroundColorNotSupported, GlyphNotFound, FontEnds}
@@ -39,6 +39,11 @@ code_point (FontEnds c) = c
 
 abbrev pub refusal : {A : Type 0} → Error → Outcome A
 refusal e = refused (error_number e) (code_point e)
+
+-- how the code's answer is read
+abbrev pub outcome : {A : Type 0} → Result A Error → Outcome A
+outcome (Ok a) = success a
+outcome (Err e) = refusal e
 
 -- A cause that is tested before any letter: its number, and whether it applies to the call.
 pub record Cause : Type 0 where

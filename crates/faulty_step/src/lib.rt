@@ -2,7 +2,7 @@
 #![tactic(auto)]
 
 ghost use Rattle.std.specs.Prelude.{◌≡◌, true, length};
-ghost use Rattle.definitions.specs.Calls.{dimensions_outcome};
+ghost use Rattle.definitions.specs.Refusals.{outcome};
 ghost use Rattle.renderer.specs.Texts.{DrawableText, counted_with};
 ghost use Rattle.redraw_checks.specs.Drawing.{asked, ground_of};
 ghost use Rattle.redraw.specs.Redraw.{cleared_by, redrawn};
@@ -11,12 +11,12 @@ ghost use Rattle.faulty_step.specs.Fault.{narrowed_box, to_fill, step_buffer};
 use checks::origin::Pen;
 use framebuffer::fill::fill_box;
 use redraw::reading::{draw_reading, redraw};
-use redraw_checks::{StepResult, check_step};
+use redraw_checks::check_step;
 use renderer::lines::get_drawn_dimensions;
+use types::error::Error;
 use types::font_reader::FontReader;
-use types::geometry::{BoundingBox, Rectangle, Size};
+use types::geometry::{Rectangle, RenderedDimensions, Size};
 use types::place::Place;
-use types::results::DimensionsResult;
 
 // What is tried: the place of the readings, and whether with a fault put in, one column too few being filled.
 #[derive(Clone, Copy)]
@@ -26,11 +26,11 @@ pub struct Trial {
 }
 
 // A box one column too narrow.
-fn narrowed(bounding_box: BoundingBox) -> BoundingBox
+fn narrowed(bounding_box: Option<Rectangle>) -> Option<Rectangle>
     ensures { result ≡ narrowed_box bounding_box }
 {
-    let BoundingBox::Some(r) = bounding_box else {
-        return BoundingBox::None;
+    let Some(r) = bounding_box else {
+        return None;
     };
     let size = r.size;
     let width = size.width;
@@ -38,7 +38,7 @@ fn narrowed(bounding_box: BoundingBox) -> BoundingBox
     if width == 0 {
         return bounding_box;
     }
-    BoundingBox::Some(Rectangle {
+    Some(Rectangle {
         top_left,
         size: Size {
             width: width - 1,
@@ -64,7 +64,7 @@ fn clear_narrow(
     let horizontal_align = place.horizontal_align;
     let drawn = get_drawn_dimensions(font, head, text, pen, horizontal_align);
     let result = drawn.result;
-    let DimensionsResult::Ok(dimensions) = result else {
+    let Ok(dimensions) = result else {
         return;
     };
     let old_box = dimensions.bounding_box;
@@ -80,15 +80,15 @@ fn redraw_narrow(
     new_text: &[u8],
     place: Place,
     screen: &mut [u8],
-) -> DimensionsResult
-    ensures answered { dimensions_outcome result ≡ redrawn font.now old_text.now
+) -> Result<RenderedDimensions, Error>
+    ensures answered { outcome result ≡ redrawn font.now old_text.now
         (asked place new_text.now) (ground_of place screen.old) }
     ensures shown { screen.new ≡ step_buffer true font.now old_text.now
         (asked place new_text.now) place.background (ground_of place screen.old) }
 {
     match check_step(font, old_text, new_text, place, &screen[..]) {
-        StepResult::Err(error) => DimensionsResult::Err(error),
-        StepResult::Ok(step) => {
+        Err(error) => Err(error),
+        Ok(step) => {
             let head = step.head;
             let old_pen = step.old_pen;
             let new_pen = step.new_pen;
@@ -106,8 +106,8 @@ pub fn redraw_on(
     new_text: &[u8],
     trial: Trial,
     screen: &mut [u8],
-) -> DimensionsResult
-    ensures answered { dimensions_outcome result ≡ redrawn font.now old_text.now
+) -> Result<RenderedDimensions, Error>
+    ensures answered { outcome result ≡ redrawn font.now old_text.now
         (asked trial.place new_text.now) (ground_of trial.place screen.old) }
     ensures shown { screen.new ≡ step_buffer trial.narrow font.now old_text.now
         (asked trial.place new_text.now) trial.place.background

@@ -3,14 +3,15 @@
 
 ghost use Rattle.std.specs.Prelude.{◌≡◌, ◌≤◌, ◌<◌, length, pos, ◌≤ℤ◌};
 ghost use Rattle.integers.specs.Integers.{signed8};
+ghost use Rattle.definitions.specs.Refusals.{outcome};
 ghost use Rattle.definitions.specs.Header.{header, header_off, default_line_height, negative, signed_byte, Opened};
-ghost use Rattle.definitions.specs.Calls.{open_font, font_reader_outcome};
+ghost use Rattle.definitions.specs.Calls.{open_font};
 ghost use Rattle.font_reader.specs.Lookups.{LookedUp};
 
-use glyph_searcher::SearchResult;
 use types::error::Error;
 use types::font_reader::FontReader;
-use types::results::{FontReaderResult, GlyphLookup, GlyphResult};
+use types::glyph_reader::GlyphReader;
+use types::results::Report;
 use types::steps::LookupSteps;
 use utils::big_endian::u16_at;
 
@@ -101,40 +102,34 @@ fn read_header(font: &[u8]) -> FontReader
 
 // Opens a font: its header's values and the default line height, or cause 1 or 2.
 #[tactic(auto, using(definitions::proofs::OpenedLaws::opened_limits), unfolding(definitions::specs::Calls::open_font))]
-pub fn new_from_raw_data(font: &[u8]) -> FontReaderResult
-    ensures { font_reader_outcome result ≡ open_font font.now }
+pub fn new_from_raw_data(font: &[u8]) -> Result<FontReader, Error>
+    ensures { outcome result ≡ open_font font.now }
 {
     if font.len() < HEADER_SIZE || MAX_FONT_SIZE < font.len() {
-        return FontReaderResult::Err(Error::FontLength);
+        return Err(Error::FontLength);
     }
     if has_bad_header(font) {
-        return FontReaderResult::Err(Error::FontHeader);
+        return Err(Error::FontHeader);
     }
-    FontReaderResult::Ok(read_header(font))
+    Ok(read_header(font))
 }
 
 // What the font answers to a code point: its glyph, or number 7 or 8, and by how many steps. The header is read anew, as only a few
 // of its numbers are needed: the compiler does not inline this function, and would copy all of `head` for each letter.
-pub fn retrieve_glyph_data(font: &[u8], head: FontReader, ch: u32) -> GlyphLookup
+pub fn retrieve_glyph_data(font: &[u8], head: FontReader, ch: u32) -> Report<GlyphReader>
     requires { Opened font.now head }
     ensures { LookedUp font.now ch result }
 {
     let header = read_header(font);
-    match glyph_searcher::search(font, header, ch) {
-        SearchResult::Found(start, steps) => GlyphLookup {
+    let found = glyph_searcher::search(font, header, ch);
+    match found.result {
+        Ok(start) => Report {
             result: glyph_reader::new(font, header, ch, start),
-            steps,
+            steps: found.steps,
         },
-        SearchResult::GlyphNotFound(steps) => GlyphLookup {
-            result: GlyphResult::Err(Error::GlyphNotFound(ch)),
-            steps,
-        },
-        SearchResult::FontEnds => GlyphLookup {
-            result: GlyphResult::Err(Error::FontEnds(ch)),
-            steps: LookupSteps {
-                records: 0,
-                entries: 0,
-            },
+        Err(error) => Report {
+            result: Err(error),
+            steps: found.steps,
         },
     }
 }

@@ -7,7 +7,7 @@ ghost use Rattle.framebuffer.specs.Areas.{BufferFits, clamped, area, AreaFits, f
 use crate::clamp;
 use buffers::fill;
 use types::framebuffer::Framebuffer;
-use types::geometry::{BoundingBox, Rectangle};
+use types::geometry::Rectangle;
 
 // Where a row or column of pixels begins and ends on the framebuffer. In 64 bits every end is a number.
 pub fn clamp_start(start: i32, limit: usize) -> usize
@@ -66,13 +66,18 @@ fn fill_rectangle(rectangle: Rectangle, color: u8, framebuffer: Framebuffer, buf
     fill_rows(left, right, top, bottom, color, framebuffer, buffer);
 }
 
-pub fn fill_box(bounding_box: BoundingBox, color: u8, framebuffer: Framebuffer, buffer: &mut [u8])
+pub fn fill_box(
+    bounding_box: Option<Rectangle>,
+    color: u8,
+    framebuffer: Framebuffer,
+    buffer: &mut [u8],
+)
     requires { BufferFits (length buffer.old) framebuffer.width framebuffer.height }
     ensures { buffer.new ≡ shown framebuffer.width (fill_picture color bounding_box)
         buffer.old }
 {
     match bounding_box {
-        BoundingBox::Some(rectangle) => fill_rectangle(rectangle, color, framebuffer, buffer),
-        BoundingBox::None => {}
+        Some(rectangle) => fill_rectangle(rectangle, color, framebuffer, buffer),
+        None => {}
     }
 }

@@ -2,14 +2,14 @@
 #![tactic(auto)]
 
 ghost use Rattle.std.specs.Prelude.{◌≡◌, ◌*◌, ◌%◌, ◌^◌, ◌≤◌, length};
+ghost use Rattle.definitions.specs.Refusals.{outcome};
 ghost use Rattle.definitions.specs.Bits.{biased};
-ghost use Rattle.definitions.specs.Glyph.{fields, glyph_outcome};
+ghost use Rattle.definitions.specs.Glyph.{fields};
 ghost use Rattle.definitions.specs.Header.{Opened};
 
 use types::error::Error;
 use types::font_reader::FontReader;
 use types::glyph_reader::GlyphReader;
-use types::results::GlyphResult;
 use window::long_at;
 
 // The number of the lowest bits, `width` of them.
@@ -32,9 +32,9 @@ fn signed_field(bits: u64, width: u8) -> i8
 
 // The glyph of ch, whose fields begin at the byte `start` of the font: GlyphReader::new of the Rust. They have 40 bits at most, so
 // one fetch has them all. What is fetched past the font's end is zeros, and one test refuses it, as positions only grow.
-pub fn new(font: &[u8], head: FontReader, ch: u32, start: usize) -> GlyphResult
+pub fn new(font: &[u8], head: FontReader, ch: u32, start: usize) -> Result<GlyphReader, Error>
     requires { Opened font.now head × (start ≤ length font.now) }
-    ensures { glyph_outcome result ≡ fields font.now head ch (start * 8) }
+    ensures { outcome result ≡ fields font.now head ch (start * 8) }
 {
     let h = head.bitcnt_w;
     let x = h + head.bitcnt_h;
@@ -43,10 +43,10 @@ pub fn new(font: &[u8], head: FontReader, ch: u32, start: usize) -> GlyphResult
     let end = start * 8 + ((d + head.bitcnt_d) as usize);
     // the Rust fetches ahead, so one bit must be left
     if font.len() * 8 < end + 1 {
-        return GlyphResult::Err(Error::FontEnds(ch));
+        return Err(Error::FontEnds(ch));
     }
     let bits = long_at(font, start);
-    GlyphResult::Ok(GlyphReader {
+    Ok(GlyphReader {
         glyph_width: unsigned_field(bits, head.bitcnt_w),
         glyph_height: unsigned_field(bits >> h, head.bitcnt_h),
         offset_x: signed_field(bits >> x, head.bitcnt_x),

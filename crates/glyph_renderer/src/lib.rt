@@ -12,7 +12,7 @@ use framebuffer::fill::fill_box;
 use rows::draw_rows;
 use types::font_reader::FontReader;
 use types::framebuffer::Framebuffer;
-use types::geometry::BoundingBox;
+use types::geometry::Rectangle;
 use types::glyph_reader::GlyphReader;
 use types::style::FontColor;
 use visible_part::get_visible_part;
@@ -23,7 +23,7 @@ pub fn render_glyph(
     font: &[u8],
     head: FontReader,
     glyph: GlyphReader,
-    bounding_box: BoundingBox,
+    bounding_box: Option<Rectangle>,
     color: FontColor,
     framebuffer: Framebuffer,
     buffer: &mut [u8],
@@ -32,7 +32,7 @@ pub fn render_glyph(
     ensures { buffer.new ≡ shown framebuffer.width (box_picture color
         (pixels_of (u8g2 font.now) glyph) bounding_box) buffer.old }
 {
-    let BoundingBox::Some(area) = bounding_box else {
+    let Some(area) = bounding_box else {
         return;
     };
     let part = get_visible_part(area.top_left, glyph, framebuffer);

@@ -1,37 +1,71 @@
 // From a code point to the byte where its glyph begins, and by how many steps.
 #![tactic(auto)]
 
-ghost use Rattle.std.specs.Prelude.{◌≡◌, ◌≤◌, length};
+ghost use Rattle.std.specs.Prelude.{◌≡◌, ◌≤◌, Ok, length};
 ghost use Rattle.definitions.specs.Header.{Opened};
-ghost use Rattle.definitions.specs.Lookup.{chain, chain_start, after_entries, search_table, search as lookup};
+ghost use Rattle.definitions.specs.Lookup.{missing, short, chain, chain_start, after_entries, search_table, search as lookup};
 ghost use Rattle.records.specs.Records.{record_of};
-ghost use Rattle.glyph_searcher.specs.Answers.{searched, InLimits};
+ghost use Rattle.glyph_searcher.specs.Answers.{search_report, InLimits};
 
 use records::{Record, read_record};
+use types::error::Error;
 use types::font_reader::FontReader;
+use types::results::Report;
 use types::steps::LookupSteps;
 use unicode_jumptable_reader::{JumpOffset, calculate_jump_offset};
 
 // Where the records begin: the first byte after the header.
 const U8G2_FONT_DATA_STRUCT_SIZE: usize = 23;
 
-#[derive(Clone, Copy)]
-pub enum SearchResult {
-    // the glyph begins at this byte
-    Found(usize, LookupSteps),
-    // the font has no such glyph: number 7
-    GlyphNotFound(LookupSteps),
-    // a byte is missing, or a move goes past the end: number 8
-    FontEnds,
+const NO_STEPS: LookupSteps = LookupSteps {
+    records: 0,
+    entries: 0,
+};
+
+// The glyph begins at this byte.
+fn found(start: usize, steps: LookupSteps) -> Report<usize>
+    ensures { result ≡ record { result = Ok start; steps = steps } }
+{
+    Report {
+        result: Ok(start),
+        steps,
+    }
+}
+
+// The font has no such glyph: number 7.
+fn not_found(ch: u16, steps: LookupSteps) -> Report<usize>
+    ensures { result ≡ search_report ch (missing steps) }
+{
+    Report {
+        result: Err(Error::GlyphNotFound(u32::from(ch))),
+        steps,
+    }
+}
+
+// A byte is missing, or a move goes past the end: number 8.
+fn font_ends(ch: u16) -> Report<usize>
+    ensures { result ≡ search_report ch short }
+{
+    Report {
+        result: Err(Error::FontEnds(u32::from(ch))),
+        steps: NO_STEPS,
+    }
 }
 
 // The chain from the record at `start` on, of records whose codes have char_width bytes, after so many entries of the jump
 // table. A record counts where its code was looked at: one that ends the chain by its jump does from 256 on, and does not up to
 // 255 (amended by A3).
 #[tactic(auto, using(crate::proofs::RecordLaws::records_come))]
-fn search_chain(font: &[u8], start: usize, ch: u16, char_width: usize, entries: u32) -> SearchResult
+fn search_chain(
+    font: &[u8],
+    start: usize,
+    ch: u16,
+    char_width: usize,
+    entries: u32,
+) -> Report<usize>
     requires { InLimits (length font.now) start }
-    ensures { searched result ≡ chain (record_of char_width ch) (after_entries entries) 0 start font.now }
+    ensures { result ≡ search_report ch (chain (record_of char_width ch) (after_entries entries) 0 start
+        font.now) }
 {
     let mut at = start;
     let mut records: u32 = 0;
@@ -42,16 +76,14 @@ fn search_chain(font: &[u8], start: usize, ch: u16, char_width: usize, entries: 
             entries,
         };
         match says {
-            Record::Here(n) => return SearchResult::Found(at + (n as usize), looked),
+            Record::Here(n) => return found(at + (n as usize), looked),
             Record::Next(jump) => {
                 records = looked.records;
                 at += jump as usize;
             }
-            Record::Last => return SearchResult::GlyphNotFound(looked),
-            Record::End => {
-                return SearchResult::GlyphNotFound(LookupSteps { records, entries });
-            }
-            Record::Cut => return SearchResult::FontEnds,
+            Record::Last => return not_found(ch, looked),
+            Record::End => return not_found(ch, LookupSteps { records, entries }),
+            Record::Cut => return font_ends(ch),
         }
     }
 }
@@ -72,23 +104,21 @@ fn chain_start(head: FontReader, ch: u32) -> usize
 // Code points from 256 to 65535: the jump table begins at `table`, and leads to the chain. Each may
 // begin exactly at the font's end, but not past it.
 #[tactic(auto, using(crate::proofs::TableRules::table_leads))]
-fn search_unicode(font: &[u8], table: usize, encoding: u16) -> SearchResult
+fn search_unicode(font: &[u8], table: usize, encoding: u16) -> Report<usize>
     requires { (23 ≤ length font.now) × (length font.now ≤ 1048576) }
-    ensures { searched result ≡ search_table font.now table encoding }
+    ensures { result ≡ search_report encoding (search_table font.now table encoding) }
 {
     if font.len() < table {
-        return SearchResult::FontEnds;
+        return font_ends(encoding);
     }
     match calculate_jump_offset(font, table, encoding) {
         JumpOffset::None(entries) => {
-            SearchResult::GlyphNotFound(LookupSteps {
-                records: 0,
-                entries,
-            })
+            let records = 0;
+            not_found(encoding, LookupSteps { records, entries })
         }
         JumpOffset::Some(jump_offset, entries) => {
             if font.len() - table < jump_offset {
-                return SearchResult::FontEnds;
+                return font_ends(encoding);
             }
             search_chain(font, table + jump_offset, encoding, 2, entries)
         }
@@ -97,15 +127,15 @@ fn search_unicode(font: &[u8], table: usize, encoding: u16) -> SearchResult
 
 // Where the glyph of a code point begins. Above 65535 no byte is looked at.
 #[tactic(auto, using(definitions::proofs::LookupLaws::search_above, definitions::proofs::LookupLaws::search_chain, definitions::proofs::LookupLaws::search_table_lem))]
-pub fn search(font: &[u8], head: FontReader, ch: u32) -> SearchResult
+pub fn search(font: &[u8], head: FontReader, ch: u32) -> Report<usize>
     requires { Opened font.now head }
-    ensures { searched result ≡ lookup font.now ch }
+    ensures { result ≡ search_report ch (lookup font.now ch) }
 {
     if 65535 < ch {
-        return SearchResult::GlyphNotFound(LookupSteps {
-            records: 0,
-            entries: 0,
-        });
+        return Report {
+            result: Err(Error::GlyphNotFound(ch)),
+            steps: NO_STEPS,
+        };
     }
     if 255 < ch {
         let table = U8G2_FONT_DATA_STRUCT_SIZE + (head.array_offset_0x0100 as usize);

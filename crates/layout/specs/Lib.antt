@@ -1,3 +1,2 @@
-pub mod CharResults
 pub mod Offsets
 pub mod Ranges

@@ -4,7 +4,7 @@ ghost use Rattle.definitions.specs.Text.{box_at, horizontal_offset};
 ghost use Rattle.layout.specs.Offsets.{center_offset};
 ghost use Rattle.layout.specs.Ranges.{Near, LineInReach};
 
-use types::geometry::{BoundingBox, Point, Rectangle, Size};
+use types::geometry::{Point, Rectangle, Size};
 use types::glyph_reader::GlyphReader;
 use types::style::HorizontalAlignment;
 
@@ -25,14 +25,14 @@ fn top(y: i32, height: u8, offset_y: i8) -> i32
 }
 
 // The bounding box of a glyph at a place. A glyph without pixels has none.
-pub fn get_glyph_bounding_box(glyph: GlyphReader, x: i32, y: i32) -> BoundingBox
+pub fn get_glyph_bounding_box(glyph: GlyphReader, x: i32, y: i32) -> Option<Rectangle>
     requires { Near x × Near y }
     ensures { result ≡ box_at x y glyph }
 {
     if (glyph.glyph_width == 0) | (glyph.glyph_height == 0) {
-        return BoundingBox::None;
+        return None;
     }
-    BoundingBox::Some(Rectangle {
+    Some(Rectangle {
         top_left: Point {
             x: moved(x, glyph.offset_x),
             y: top(y, glyph.glyph_height, glyph.offset_y),
@@ -45,11 +45,11 @@ pub fn get_glyph_bounding_box(glyph: GlyphReader, x: i32, y: i32) -> BoundingBox
 }
 
 // Center halves the width alone, and rounds down.
-fn compute_center_offset(line_box: BoundingBox) -> i32
+fn compute_center_offset(line_box: Option<Rectangle>) -> i32
     requires { LineInReach line_box }
     ensures { result ≡ center_offset line_box }
 {
-    let BoundingBox::Some(rectangle) = line_box else {
+    let Some(rectangle) = line_box else {
         return 0;
     };
     let top_left = rectangle.top_left;
@@ -60,7 +60,7 @@ fn compute_center_offset(line_box: BoundingBox) -> i32
 // By how much a line is moved to the right, its box and its advance being counted from its start.
 pub fn compute_horizontal_offset(
     horizontal_align: HorizontalAlignment,
-    line_box: BoundingBox,
+    line_box: Option<Rectangle>,
     advance: i32,
 ) -> i32
     requires { LineInReach line_box × Near advance }

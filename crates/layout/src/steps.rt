@@ -1,15 +1,14 @@
 // The steps of counting a text, character by character: drawing takes them from the text's origin, measuring from each line's start.
 ghost use Rattle.std.specs.Prelude.{◌≡◌, ◌≤◌};
-ghost use Rattle.definitions.specs.TextSteps.{newline_step, glyph_step};
-ghost use Rattle.layout.specs.CharResults.{AnswerAdded};
+ghost use Rattle.definitions.specs.Refusals.{outcome};
+ghost use Rattle.definitions.specs.TextSteps.{newline_step, glyph_step, answer_step};
+ghost use Rattle.answers.specs.Answers.{as_answer};
 ghost use Rattle.layout.specs.Ranges.{Near, HasRoom, NextBox};
 
 use crate::render_actions::{get_glyph_bounding_box, moved};
-use answers::Answer;
 use types::error::Error;
-use types::geometry::{BoundingBox, Point, RenderedDimensions};
+use types::geometry::{Point, Rectangle, RenderedDimensions};
 use types::glyph_reader::GlyphReader;
-use types::steps::LookupSteps;
 use utils::combine_bounding_boxes;
 
 pub const NEWLINE: u32 = 10;
@@ -34,7 +33,7 @@ pub fn get_next_bounding_box(
     dimensions: RenderedDimensions,
     origin: Point,
     glyph: GlyphReader,
-) -> BoundingBox
+) -> Option<Rectangle>
     requires { HasRoom origin dimensions }
     ensures { NextBox origin dimensions glyph result }
 {
@@ -63,20 +62,17 @@ pub fn add_glyph(
     }
 }
 
-// What a character comes to, with the steps of its lookup either way.
-#[derive(Clone, Copy)]
-pub enum CharResult {
-    Ok(RenderedDimensions, LookupSteps),
-    Err(Error, LookupSteps),
-}
-
-pub fn add_answer(dimensions: RenderedDimensions, origin: Point, answer: Answer) -> CharResult
+// A character that is skipped leaves the dimensions as they are.
+pub fn add_answer(
+    dimensions: RenderedDimensions,
+    origin: Point,
+    answer: Result<Option<GlyphReader>, Error>,
+) -> Result<RenderedDimensions, Error>
     requires { HasRoom origin dimensions }
-    ensures { AnswerAdded origin dimensions answer result }
+    ensures { outcome result ≡ answer_step origin dimensions (as_answer answer) }
 {
-    match answer {
-        Answer::Shows(glyph, steps) => CharResult::Ok(add_glyph(dimensions, origin, glyph), steps),
-        Answer::Nothing(steps) => CharResult::Ok(dimensions, steps),
-        Answer::Stops(error, steps) => CharResult::Err(error, steps),
+    match answer? {
+        Some(glyph) => Ok(add_glyph(dimensions, origin, glyph)),
+        None => Ok(dimensions),
     }
 }

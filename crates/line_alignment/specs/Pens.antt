@@ -1,23 +1,13 @@
 -- Where an aligned line begins: at the pen, moved by the offset that the line, measured from its own start, has.
 use Rattle.std.specs.Prelude.{◌≡◌, Bool, List, ℕ, ℤ, pos, ◌+ℤ◌}
-use Rattle.definitions.specs.Vocabulary.{HorizontalAlignment, LookupSteps}
-use Rattle.definitions.specs.Refusals.{Outcome, success, refusal, and_then}
+use Rattle.definitions.specs.Vocabulary.{HorizontalAlignment, Report}
+use Rattle.definitions.specs.Refusals.{Outcome, success, and_then, outcome}
 use Rattle.definitions.specs.Text.{Layout, join_all, point, letters, horizontal_offset}
 use Rattle.definitions.specs.Font.{u8g2, measured_answer}
 use Rattle.definitions.specs.Calls.{code_points_of}
 use Rattle.definitions.specs.Sums.{sums}
 use Rattle.checks.specs.declared.origin.Pen.{Pen}
 use Rattle.checks.specs.Origins.{CheckedLine}
-use Rattle.line_alignment.specs.declared.PenResult.{PenResult}
-use Rattle.line_alignment.specs.declared.PenResult.TheVariants.{Ok, Err}
-
-abbrev pub pen_outcome : PenResult → Outcome Pen
-pen_outcome (Ok p q) = success p
-pen_outcome (Err e q) = refusal e
-
-abbrev pub pen_steps : PenResult → LookupSteps
-pen_steps (Ok p q) = q
-pen_steps (Err e q) = q
 
 abbrev pub measured_line : List ℕ → Bool → List ℕ → Layout
 measured_line font skip text =
@@ -34,8 +24,8 @@ abbrev pub aligned_pen : HorizontalAlignment → Pen → Layout → Outcome Pen
 aligned_pen a pen line =
     and_then line.advance (λ end. success (moved_by pen (horizontal_offset a (join_all line.glyphs) end.x)))
 
-pub record PenAligned (font text : List ℕ) (a : HorizontalAlignment) (pen : Pen) (r : PenResult) : Type 0 where
-  pub aligned : pen_outcome r ≡ aligned_pen a pen (measured_line font pen.ignore_unknown_chars text)
-  pub counted : pen_steps r ≡ sums (u8g2 font) text (measured_line font pen.ignore_unknown_chars text).advance
+pub record PenAligned (font text : List ℕ) (a : HorizontalAlignment) (pen : Pen) (r : Report Pen) : Type 0 where
+  pub aligned : outcome r.result ≡ aligned_pen a pen (measured_line font pen.ignore_unknown_chars text)
+  pub counted : r.steps ≡ sums (u8g2 font) text (measured_line font pen.ignore_unknown_chars text).advance
   -- the line may be drawn from there
-  pub placed : (p : Pen) → pen_outcome r ≡ success p → CheckedLine text p.origin p.line_height
+  pub placed : (p : Pen) → outcome r.result ≡ success p → CheckedLine text p.origin p.line_height

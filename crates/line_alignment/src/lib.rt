@@ -11,19 +11,10 @@ ghost use Rattle.line_alignment.specs.Pens.{moved_by, PenAligned};
 use checks::origin::Pen;
 use layout::render_actions::compute_horizontal_offset;
 use text_lines::measure_lines;
-use types::error::Error;
 use types::font_reader::FontReader;
 use types::geometry::Point;
-use types::results::DimensionsResult;
-use types::steps::LookupSteps;
+use types::results::Report;
 use types::style::HorizontalAlignment;
-
-// The pen of a line, or why the line is stopped; with the steps of its lookups either way.
-#[derive(Clone, Copy)]
-pub enum PenResult {
-    Ok(Pen, LookupSteps),
-    Err(Error, LookupSteps),
-}
 
 fn move_pen(pen: Pen, x: i32) -> Pen
     requires { Near pen.origin.x × Near x }
@@ -40,14 +31,15 @@ fn move_pen(pen: Pen, x: i32) -> Pen
     }
 }
 
-// Measures a line from its own start, and moves the pen by the line's offset. It reads no runs.
+// The pen of a line, or why the line is stopped: the line is measured from its own start, and the pen moved by its offset. It reads
+// no runs.
 pub fn align_pen(
     font: &[u8],
     head: FontReader,
     line: &[u8],
     horizontal_align: HorizontalAlignment,
     pen: Pen,
-) -> PenResult
+) -> Report<Pen>
     requires { CheckedText font.now head line.now pen × (newlines (code_points_of line.now) ≡ 0) }
     ensures { PenAligned font.now line.now horizontal_align pen result }
 {
@@ -57,15 +49,22 @@ pub fn align_pen(
         ignore_unknown_chars: pen.ignore_unknown_chars,
     };
     let measured = measure_lines(font, head, line, HorizontalAlignment::Left, start);
-    let result = measured.result;
-    let steps = measured.steps;
-    match result {
-        DimensionsResult::Err(error) => PenResult::Err(error, steps),
-        DimensionsResult::Ok(dimensions) => {
-            let advance = dimensions.advance;
+    match measured.result {
+        Err(error) => Report {
+            result: Err(error),
+            steps: measured.steps,
+        },
+        Ok(dimensions) => {
             let line_box = dimensions.bounding_box;
-            let offset = compute_horizontal_offset(horizontal_align, line_box, advance.x);
-            PenResult::Ok(move_pen(pen, offset), steps)
+            let offset = compute_horizontal_offset(
+                horizontal_align,
+                line_box,
+                dimensions.advance.x,
+            );
+            Report {
+                result: Ok(move_pen(pen, offset)),
+                steps: measured.steps,
+            }
         }
     }
 }

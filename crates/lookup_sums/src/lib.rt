@@ -9,9 +9,9 @@ ghost use Rattle.definitions.specs.Sums.{plus_steps, Fits32};
 ghost use Rattle.lookup_sums.specs.Reports.{refused_report, box_report};
 
 use types::error::Error;
-use types::results::{BoundingBoxReport, BoundingBoxResult, DimensionsReport, DimensionsResult};
+use types::geometry::{Rectangle, RenderedDimensions};
+use types::results::Report;
 use types::steps::LookupSteps;
-use utils::error::error_number;
 
 pub fn no_steps() -> LookupSteps
     ensures { result ≡ no_steps }
@@ -36,39 +36,28 @@ pub fn add_steps(sum: LookupSteps, steps: LookupSteps) -> LookupSteps
 pub fn sum_with(error: Error, sum: LookupSteps) -> LookupSteps
     ensures { result ≡ pick (eqb (error_number error) 7) sum no_steps }
 {
-    if error_number(error) == 7 {
-        return sum;
+    match error {
+        Error::GlyphNotFound(_) => sum,
+        _ => no_steps(),
     }
-    no_steps()
 }
 
 // The report of a call that is refused before its first character.
-pub fn refused(error: Error) -> DimensionsReport
+pub fn refused(error: Error) -> Report<RenderedDimensions>
     ensures { result ≡ refused_report error }
 {
-    DimensionsReport {
-        result: DimensionsResult::Err(error),
+    Report {
+        result: Err(error),
         steps: no_steps(),
     }
 }
 
 // The report of an aligned call, which answers with the box alone.
-pub fn box_alone(report: DimensionsReport) -> BoundingBoxReport
+pub fn box_alone(report: Report<RenderedDimensions>) -> Report<Option<Rectangle>>
     ensures { result ≡ box_report report }
 {
-    let steps = report.steps;
-    let result = report.result;
-    match result {
-        DimensionsResult::Err(error) => BoundingBoxReport {
-            result: BoundingBoxResult::Err(error),
-            steps,
-        },
-        DimensionsResult::Ok(dimensions) => {
-            let bounding_box = dimensions.bounding_box;
-            BoundingBoxReport {
-                result: BoundingBoxResult::Ok(bounding_box),
-                steps,
-            }
-        }
+    Report {
+        result: report.result.map(|dimensions| dimensions.bounding_box),
+        steps: report.steps,
     }
 }

@@ -2,7 +2,7 @@
 #![tactic(auto)]
 
 ghost use Rattle.std.specs.Prelude.{◌≡◌};
-ghost use Rattle.definitions.specs.Calls.{dimensions_outcome};
+ghost use Rattle.definitions.specs.Refusals.{outcome};
 ghost use Rattle.measure_line.specs.Measured.{measured_by_program, measuring_line};
 ghost use Rattle.numbers.specs.Written.{LineWritten};
 
@@ -10,22 +10,21 @@ use answer_line::{LINE_ROOM, result_line};
 use font_reader::new_from_raw_data;
 use measuring::rendered_dimensions::get_rendered_dimensions;
 use types::error::Error;
-use types::geometry::Point;
-use types::results::{DimensionsResult, FontReaderResult};
+use types::geometry::{Point, RenderedDimensions};
 use types::style::{Placement, VerticalPosition};
 
 // The longest font that the program takes; the calls take longer ones.
 const MAX_FONT_SIZE: usize = 65_536;
 
-fn measured(font: &[u8], text: &[u8]) -> DimensionsResult
-    ensures { dimensions_outcome result ≡ measured_by_program font.now text.now }
+fn measured(font: &[u8], text: &[u8]) -> Result<RenderedDimensions, Error>
+    ensures { outcome result ≡ measured_by_program font.now text.now }
 {
     if MAX_FONT_SIZE < font.len() {
-        return DimensionsResult::Err(Error::FontLength);
+        return Err(Error::FontLength);
     }
     match new_from_raw_data(font) {
-        FontReaderResult::Err(error) => DimensionsResult::Err(error),
-        FontReaderResult::Ok(head) => {
+        Err(error) => Err(error),
+        Ok(head) => {
             let placement = Placement {
                 position: Point { x: 0, y: 0 },
                 line_height: head.line_height,

@@ -1,11 +1,10 @@
 -- What the checks leave of a call. Assumes nothing.
 use Rattle.integers.proofs.Prelude.{◌≡◌, sym, ap, ◌∙◌, false, List, ℕ, eqb}
-use Rattle.definitions.specs.Vocabulary.{FontReader, Point, Error}
-use Rattle.types.specs.declared.results.DimensionsReport.{DimensionsReport}
-use Rattle.definitions.specs.Refusals.{success, refused, error_number, refusal}
+use Rattle.definitions.specs.Vocabulary.{FontReader, Point, Error, Report, RenderedDimensions}
+use Rattle.definitions.specs.Refusals.{success, refused, error_number, refusal, outcome}
 use Rattle.definitions.specs.TextSteps.{measure_lines}
 use Rattle.definitions.specs.Font.{u8g2, measured_answer}
-use Rattle.definitions.specs.Calls.{open_font, Request, code_points_of, origin, measure, dimensions_outcome}
+use Rattle.definitions.specs.Calls.{open_font, Request, code_points_of, origin, measure}
 use Rattle.definitions.specs.Sums.{sums}
 use Rattle.definitions.proofs.SumsLaws.{no_sums}
 use Rattle.definitions.proofs.TextLaws.{measure_lines_lem}
@@ -30,8 +29,8 @@ module _ (font : List ℕ) {head : FontReader} (opens : open_font font ≡ succe
 
 -- ---- the report: an answer, and the sums that go with it
 
-module _ (font : List ℕ) (r : Request) {report : DimensionsReport} where
-  pub reported : dimensions_outcome report.result ≡ measure (u8g2 font) r → report.steps ≡ sums (u8g2 font) r.text (dimensions_outcome report.result)
+module _ (font : List ℕ) (r : Request) {report : Report RenderedDimensions} where
+  pub reported : outcome report.result ≡ measure (u8g2 font) r → report.steps ≡ sums (u8g2 font) r.text (outcome report.result)
       → AlignedMeasured font r report
   reported a s = record { answered = a; summed = s ∙ ap (sums (u8g2 font) r.text) a }
 

@@ -2,11 +2,12 @@
 ghost use Rattle.definitions.specs.Calls.{request};
 ghost use Rattle.measuring.specs.Aligned.{AlignedMeasured};
 
-use checks::origin::{OriginResult, Pen, checked_origin};
+use checks::origin::{Pen, checked_origin};
 use font_reader::new_from_raw_data;
 use lookup_sums::refused;
 use text_lines::measure_lines;
-use types::results::{DimensionsReport, FontReaderResult};
+use types::geometry::RenderedDimensions;
+use types::results::Report;
 use types::style::{HorizontalAlignment, Placement, VerticalPosition};
 
 // The dimensions of the aligned text, or the refusal, and the steps of its lookups.
@@ -16,16 +17,16 @@ pub fn aligned_dimensions(
     placement: Placement,
     vertical_pos: VerticalPosition,
     horizontal_align: HorizontalAlignment,
-) -> DimensionsReport
+) -> Report<RenderedDimensions>
     ensures { AlignedMeasured font.now
         (request text.now placement vertical_pos horizontal_align) result }
 {
     match new_from_raw_data(font) {
-        FontReaderResult::Err(error) => refused(error),
-        FontReaderResult::Ok(head) => {
+        Err(error) => refused(error),
+        Ok(head) => {
             match checked_origin(head.ascent, head.descent, text, placement, vertical_pos) {
-                OriginResult::Err(error) => refused(error),
-                OriginResult::Ok(origin) => {
+                Err(error) => refused(error),
+                Ok(origin) => {
                     let pen = Pen {
                         origin,
                         line_height: placement.line_height,

@@ -1,11 +1,12 @@
 // The font's bounding box: where the largest glyph could lie.
 ghost use Rattle.std.specs.Prelude.{◌≡◌, pos, negsuc, nat_abs, ◌+ℤ◌, ◌-ℤ◌, ◌≤ℤ◌};
-ghost use Rattle.definitions.specs.Calls.{font_box, font_bounding_box, rectangle_outcome};
+ghost use Rattle.definitions.specs.Refusals.{outcome};
+ghost use Rattle.definitions.specs.Calls.{font_box, font_bounding_box};
 
 use font_reader::new_from_raw_data;
+use types::error::Error;
 use types::font_reader::FontReader;
 use types::geometry::{Point, Rectangle, Size};
-use types::results::{FontReaderResult, RectangleResult};
 use types::style::VerticalPosition;
 use vertical_offset::compute_vertical_offset;
 
@@ -46,11 +47,14 @@ fn font_box(head: FontReader, vertical_pos: VerticalPosition) -> Rectangle
 }
 
 // The bounding box of all glyphs at (0, 0), or the refusal.
-pub fn get_font_bounding_box(font: &[u8], vertical_pos: VerticalPosition) -> RectangleResult
-    ensures { rectangle_outcome result ≡ font_bounding_box font.now vertical_pos }
+pub fn get_font_bounding_box(
+    font: &[u8],
+    vertical_pos: VerticalPosition,
+) -> Result<Rectangle, Error>
+    ensures { outcome result ≡ font_bounding_box font.now vertical_pos }
 {
     match new_from_raw_data(font) {
-        FontReaderResult::Err(error) => RectangleResult::Err(error),
-        FontReaderResult::Ok(head) => RectangleResult::Ok(font_box(head, vertical_pos)),
+        Err(error) => Err(error),
+        Ok(head) => Ok(font_box(head, vertical_pos)),
     }
 }

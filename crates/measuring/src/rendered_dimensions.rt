@@ -1,11 +1,13 @@
 // The dimensions that a text has when it is drawn.
 ghost use Rattle.std.specs.Prelude.{◌≡◌};
+ghost use Rattle.definitions.specs.Refusals.{outcome};
 ghost use Rattle.definitions.specs.Font.{u8g2};
-ghost use Rattle.definitions.specs.Calls.{plain, measure, dimensions_outcome};
+ghost use Rattle.definitions.specs.Calls.{plain, measure};
 ghost use Rattle.definitions.specs.Sums.{sums};
 
 use crate::aligned_dimensions::aligned_dimensions;
-use types::results::DimensionsReport;
+use types::geometry::RenderedDimensions;
+use types::results::Report;
 use types::style::{HorizontalAlignment, Placement, VerticalPosition};
 
 // The dimensions of the text as it would be drawn at the position, or the refusal; and the steps of its lookups, whichever it is.
@@ -14,8 +16,8 @@ pub fn get_rendered_dimensions(
     text: &[u8],
     placement: Placement,
     vertical_pos: VerticalPosition,
-) -> DimensionsReport
-    ensures answered { dimensions_outcome result.result ≡ measure (u8g2 font.now)
+) -> Report<RenderedDimensions>
+    ensures answered { outcome result.result ≡ measure (u8g2 font.now)
         (plain text.now placement vertical_pos) }
     ensures summed { result.steps ≡ sums (u8g2 font.now) text.now
         (measure (u8g2 font.now) (plain text.now placement vertical_pos)) }

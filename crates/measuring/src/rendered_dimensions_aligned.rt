@@ -1,12 +1,14 @@
 // The bounding box that a text has when each of its lines is aligned.
 ghost use Rattle.std.specs.Prelude.{◌≡◌};
+ghost use Rattle.definitions.specs.Refusals.{outcome};
 ghost use Rattle.definitions.specs.Font.{u8g2};
-ghost use Rattle.definitions.specs.Calls.{request, measure_aligned, bounding_box_outcome};
+ghost use Rattle.definitions.specs.Calls.{request, measure_aligned};
 ghost use Rattle.definitions.specs.Sums.{sums};
 
 use crate::aligned_dimensions::aligned_dimensions;
 use lookup_sums::box_alone;
-use types::results::BoundingBoxReport;
+use types::geometry::Rectangle;
+use types::results::Report;
 use types::style::{HorizontalAlignment, Placement, VerticalPosition};
 
 // The bounding box of the aligned text at the position, or the refusal, and the steps of its lookups. It has no advance
@@ -17,8 +19,8 @@ pub fn get_rendered_dimensions_aligned(
     placement: Placement,
     vertical_pos: VerticalPosition,
     horizontal_align: HorizontalAlignment,
-) -> BoundingBoxReport
-    ensures answered { bounding_box_outcome result.result ≡ measure_aligned (u8g2 font.now)
+) -> Report<Option<Rectangle>>
+    ensures answered { outcome result.result ≡ measure_aligned (u8g2 font.now)
         (request text.now placement vertical_pos horizontal_align) }
     ensures summed { result.steps ≡ sums (u8g2 font.now) text.now (measure_aligned
         (u8g2 font.now) (request text.now placement vertical_pos horizontal_align)) }

@@ -9,8 +9,7 @@ use font_reader::new_from_raw_data;
 use measuring::aligned_dimensions::aligned_dimensions;
 use types::error::Error;
 use types::framebuffer::Framebuffer;
-use types::geometry::{BoundingBox, Point, Rectangle, RenderedDimensions, Size};
-use types::results::{DimensionsResult, FontReaderResult};
+use types::geometry::{Point, Rectangle, RenderedDimensions, Size};
 use types::style::{FontColor, HorizontalAlignment, Placement, VerticalPosition};
 
 #[derive(Clone, Copy)]
@@ -57,8 +56,8 @@ fn draw_box(
         &mut buffer[..n],
     );
     match answer {
-        DimensionsResult::Err(error) => DrawResult::Refused(error),
-        DimensionsResult::Ok(dimensions) => DrawResult::Drawn(dimensions, size),
+        Err(error) => DrawResult::Refused(error),
+        Ok(dimensions) => DrawResult::Drawn(dimensions, size),
     }
 }
 
@@ -83,14 +82,12 @@ fn draw_measured(
     let measured = aligned_dimensions(font, text, placement, VerticalPosition::Baseline, align);
     let result = measured.result;
     match result {
-        DimensionsResult::Err(error) => DrawResult::Refused(error),
-        DimensionsResult::Ok(dimensions) => {
+        Err(error) => DrawResult::Refused(error),
+        Ok(dimensions) => {
             let bounding_box = dimensions.bounding_box;
             match bounding_box {
-                BoundingBox::None => DrawResult::Blank(dimensions),
-                BoundingBox::Some(rectangle) => {
-                    draw_box(font, text, setting, rectangle, color, buffer)
-                }
+                None => DrawResult::Blank(dimensions),
+                Some(rectangle) => { draw_box(font, text, setting, rectangle, color, buffer) }
             }
         }
     }
@@ -110,8 +107,8 @@ pub fn draw_whole(
         (setting_of (header font.now).line_height align) color buffer.old buffer.new result }
 {
     match new_from_raw_data(font) {
-        FontReaderResult::Err(error) => DrawResult::Refused(error),
-        FontReaderResult::Ok(head) => {
+        Err(error) => DrawResult::Refused(error),
+        Ok(head) => {
             let setting = Setting {
                 line_height: head.line_height,
                 align,

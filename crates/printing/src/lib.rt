@@ -3,7 +3,7 @@
 
 use code_points::write_digits;
 use types::error::Error;
-use types::geometry::{BoundingBox, Rectangle, RenderedDimensions};
+use types::geometry::{Rectangle, RenderedDimensions};
 use utils::error::{error_code_point, error_number};
 use utils::number::magnitude;
 
@@ -39,10 +39,10 @@ pub fn rectangle<R: Print>(rt: &R, r: Rectangle) {
     unsigned(rt, r.size.height);
 }
 
-fn box_or_none<R: Print>(rt: &R, b: BoundingBox) {
+fn box_or_none<R: Print>(rt: &R, b: Option<Rectangle>) {
     match b {
-        BoundingBox::Some(r) => rectangle(rt, r),
-        BoundingBox::None => text(rt, b" none"),
+        Some(r) => rectangle(rt, r),
+        None => text(rt, b" none"),
     }
 }
 
@@ -56,7 +56,7 @@ pub fn dimensions<R: Print>(rt: &R, d: RenderedDimensions) {
 }
 
 // .. of an aligned call, which has no advance
-pub fn bounding_box<R: Print>(rt: &R, b: BoundingBox) {
+pub fn bounding_box<R: Print>(rt: &R, b: Option<Rectangle>) {
     text(rt, b"ok");
     box_or_none(rt, b);
 }

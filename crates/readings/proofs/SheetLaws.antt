@@ -5,13 +5,12 @@ use Rattle.integers.proofs.Prelude.{length}
 use Rattle.integers.proofs.Choices.{impossible}
 use Rattle.integers.specs.Integers.{pick}
 use Rattle.definitions.specs.Vocabulary.{RenderedDimensions, Transparent, Place}
-use Rattle.definitions.specs.Refusals.{Outcome, success, refused, Cause, any_applies}
+use Rattle.definitions.specs.Refusals.{Outcome, success, refused, Cause, any_applies, outcome}
 use Rattle.definitions.specs.Header.{font_causes}
 use Rattle.definitions.specs.Utf8.{table, row_of, first_character, decode_from}
 use Rattle.definitions.specs.Font.{u8g2}
 use Rattle.definitions.specs.Framebuffer.{framebuffer_cause}
 use Rattle.definitions.specs.Limits.{text_cause, position_cause, background_cause}
-use Rattle.definitions.specs.Calls.{dimensions_outcome}
 use Rattle.angles.specs.AngleText.{degrees_then, angle_text}
 use Rattle.redraw_checks.specs.Drawing.{drawn, after, ground_of}
 use Rattle.buffers.specs.Differences.{differences}
@@ -285,12 +284,12 @@ module _ (narrow : Bool) (font : List ℕ) (place : Place) (ground : List ℕ) w
         ap (λ (n : ℕ). screen_of n exit) finds.old ∙ ap (screen_of (screen_after narrow font place (screen_of old bytes) k).old) finds.bytes ∙ after_is
 
     pub next_totals : {t next : Totals} → t ≡ totals k
-        → next ≡ tallied t (sight_of place.framebuffer (dimensions_outcome found.answer)) found.differing → next ≡ totals (k + 1)
+        → next ≡ tallied t (sight_of place.framebuffer (outcome found.answer)) found.differing → next ≡ totals (k + 1)
     unfolding totals_to
     next_totals {t} {next} e h =
         let suc_is : suc k ≡ k + 1 = omega arith in
         h
-        ∙ ap (λ (t : Totals). tallied t (sight_of place.framebuffer (dimensions_outcome found.answer)) found.differing) e
+        ∙ ap (λ (t : Totals). tallied t (sight_of place.framebuffer (outcome found.answer)) found.differing) e
         ∙ ap (λ (o : Outcome RenderedDimensions). tallied (totals k) (sight_of place.framebuffer o) found.differing)
         (finds.answer ∙ ap (λ (s : SheetState). answer_on font place s k) here)
         ∙ ap (tallied (totals k) (sight_of place.framebuffer (answer_on font place (before k) k)))

@@ -2,8 +2,7 @@
 use Rattle.std.specs.Prelude.{◌≡◌, Bool, false, List, ℕ, zero, suc, ◌+◌, ◌<◌}
 use Rattle.integers.specs.Integers.{pick}
 use Rattle.definitions.specs.Vocabulary.{RenderedDimensions, Place}
-use Rattle.definitions.specs.Refusals.{Outcome}
-use Rattle.definitions.specs.Calls.{dimensions_outcome}
+use Rattle.definitions.specs.Refusals.{Outcome, outcome}
 use Rattle.redraw_checks.specs.Drawing.{drawn, ground_of}
 use Rattle.buffers.specs.Differences.{differences}
 use Rattle.sight.specs.declared.Sight.{Sight}
@@ -50,7 +49,7 @@ screen_at narrow font place ground (suc k) = screen_after narrow font place (scr
 
 -- What is found of a step: its answer, the reading to clear next, and how many pixels differ.
 pub record Finds (narrow : Bool) (font : List ℕ) (place : Place) (ground : List ℕ) (s : SheetState) (k : ℕ) (found : Found) (exit : List ℕ) : Type 0 where
-  pub answer : dimensions_outcome found.answer ≡ answer_on font place s k
+  pub answer : outcome found.answer ≡ answer_on font place s k
   pub old : found.old ≡ (screen_after narrow font place s k).old
   pub bytes : exit ≡ (screen_after narrow font place s k).bytes
   pub differing : found.differing ≡ differing font place ground (screen_after narrow font place s k) k

@@ -5,7 +5,6 @@ ghost use Rattle.redraw.specs.Redraw.{reading_on};
 
 use renderer::render_aligned::render_aligned;
 use types::place::Place;
-use types::results::BoundingBoxResult;
 use types::style::Placement;
 
 // Draws the text alone on the ground, into `alone`: whole, or not at all.
@@ -35,8 +34,8 @@ pub fn draw_alone(font: &[u8], text: &[u8], place: Place, ground: &[u8], alone: 
     );
     let result = drawn.result;
     match result {
-        BoundingBoxResult::Ok(_) => {}
-        BoundingBoxResult::Err(_) => {
+        Ok(_) => {}
+        Err(_) => {
             alone.copy_from_slice(ground);
         }
     }

@@ -1,7 +1,7 @@
 // The step of the gauge, watched: each reading is drawn over the one before, and compared with the reading drawn alone.
 ghost use Rattle.std.specs.Prelude.{◌≡◌, length};
 ghost use Rattle.integers.specs.Integers.{pick};
-ghost use Rattle.definitions.specs.Calls.{dimensions_outcome};
+ghost use Rattle.definitions.specs.Refusals.{outcome};
 ghost use Rattle.buffers.specs.Differences.{differences};
 ghost use Rattle.redraw.specs.Redraw.{redrawn, taken};
 ghost use Rattle.redraw_checks.specs.Drawing.{ground_of};
@@ -15,12 +15,19 @@ use buffers::count_differences;
 use faulty_step::{Trial, redraw_on};
 use redraw::reading::is_taken;
 use sheet_ground::texts::reading_text;
+use types::error::Error;
+use types::geometry::RenderedDimensions;
 use types::place::Place;
-use types::results::DimensionsResult;
 
 // Draws reading k over the reading `old`.
-fn draw_over(font: &[u8], old: usize, k: usize, trial: Trial, screen: &mut [u8]) -> DimensionsResult
-    ensures answered { dimensions_outcome result ≡ redrawn font.now (reading_text old) (reading trial.place k)
+fn draw_over(
+    font: &[u8],
+    old: usize,
+    k: usize,
+    trial: Trial,
+    screen: &mut [u8],
+) -> Result<RenderedDimensions, Error>
+    ensures answered { outcome result ≡ redrawn font.now (reading_text old) (reading trial.place k)
         (ground_of trial.place screen.old) }
     ensures shown { screen.new ≡ step_buffer trial.narrow font.now (reading_text old)
         (reading trial.place k) trial.place.background (ground_of trial.place screen.old) }
@@ -54,8 +61,8 @@ fn compare(
 }
 
 // The reading that the next step is to clear.
-fn next_old(answer: DimensionsResult, k: usize, old: usize) -> usize
-    ensures { result ≡ pick (taken (dimensions_outcome answer)) k old }
+fn next_old(answer: Result<RenderedDimensions, Error>, k: usize, old: usize) -> usize
+    ensures { result ≡ pick (taken (outcome answer)) k old }
 {
     if is_taken(answer) { k } else { old }
 }

@@ -1,11 +1,12 @@
 // What is found of a step. There is no code here.
-use types::results::DimensionsResult;
+use types::error::Error;
+use types::geometry::RenderedDimensions;
 
 // What is found of one step: its answer, the number of the reading that the next step is to clear, and how many pixels of the
 // screen are not what it is to show.
 #[derive(Clone, Copy)]
 pub struct Found {
-    pub answer: DimensionsResult,
+    pub answer: Result<RenderedDimensions, Error>,
     pub old: usize,
     pub differing: usize,
 }

@@ -1,14 +1,13 @@
 -- A reading drawn over the one before, whole or not at all: the one call that the gauge makes.
 use Rattle.std.specs.Prelude.{◌≡◌, Bool, true, ◌||◌, List, ℕ, ◌<◌, eqb, pos}
 use Rattle.integers.specs.Integers.{pick}
-use Rattle.definitions.specs.Vocabulary.{BoundingBox, RenderedDimensions, Place}
+use Rattle.definitions.specs.Vocabulary.{BoundingBox, RenderedDimensions, Place, Report}
 use Rattle.definitions.specs.Refusals.{Outcome, success, refused, unless_refused, any_applies}
 use Rattle.definitions.specs.Geometry.{InsideBox}
 use Rattle.definitions.specs.Framebuffer.{shown}
 use Rattle.definitions.specs.Agreement.{Ground, on, pixel, width, height}
 use Rattle.checks.specs.declared.origin.Pen.{Pen}
 use Rattle.framebuffer.specs.Areas.{fill_picture}
-use Rattle.types.specs.declared.results.DimensionsReport.{DimensionsReport}
 use Rattle.renderer.specs.Texts.{counted_with, drawn_with, TextCounted}
 use Rattle.redraw_checks.specs.Drawing.{Drawing, with_text, drawn, after}
 use Rattle.redraw_checks.specs.Checks.{redraw_causes}
@@ -22,7 +21,7 @@ whole_or (success d) drawing untouched = drawing
 whole_or (refused n c) drawing untouched = untouched
 
 -- A checked text is counted, and shown whole or not at all.
-pub record ReadingDrawn (font text : List ℕ) (pen : Pen) (place : Place) (before after : List ℕ) (r : DimensionsReport) : Type 0 where
+pub record ReadingDrawn (font text : List ℕ) (pen : Pen) (place : Place) (before after : List ℕ) (r : Report RenderedDimensions) : Type 0 where
   pub told : TextCounted font text place.horizontal_align pen r
   pub shown : after
       ≡ whole_or (counted_with font text place.horizontal_align pen) (drawn_with font text place.horizontal_align pen (context_of place) before) before

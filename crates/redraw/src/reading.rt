@@ -1,7 +1,7 @@
 // A reading drawn over the one before, whole or not at all.
 ghost use Rattle.std.specs.Prelude.{◌≡◌, length};
+ghost use Rattle.definitions.specs.Refusals.{outcome};
 ghost use Rattle.definitions.specs.Font.{u8g2};
-ghost use Rattle.definitions.specs.Calls.{dimensions_outcome};
 ghost use Rattle.definitions.specs.Sums.{sums};
 ghost use Rattle.renderer.specs.Texts.{DrawableText, counted_with};
 ghost use Rattle.redraw_checks.specs.Drawing.{asked, ground_of};
@@ -11,12 +11,14 @@ ghost use Rattle.redraw.specs.Steps.{setting_of, reading_of, LeavesReading};
 use checks::origin::Pen;
 use framebuffer::fill::fill_box;
 use lookup_sums::refused;
-use redraw_checks::{StepResult, check_step};
+use redraw_checks::check_step;
 use renderer::letters::Context;
 use renderer::lines::{draw_aligned, get_drawn_dimensions};
+use types::error::Error;
 use types::font_reader::FontReader;
+use types::geometry::RenderedDimensions;
 use types::place::Place;
-use types::results::{DimensionsReport, DimensionsResult};
+use types::results::Report;
 use utils::error::error_number;
 
 // Fills the box of a text that draws. One that does not draw has left nothing on the framebuffer.
@@ -35,7 +37,7 @@ fn clear_reading(
     let horizontal_align = place.horizontal_align;
     let drawn = get_drawn_dimensions(font, head, text, pen, horizontal_align);
     let result = drawn.result;
-    let DimensionsResult::Ok(dimensions) = result else {
+    let Ok(dimensions) = result else {
         return;
     };
     let bounding_box = dimensions.bounding_box;
@@ -51,7 +53,7 @@ pub fn draw_reading(
     pen: Pen,
     place: Place,
     buffer: &mut [u8],
-) -> DimensionsReport
+) -> Report<RenderedDimensions>
     requires { DrawableText font.now head text.now pen place.framebuffer (length buffer.old) }
     ensures { ReadingDrawn font.now text.now pen place buffer.old buffer.new
         result }
@@ -59,7 +61,7 @@ pub fn draw_reading(
     let horizontal_align = place.horizontal_align;
     let expected = get_drawn_dimensions(font, head, text, pen, horizontal_align);
     let result = expected.result;
-    let DimensionsResult::Ok(_) = result else {
+    let Ok(_) = result else {
         return expected;
     };
     let style = place.style;
@@ -78,20 +80,20 @@ pub fn redraw(
     new_text: &[u8],
     place: Place,
     buffer: &mut [u8],
-) -> DimensionsReport
-    ensures answered { dimensions_outcome result.result ≡ redrawn font.now old_text.now
+) -> Report<RenderedDimensions>
+    ensures answered { outcome result.result ≡ redrawn font.now old_text.now
         (asked place new_text.now) (ground_of place buffer.old) }
     ensures shown { buffer.new ≡ redrawn_buffer font.now old_text.now
         (asked place new_text.now) place.background (ground_of place buffer.old) }
     ensures leaves { LeavesReading (setting_of font.now place) old_text.now
-        (reading_of new_text.now place.style.color) buffer.old (dimensions_outcome result.result)
+        (reading_of new_text.now place.style.color) buffer.old (outcome result.result)
         buffer.new }
     ensures summed { result.steps ≡ sums (u8g2 font.now) new_text.now (redrawn font.now
         old_text.now (asked place new_text.now) (ground_of place buffer.old)) }
 {
     match check_step(font, old_text, new_text, place, &buffer[..]) {
-        StepResult::Err(error) => refused(error),
-        StepResult::Ok(step) => {
+        Err(error) => refused(error),
+        Ok(step) => {
             let head = step.head;
             let old_pen = step.old_pen;
             let new_pen = step.new_pen;
@@ -102,12 +104,12 @@ pub fn redraw(
 }
 
 // Whether the step was taken, so that the next one is to clear its new text. If it was not, the old text still stands.
-pub fn is_taken(answer: DimensionsResult) -> bool
-    ensures { result ≡ taken (dimensions_outcome answer) }
+pub fn is_taken(answer: Result<RenderedDimensions, Error>) -> bool
+    ensures { result ≡ taken (outcome answer) }
 {
     match answer {
-        DimensionsResult::Ok(_) => true,
-        DimensionsResult::Err(error) => {
+        Ok(_) => true,
+        Err(error) => {
             let number = error_number(error);
             (number == 7) | (number == 8)
         }

@@ -1,6 +1,6 @@
 -- What the step's tests leave of it.
 use Rattle.std.specs.Prelude.{false, List, [], ◌∷◌, ◌++◌, ℕ}
-use Rattle.definitions.specs.Refusals.{Outcome, success, refusal, Cause, unless_refused}
+use Rattle.definitions.specs.Refusals.{Outcome, success, Cause, unless_refused}
 use Rattle.definitions.specs.Header.{header, font_causes}
 use Rattle.definitions.specs.Framebuffer.{framebuffer_cause}
 use Rattle.definitions.specs.Limits.{text_cause, position_cause, background_cause}
@@ -10,8 +10,6 @@ use Rattle.definitions.specs.Agreement.{Ground}
 use Rattle.redraw_checks.specs.Drawing.{Drawing, asks, with_text}
 use Rattle.checks.specs.declared.origin.Pen.{Pen}
 use Rattle.redraw_checks.specs.declared.Step.{Step}
-use Rattle.redraw_checks.specs.declared.StepResult.{StepResult}
-use Rattle.redraw_checks.specs.declared.StepResult.TheVariants.{Ok, Err}
 use Rattle.definitions.specs.Vocabulary.{Point}
 
 -- The causes of the step, in the order of SPECIFICATION, Refusals, for both texts.
@@ -38,7 +36,3 @@ step_of font old new = record { head = header font; old_pen = pen_of font old ne
 -- the header and the pens, unless one of the step's causes applies
 abbrev pub checked_step : List ℕ → List ℕ → Drawing → Ground → Outcome Step
 checked_step font old new p = unless_refused (redraw_causes font old new p) (success (step_of font old new))
-
-abbrev pub step_outcome : StepResult → Outcome Step
-step_outcome (Ok s) = success s
-step_outcome (Err e) = refusal e

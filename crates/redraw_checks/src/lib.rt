@@ -2,16 +2,16 @@
 #![tactic(auto)]
 
 ghost use Rattle.std.specs.Prelude.{◌≡◌};
+ghost use Rattle.definitions.specs.Refusals.{outcome};
 ghost use Rattle.redraw_checks.specs.Drawing.{asked, ground_of};
-ghost use Rattle.redraw_checks.specs.Checks.{step_outcome, checked_step};
+ghost use Rattle.redraw_checks.specs.Checks.{checked_step};
 
 use checks::limits::{has_bad_color, has_bad_size, has_bad_text};
-use checks::origin::{OriginResult, Pen, checked_origin, text_origin};
+use checks::origin::{Pen, checked_origin, text_origin};
 use font_reader::new_from_raw_data;
 use types::error::Error;
 use types::font_reader::FontReader;
 use types::place::Place;
-use types::results::FontReaderResult;
 use types::style::Placement;
 
 // The header that was read, and what each text is set with.
@@ -22,12 +22,6 @@ pub struct Step {
     pub new_pen: Pen,
 }
 
-#[derive(Clone, Copy)]
-pub enum StepResult {
-    Ok(Step),
-    Err(Error),
-}
-
 // Causes 1 to 6 (SPECIFICATION, Refusals), in this order, for both texts. Nothing is skipped.
 pub fn check_step(
     font: &[u8],
@@ -35,61 +29,41 @@ pub fn check_step(
     new_text: &[u8],
     place: Place,
     buffer: &[u8],
-) -> StepResult
-    ensures { step_outcome result ≡ checked_step font.now old_text.now
+) -> Result<Step, Error>
+    ensures { outcome result ≡ checked_step font.now old_text.now
         (asked place new_text.now) (ground_of place buffer.now) }
 {
-    let position = place.position;
-    let style = place.style;
-    let vertical_pos = style.vertical_pos;
+    let head = new_from_raw_data(font)?;
+    if has_bad_size(place.framebuffer, buffer) {
+        return Err(Error::FramebufferSize);
+    }
+    if has_bad_text(old_text) {
+        return Err(Error::TextEncoding);
+    }
     let line_height = place.line_height;
     let ignore_unknown_chars = false;
     let placement = Placement {
-        position,
+        position: place.position,
         line_height,
         ignore_unknown_chars,
     };
-    let framebuffer = place.framebuffer;
-    let color = style.color;
-    match new_from_raw_data(font) {
-        FontReaderResult::Err(error) => StepResult::Err(error),
-        FontReaderResult::Ok(head) => {
-            if has_bad_size(framebuffer, buffer) {
-                return StepResult::Err(Error::FramebufferSize);
-            }
-            if has_bad_text(old_text) {
-                return StepResult::Err(Error::TextEncoding);
-            }
-            match checked_origin(head.ascent, head.descent, new_text, placement, vertical_pos) {
-                OriginResult::Err(error) => StepResult::Err(error),
-                OriginResult::Ok(new_origin) => {
-                    if has_bad_color(color, head.supports_background_color) {
-                        return StepResult::Err(Error::BackgroundColorNotSupported);
-                    }
-                    let old_origin = text_origin(
-                        head.ascent,
-                        head.descent,
-                        old_text,
-                        placement,
-                        vertical_pos,
-                    );
-                    let old_pen = Pen {
-                        origin: old_origin,
-                        line_height,
-                        ignore_unknown_chars,
-                    };
-                    let new_pen = Pen {
-                        origin: new_origin,
-                        line_height,
-                        ignore_unknown_chars,
-                    };
-                    StepResult::Ok(Step {
-                        head,
-                        old_pen,
-                        new_pen,
-                    })
-                }
-            }
-        }
+    let vertical_pos = place.style.vertical_pos;
+    let new_origin = checked_origin(head.ascent, head.descent, new_text, placement, vertical_pos)?;
+    if has_bad_color(place.style.color, head.supports_background_color) {
+        return Err(Error::BackgroundColorNotSupported);
     }
+    let old_pen = Pen {
+        origin: text_origin(head.ascent, head.descent, old_text, placement, vertical_pos),
+        line_height,
+        ignore_unknown_chars,
+    };
+    let new_pen = Pen {
+        origin: new_origin,
+        ..old_pen
+    };
+    Ok(Step {
+        head,
+        old_pen,
+        new_pen,
+    })
 }

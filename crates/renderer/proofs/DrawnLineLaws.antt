@@ -1,11 +1,9 @@
 -- A line that was measured, and is then drawn where its offset puts it. Assumes nothing.
 use Rattle.integers.proofs.Prelude.{◌≡◌, refl, sym, ap, subst, ◌∙◌, false, List, ℕ, eqb, pos}
 use Rattle.integers.proofs.Choices.{impossible}
-use Rattle.definitions.specs.Vocabulary.{Point, RenderedDimensions, GlyphReader, LookupSteps, FontColor, HorizontalAlignment, Error}
-use Rattle.types.specs.declared.results.DimensionsReport.{DimensionsReport}
+use Rattle.definitions.specs.Vocabulary.{Point, RenderedDimensions, GlyphReader, LookupSteps, FontColor, HorizontalAlignment, Error, Report}
 use Rattle.types.specs.declared.style.HorizontalAlignment.TheVariants.{Left}
-use Rattle.types.specs.declared.results.DimensionsResult.TheVariants.{Ok as Dimensions-as-Ok, Err as Dimensions-as-Err}
-use Rattle.definitions.specs.Refusals.{Outcome, success, refused, and_then, refusal}
+use Rattle.definitions.specs.Refusals.{Outcome, success, refused, and_then, refusal, outcome}
 use Rattle.definitions.specs.Lookup.{no_steps}
 use Rattle.definitions.specs.Geometry.{join}
 use Rattle.definitions.specs.Utf8.{newlines}
@@ -14,7 +12,7 @@ use Rattle.definitions.specs.TextSteps.{measure_from, draw_from, start}
 use Rattle.definitions.specs.Font.{u8g2, pixels_of}
 use Rattle.definitions.specs.Picture.{text_picture}
 use Rattle.definitions.specs.Framebuffer.{shown}
-use Rattle.definitions.specs.Calls.{code_points_of, dimensions_outcome}
+use Rattle.definitions.specs.Calls.{code_points_of}
 use Rattle.definitions.specs.Sums.{sums}
 use Rattle.definitions.proofs.SumsLaws.{no_sums}
 use Rattle.definitions.proofs.FramebufferLaws.{shown_blank}
@@ -22,7 +20,7 @@ use Rattle.definitions.proofs.TextLaws.{lines_last, dimensions_from, measure_fro
 use Rattle.definitions.proofs.LineLaws.{drawn_eight}
 use Rattle.checks.specs.declared.origin.Pen.{Pen}
 use Rattle.line_alignment.specs.Pens.{measured_line, moved_by, aligned_pen}
-use Rattle.layout.specs.declared.steps.CharResult.TheVariants.{Ok, Err}
+use Rattle.std.specs.Prelude.{Ok, Err}
 use Rattle.renderer.specs.declared.letters.Context.{Context}
 use Rattle.renderer.specs.declared.lines.LineSetting.{LineSetting}
 use Rattle.renderer.specs.Texts.{drawn_by, LettersDrawn, line_laid, LineDrawn, TextDrawn}
@@ -35,7 +33,7 @@ one_line answers line_height origin advance cs one =
     ap (λ (ls : Lines). line_by_line (letters answers origin) line_height advance ls) (lines_last cs one)
 
 -- Letters from nothing on are the text aligned Left.
-from_start : {font text : List ℕ} {pen : Pen} {context : Context} {before after : List ℕ} {r : DimensionsReport}
+from_start : {font text : List ℕ} {pen : Pen} {context : Context} {before after : List ℕ} {r : Report RenderedDimensions}
     → LettersDrawn font text pen start context before after r → TextDrawn font text Left pen context before after r
 from_start {font} {text} {pen} {context} {before} l = record {
   told = record {
@@ -46,7 +44,7 @@ from_start {font} {text} {pen} {context} {before} l = record {
       ∙ draw_from_lem context.framebuffer.width context.color (pixels_of (u8g2 font)) (drawn_by font pen) pen.line_height pen.origin (code_points_of text) start before;
 }
 
-pub plain_text : {font text : List ℕ} {pen : Pen} {context : Context} {before after : List ℕ} {r : DimensionsReport} {a : HorizontalAlignment} {d : RenderedDimensions}
+pub plain_text : {font text : List ℕ} {pen : Pen} {context : Context} {before after : List ℕ} {r : Report RenderedDimensions} {a : HorizontalAlignment} {d : RenderedDimensions}
     → a ≡ Left → d ≡ start → LettersDrawn font text pen d context before after r → TextDrawn font text a pen context before after r
 plain_text {font} {text} {pen} {context} {before} {after} {r} p q l =
     subst (λ (b : HorizontalAlignment). TextDrawn font text b pen context before after r) (sym p)
@@ -133,7 +131,7 @@ module _ (font text : List ℕ) (a : HorizontalAlignment) (pen : Pen) where
 module _ {font text : List ℕ} {s : LineSetting} {d : RenderedDimensions} {context : Context} {before after : List ℕ} where
   -- stopped in measuring
   pub stopped_line : {e : Error} {q : LookupSteps} → refusal e ≡ aligned_pen s.horizontal_align s.pen (line font text s.horizontal_align s.pen)
-      → q ≡ sums (u8g2 font) text (line font text s.horizontal_align s.pen).advance → after ≡ before → LineDrawn font text s d context before after (Err e q)
+      → q ≡ sums (u8g2 font) text (line font text s.horizontal_align s.pen).advance → after ≡ before → LineDrawn font text s d context before after record { result = Err e; steps = q }
   stopped_line none counted kept =
       let stop = pen_stopped font text s.horizontal_align s.pen none in
       record {
@@ -145,7 +143,7 @@ module _ {font text : List ℕ} {s : LineSetting} {d : RenderedDimensions} {cont
       }
 
   module _ (one : newlines (code_points_of text) ≡ 0) {p : Pen} (m : Moved font text s.horizontal_align s.pen p)
-      {r : DimensionsReport} (l : LettersDrawn font text p d context before after r) where
+      {r : Report RenderedDimensions} (l : LettersDrawn font text p d context before after r) where
     shown_there : after
         ≡ shown context.framebuffer.width
         (text_picture context.color (pixels_of (u8g2 font)) (line_laid font s.horizontal_align s.pen d.advance (code_points_of text)).glyphs) before
@@ -153,9 +151,9 @@ module _ {font text : List ℕ} {s : LineSetting} {d : RenderedDimensions} {cont
         l.shown ∙ line_painted font text s.horizontal_align s.pen one m d context.framebuffer.width context.color (pixels_of (u8g2 font)) before
 
     -- .. in drawing, by runs that are cut off
-    pub cut_line : {e : Error} {q : LookupSteps} → r.result ≡ Dimensions-as-Err e → q ≡ no_steps → LineDrawn font text s d context before after (Err e q)
+    pub cut_line : {e : Error} {q : LookupSteps} → r.result ≡ Err e → q ≡ no_steps → LineDrawn font text s d context before after record { result = Err e; steps = q }
     cut_line {e} is none =
-        let refuses = sym l.counted ∙ ap dimensions_outcome is in
+        let refuses = sym l.counted ∙ ap outcome is in
         record {
           counted = sym refuses ∙ line_counted font text s.horizontal_align s.pen one m d;
           painted = shown_there;
@@ -164,13 +162,13 @@ module _ {font text : List ℕ} {s : LineSetting} {d : RenderedDimensions} {cont
         }
 
     -- .. or not at all
-    pub whole_line : {e : RenderedDimensions} {q : LookupSteps} → r.result ≡ Dimensions-as-Ok e
-        → q ≡ sums (u8g2 font) text (line font text s.horizontal_align s.pen).advance → LineDrawn font text s d context before after (Ok e q)
+    pub whole_line : {e : RenderedDimensions} {q : LookupSteps} → r.result ≡ Ok e
+        → q ≡ sums (u8g2 font) text (line font text s.horizontal_align s.pen).advance → LineDrawn font text s d context before after record { result = Ok e; steps = q }
     whole_line {e} is counted =
-        let goes = sym l.counted ∙ ap dimensions_outcome is in
+        let goes = sym l.counted ∙ ap outcome is in
         record {
           counted = sym goes ∙ line_counted font text s.horizontal_align s.pen one m d;
           painted = shown_there;
           summed = counted ∙ ap (sums (u8g2 font) text) m.measured;
-          reach = λ x k. l.reach x (ap dimensions_outcome is ∙ k);
+          reach = λ x k. l.reach x (ap outcome is ∙ k);
         }

@@ -4,10 +4,9 @@ use Rattle.integers.proofs.Prelude.{zero, suc, length, take, drop, length-append
 use Rattle.integers.proofs.Laws.{zarith, plus}
 use Rattle.integers.specs.Integers.{pick}
 use Rattle.integers.proofs.Choices.{impossible}
-use Rattle.definitions.specs.Vocabulary.{FontReader, Framebuffer, Point, RenderedDimensions, LookupSteps, HorizontalAlignment}
-use Rattle.types.specs.declared.results.DimensionsReport.{DimensionsReport}
+use Rattle.definitions.specs.Vocabulary.{FontReader, Framebuffer, Point, RenderedDimensions, LookupSteps, HorizontalAlignment, Report}
 use Rattle.types.specs.declared.style.HorizontalAlignment.TheVariants.{Left, Center, Right}
-use Rattle.definitions.specs.Refusals.{Outcome, success, refused}
+use Rattle.definitions.specs.Refusals.{Outcome, success, refused, outcome}
 use Rattle.definitions.specs.Header.{Opened}
 use Rattle.definitions.specs.Lookup.{no_steps}
 use Rattle.definitions.specs.Geometry.{join}
@@ -16,7 +15,7 @@ use Rattle.definitions.specs.Text.{Answer, stops, Layout, join_all, point, dimen
 use Rattle.definitions.specs.TextSteps.{newline_step, start}
 use Rattle.definitions.specs.Font.{u8g2, pixels_of}
 use Rattle.definitions.specs.Picture.{text_picture}
-use Rattle.definitions.specs.Calls.{code_points_of, dimensions_outcome}
+use Rattle.definitions.specs.Calls.{code_points_of}
 use Rattle.definitions.specs.Sums.{plus_steps, total, up_to, counted, sums, Fits32}
 use Rattle.definitions.proofs.Agreement.{dimensions_success}
 use Rattle.definitions.proofs.FramebufferLaws.{length_shown}
@@ -28,8 +27,6 @@ use Rattle.definitions.proofs.Utf8Laws.{character_count, newlines_decoded}
 use Rattle.checks.specs.Origins.{Checked}
 use Rattle.checks.proofs.OriginLaws.{as_line}
 use Rattle.layout.specs.Ranges.{Near, Within}
-use Rattle.layout.specs.CharResults.{char_outcome, char_steps}
-use Rattle.layout.specs.declared.steps.CharResult.{CharResult}
 use Rattle.layout.proofs.LoopLaws.{reached_start}
 use Rattle.layout.proofs.MeasureLaws.{checked_characters, within_start}
 use Rattle.layout.proofs.SumLoopLaws.{GoesOn, Summed, summed_start}
@@ -99,8 +96,8 @@ module _ (font text before : List ℕ) (s : LineSetting) (context : Context) whe
   laid Center m = refl
   laid Right m = refl
 
-  pub as_text : Moves s.horizontal_align → (r : DimensionsReport) {after : List ℕ} → dimensions_outcome r.result ≡ counts start (code_points_of text)
-      → after ≡ shows (from start (code_points_of text)) before → r.steps ≡ sums (u8g2 font) text (dimensions_outcome r.result)
+  pub as_text : Moves s.horizontal_align → (r : Report RenderedDimensions) {after : List ℕ} → outcome r.result ≡ counts start (code_points_of text)
+      → after ≡ shows (from start (code_points_of text)) before → r.steps ≡ sums (u8g2 font) text (outcome r.result)
       → TextDrawn font text s.horizontal_align s.pen context before after r
   as_text m r c p q =
       let is = laid s.horizontal_align m in
@@ -187,21 +184,21 @@ module _ (font text before : List ℕ) (s : LineSetting) (context : Context) whe
 
     -- ---- the line was drawn
 
-    module _ {lent : List ℕ} (is : lent ≡ bytes) {buffer' : List ℕ} (r : CharResult) (l : LineDrawn font lent s d context buffer buffer' r) where
+    module _ {lent : List ℕ} (is : lent ≡ bytes) {buffer' : List ℕ} (r : Report RenderedDimensions) (l : LineDrawn font lent s d context buffer buffer' r) where
       abbrev done : Layout
       done = line d.advance (line_of rest)
 
       chars : code_points_of lent ≡ line_of rest
       chars = ap code_points_of is ∙ line_chars
 
-      outcome : char_outcome r ≡ dimensions_from d.bounding_box done
-      outcome = l.counted ∙ ap (λ (cs : List ℕ). dimensions_from d.bounding_box (line d.advance cs)) chars
+      comes_to : outcome r.result ≡ dimensions_from d.bounding_box done
+      comes_to = l.counted ∙ ap (λ (cs : List ℕ). dimensions_from d.bounding_box (line d.advance cs)) chars
 
       left : buffer' ≡ shows done buffer
       left = l.painted ∙ ap (λ (cs : List ℕ). shows (line d.advance cs) buffer) chars
 
-      steps : char_steps r ≡ total (u8g2 font).steps (counted (char_outcome r) (line_of rest))
-      steps = l.summed ∙ ap (λ (cs : List ℕ). total (u8g2 font).steps (counted (char_outcome r) cs)) chars
+      steps : r.steps ≡ total (u8g2 font).steps (counted (outcome r.result) (line_of rest))
+      steps = l.summed ∙ ap (λ (cs : List ℕ). total (u8g2 font).steps (counted (outcome r.result) cs)) chars
 
       with_line_lem : (cs : List ℕ) {q : LookupSteps} → q ≡ total (u8g2 font).steps cs → plus_steps sum q ≡ total (u8g2 font).steps (i.summed.read ++ cs)
       with_line_lem cs {q} e =
@@ -217,17 +214,17 @@ module _ (font text before : List ℕ) (s : LineSetting) (context : Context) whe
           ∙ ap (line d.advance) (sym (line_whole rest none))
 
       -- with the steps of the line the sum fits
-      pub line_fits : {q : LookupSteps} → char_steps r ≡ q → 23 ≤ length font → length font ≤ 1048576 → length text ≤ 4096 → Fits32 (plus_steps sum q)
+      pub line_fits : {q : LookupSteps} → r.steps ≡ q → 23 ≤ length font → length font ≤ 1048576 → length text ≤ 4096 → Fits32 (plus_steps sum q)
       line_fits {q} e least most short =
-          let cs = counted (char_outcome r) (line_of rest) in
+          let cs = counted (outcome r.result) (line_of rest) in
           subst Fits32 (sym (with_line_lem cs (sym e ∙ steps)))
           (total_fits font least most (i.summed.read ++ cs)
-          (omega (arith, length-append i.summed.read cs, counted_shorter (char_outcome r) (line_of rest), few, inside, i.summed.reached.within.0, short)))
+          (omega (arith, length-append i.summed.read cs, counted_shorter (outcome r.result) (line_of rest), few, inside, i.summed.reached.within.0, short)))
 
       -- it succeeded
-      module _ {longer : RenderedDimensions} (goes : char_outcome r ≡ success longer) {q sum' : LookupSteps} (brought : char_steps r ≡ q) (sums_up : sum' ≡ plus_steps sum q) where
+      module _ {longer : RenderedDimensions} (goes : outcome r.result ≡ success longer) {q sum' : LookupSteps} (brought : r.steps ≡ q) (sums_up : sum' ≡ plus_steps sum q) where
         ends : (done.advance ≡ success longer.advance) × (join d.bounding_box (join_all done.glyphs) ≡ longer.bounding_box)
-        ends = dimensions_success (join d.bounding_box (join_all done.glyphs)) done.advance longer (sym outcome ∙ goes)
+        ends = dimensions_success (join d.bounding_box (join_all done.glyphs)) done.advance longer (sym comes_to ∙ goes)
 
         all_brought : q ≡ total (u8g2 font).steps (line_of rest)
         all_brought = sym brought ∙ steps ∙ ap (λ (o : Outcome RenderedDimensions). total (u8g2 font).steps (counted o (line_of rest))) goes
@@ -243,7 +240,7 @@ module _ (font text before : List ℕ) (s : LineSetting) (context : Context) whe
           last_from = only_line no_more
 
           pub last_counted : success longer ≡ counts start (code_points_of text)
-          last_counted = sym goes ∙ outcome ∙ ap (dimensions_from d.bounding_box) (sym last_from) ∙ sym i.counted
+          last_counted = sym goes ∙ comes_to ∙ ap (dimensions_from d.bounding_box) (sym last_from) ∙ sym i.counted
 
           pub last_shown : buffer' ≡ shows (from start (code_points_of text)) before
           last_shown = left ∙ ap (λ (l : Layout). shows l buffer) (sym last_from) ∙ sym i.shown
@@ -346,9 +343,9 @@ module _ (font text before : List ℕ) (s : LineSetting) (context : Context) whe
               record { low = omega (zarith, level); high = omega (zarith, level, plus d.advance.y (pos (newlines rest * line_height))) }
 
       -- it was stopped
-      module _ {n k : ℕ} (stopped : char_outcome r ≡ refused n k) where
+      module _ {n k : ℕ} (stopped : outcome r.result ≡ refused n k) where
         ended : done.advance ≡ refused n k
-        ended = came done.advance (sym outcome ∙ stopped)
+        ended = came done.advance (sym comes_to ∙ stopped)
           where
             came : (o : Outcome Point) → dimensions_of (join d.bounding_box (join_all done.glyphs)) o ≡ refused n k → o ≡ refused n k
             came (success end) e = impossible cc
@@ -364,7 +361,7 @@ module _ (font text before : List ℕ) (s : LineSetting) (context : Context) whe
                 ∙ stopped_first context.framebuffer.width context.color (pixels_of (u8g2 font)) line line_height d (line_of rest) (lines (rest_of rest)) ended
 
         pub stopped_counted : refused n k ≡ counts start (code_points_of text)
-        stopped_counted = sym stopped ∙ outcome ∙ ap (dimensions_from d.bounding_box) (sym stopped_from) ∙ sym i.counted
+        stopped_counted = sym stopped ∙ comes_to ∙ ap (dimensions_from d.bounding_box) (sym stopped_from) ∙ sym i.counted
 
         pub stopped_shown : buffer' ≡ shows (from start (code_points_of text)) before
         stopped_shown = left ∙ ap (λ (l : Layout). shows l buffer) (sym stopped_from) ∙ sym i.shown
@@ -406,7 +403,7 @@ module _ (font text before : List ℕ) (s : LineSetting) (context : Context) whe
               (each_append (λ c. c ≡ k → ⊥) i.summed.read at_letter.read not_before not_in_line)
               ∙ append_assoc i.summed.read at_letter.read (k ∷ [])
 
-        pub stopped_summed : {q sum' : LookupSteps} → char_steps r ≡ q → sum' ≡ plus_steps sum q → {o : Outcome RenderedDimensions} → o ≡ refused n k
+        pub stopped_summed : {q sum' : LookupSteps} → r.steps ≡ q → sum' ≡ plus_steps sum q → {o : Outcome RenderedDimensions} → o ≡ refused n k
             → pick (eqb n 7) sum' no_steps ≡ sums (u8g2 font) text o
         unfolding total
         stopped_summed {q} {sum'} brought sums_up e = rw e (by (eqb n 7) refl)

@@ -1,15 +1,14 @@
 -- What the causes leave of a call that draws. Assumes nothing.
 use Rattle.integers.proofs.Prelude.{◌≡◌, sym, ap, ◌∙◌, true, false, List, [], ◌∷◌, ◌++◌, ℕ, eqb}
-use Rattle.definitions.specs.Vocabulary.{FontReader, Framebuffer, Point, RenderedDimensions, FontColor, Error}
-use Rattle.types.specs.declared.results.DimensionsReport.{DimensionsReport}
-use Rattle.definitions.specs.Refusals.{Outcome, success, refused, error_number, refusal, Cause}
+use Rattle.definitions.specs.Vocabulary.{FontReader, Framebuffer, Point, RenderedDimensions, FontColor, Error, Report}
+use Rattle.definitions.specs.Refusals.{Outcome, success, refused, error_number, refusal, Cause, outcome}
 use Rattle.definitions.specs.Header.{header, font_causes}
 use Rattle.definitions.specs.Text.{dimensions}
 use Rattle.definitions.specs.Font.{u8g2, pixels_of}
 use Rattle.definitions.specs.Picture.{text_picture}
 use Rattle.definitions.specs.Framebuffer.{shown, framebuffer_cause}
 use Rattle.definitions.specs.Limits.{text_cause, position_cause, background_cause}
-use Rattle.definitions.specs.Calls.{open_font, Request, origin, drawn_text, draw_causes, draw, draw_buffer, dimensions_outcome}
+use Rattle.definitions.specs.Calls.{open_font, Request, origin, drawn_text, draw_causes, draw, draw_buffer}
 use Rattle.definitions.specs.Sums.{sums}
 use Rattle.definitions.proofs.SumsLaws.{no_sums}
 use Rattle.definitions.proofs.OpenedLaws.{passes_font}
@@ -27,17 +26,17 @@ module _ (font : List ℕ) (r : Request) (color : FontColor) (p : Framebuffer) (
   Defined answer bytes = (answer ≡ draw (u8g2 font) r color p buffer) × (bytes ≡ draw_buffer (u8g2 font) r color p buffer)
 
   -- .. and so are the sums
-  abbrev Reported : DimensionsReport → List ℕ → Type 0
+  abbrev Reported : Report RenderedDimensions → List ℕ → Type 0
   Reported report bytes =
-      (dimensions_outcome report.result ≡ draw (u8g2 font) r color p buffer)
+      (outcome report.result ≡ draw (u8g2 font) r color p buffer)
       × ((bytes ≡ draw_buffer (u8g2 font) r color p buffer)
       × (report.steps ≡ sums (u8g2 font) r.text (draw (u8g2 font) r color p buffer)))
 
-  pub reported : (report : DimensionsReport) {bytes : List ℕ} → Defined (dimensions_outcome report.result) bytes
-      → report.steps ≡ sums (u8g2 font) r.text (dimensions_outcome report.result) → Reported report bytes
+  pub reported : (report : Report RenderedDimensions) {bytes : List ℕ} → Defined (outcome report.result) bytes
+      → report.steps ≡ sums (u8g2 font) r.text (outcome report.result) → Reported report bytes
   reported report k s = (k.0, (k.1, s ∙ ap (sums (u8g2 font) r.text) k.0))
 
-  pub reported_refused : {e : Error} {report : DimensionsReport} {bytes : List ℕ} → report ≡ refused_report e → Defined (refusal e) bytes
+  pub reported_refused : {e : Error} {report : Report RenderedDimensions} {bytes : List ℕ} → report ≡ refused_report e → Defined (refusal e) bytes
       → eqb (error_number e) 7 ≡ false → Reported report bytes
   reported_refused is k h = rw is (k.0, (k.1, no_sums (u8g2 font) r.text k.0 h))
 

@@ -1,6 +1,7 @@
 -- When a character and the answer to it may be drawn, and what that comes to.
 use Rattle.std.specs.Prelude.{◌≡◌, List, ℕ, ◌≤◌}
-use Rattle.definitions.specs.Vocabulary.{Point, FontReader, RenderedDimensions, Framebuffer}
+use Rattle.definitions.specs.Refusals.{outcome}
+use Rattle.definitions.specs.Vocabulary.{Point, FontReader, RenderedDimensions, Framebuffer, Report}
 use Rattle.definitions.specs.Header.{Opened}
 use Rattle.definitions.specs.Text.{Answer}
 use Rattle.definitions.specs.TextSteps.{step, step_shown}
@@ -9,8 +10,6 @@ use Rattle.definitions.specs.Sums.{brings}
 use Rattle.checks.specs.declared.origin.Pen.{Pen}
 use Rattle.answers.specs.Answers.{RunsChecked}
 use Rattle.framebuffer.specs.Areas.{BufferFits}
-use Rattle.layout.specs.declared.steps.CharResult.{CharResult}
-use Rattle.layout.specs.CharResults.{char_outcome, char_steps}
 use Rattle.layout.specs.Ranges.{HasRoom}
 use Rattle.renderer.specs.declared.letters.Context.{Context}
 
@@ -32,8 +31,8 @@ pub record DrawableChar (font : List ℕ) (head : FontReader) (pen : Pen) (d : R
   pub fits : Fits bytes framebuffer
 
 -- The character is counted, and shown; and it brings its steps.
-pub record CharDrawn (font : List ℕ) (ch : ℕ) (d : RenderedDimensions) (pen : Pen) (context : Context) (before after : List ℕ) (r : CharResult) : Type 0 where
-  pub counted : char_outcome r ≡ step (drawn_answer (u8g2 font) pen.ignore_unknown_chars) pen.line_height pen.origin d ch
+pub record CharDrawn (font : List ℕ) (ch : ℕ) (d : RenderedDimensions) (pen : Pen) (context : Context) (before after : List ℕ) (r : Report RenderedDimensions) : Type 0 where
+  pub counted : outcome r.result ≡ step (drawn_answer (u8g2 font) pen.ignore_unknown_chars) pen.line_height pen.origin d ch
   pub shown : after ≡ step_shown context.framebuffer.width context.color (pixels_of (u8g2 font))
       (drawn_answer (u8g2 font) pen.ignore_unknown_chars) pen.origin d ch before
-  pub brought : char_steps r ≡ brings (u8g2 font).steps ch
+  pub brought : r.steps ≡ brings (u8g2 font).steps ch

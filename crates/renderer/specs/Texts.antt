@@ -1,8 +1,8 @@
 -- When a text may be drawn, and what it comes to: what is answered, with which sums, and what the framebuffer then holds.
 use Rattle.std.specs.Prelude.{◌≡◌, List, ℕ}
-use Rattle.definitions.specs.Vocabulary.{FontReader, Point, RenderedDimensions, Framebuffer, HorizontalAlignment}
+use Rattle.definitions.specs.Vocabulary.{FontReader, Point, RenderedDimensions, Framebuffer, HorizontalAlignment, Report}
 use Rattle.types.specs.declared.style.HorizontalAlignment.TheVariants.{Left, Center, Right}
-use Rattle.definitions.specs.Refusals.{Outcome, success}
+use Rattle.definitions.specs.Refusals.{Outcome, success, outcome}
 use Rattle.definitions.specs.Header.{Opened}
 use Rattle.definitions.specs.Geometry.{join, InReach}
 use Rattle.definitions.specs.Utf8.{newlines}
@@ -11,13 +11,10 @@ use Rattle.definitions.specs.TextSteps.{measure_from, draw_from}
 use Rattle.definitions.specs.Font.{u8g2, measured_answer, drawn_answer, pixels_of}
 use Rattle.definitions.specs.Picture.{text_picture}
 use Rattle.definitions.specs.Framebuffer.{shown}
-use Rattle.definitions.specs.Calls.{code_points_of, dimensions_outcome}
+use Rattle.definitions.specs.Calls.{code_points_of}
 use Rattle.definitions.specs.Sums.{sums}
-use Rattle.types.specs.declared.results.DimensionsReport.{DimensionsReport}
 use Rattle.checks.specs.declared.origin.Pen.{Pen}
 use Rattle.checks.specs.Origins.{Checked, CheckedLine}
-use Rattle.layout.specs.declared.steps.CharResult.{CharResult}
-use Rattle.layout.specs.CharResults.{char_outcome, char_steps}
 use Rattle.layout.specs.Ranges.{Within}
 use Rattle.renderer.specs.declared.letters.Context.{Context}
 use Rattle.renderer.specs.declared.lines.LineSetting.{LineSetting}
@@ -40,12 +37,12 @@ abbrev pub drawn_by : List ℕ → Pen → ℕ → Answer
 drawn_by font pen = drawn_answer (u8g2 font) pen.ignore_unknown_chars
 
 -- The letters are counted and shown, and their steps are added up.
-pub record LettersDrawn (font text : List ℕ) (pen : Pen) (d : RenderedDimensions) (context : Context) (before after : List ℕ) (r : DimensionsReport) : Type 0 where
-  pub counted : dimensions_outcome r.result ≡ measure_from (drawn_by font pen) pen.line_height pen.origin d (code_points_of text)
+pub record LettersDrawn (font text : List ℕ) (pen : Pen) (d : RenderedDimensions) (context : Context) (before after : List ℕ) (r : Report RenderedDimensions) : Type 0 where
+  pub counted : outcome r.result ≡ measure_from (drawn_by font pen) pen.line_height pen.origin d (code_points_of text)
   pub shown : after ≡ draw_from context.framebuffer.width context.color (pixels_of (u8g2 font)) (drawn_by font pen)
       pen.line_height pen.origin d before (code_points_of text)
-  pub summed : r.steps ≡ sums (u8g2 font) text (dimensions_outcome r.result)
-  pub reach : (e : RenderedDimensions) → dimensions_outcome r.result ≡ success e → InReach e.bounding_box
+  pub summed : r.steps ≡ sums (u8g2 font) text (outcome r.result)
+  pub reach : (e : RenderedDimensions) → outcome r.result ≡ success e → InReach e.bounding_box
 
 -- ---- a line, measured and then drawn, with the dimensions before it
 
@@ -59,15 +56,15 @@ pub record DrawableLine (font : List ℕ) (head : FontReader) (text : List ℕ) 
 abbrev pub line_laid : List ℕ → HorizontalAlignment → Pen → Point → List ℕ → Layout
 line_laid font a pen = moved_line a (measured_by font pen) (drawn_by font pen) pen.origin
 
-pub record LineDrawn (font text : List ℕ) (s : LineSetting) (d : RenderedDimensions) (context : Context) (before after : List ℕ) (r : CharResult) : Type 0 where
-  pub counted : char_outcome r
+pub record LineDrawn (font text : List ℕ) (s : LineSetting) (d : RenderedDimensions) (context : Context) (before after : List ℕ) (r : Report RenderedDimensions) : Type 0 where
+  pub counted : outcome r.result
       ≡ (let l = line_laid font s.horizontal_align s.pen d.advance (code_points_of text) in
       dimensions_of (join d.bounding_box (join_all l.glyphs)) l.advance)
   pub painted : after
       ≡ shown context.framebuffer.width
       (text_picture context.color (pixels_of (u8g2 font)) (line_laid font s.horizontal_align s.pen d.advance (code_points_of text)).glyphs) before
-  pub summed : char_steps r ≡ sums (u8g2 font) text (char_outcome r)
-  pub reach : (e : RenderedDimensions) → char_outcome r ≡ success e → InReach e.bounding_box
+  pub summed : r.steps ≡ sums (u8g2 font) text (outcome r.result)
+  pub reach : (e : RenderedDimensions) → outcome r.result ≡ success e → InReach e.bounding_box
 
 -- ---- a text, aligned
 
@@ -95,11 +92,11 @@ drawn_with font text a pen context buffer =
     shown context.framebuffer.width (text_picture context.color (pixels_of (u8g2 font)) (laid_with font text a pen).glyphs) buffer
 
 -- The text is counted, and its steps are added up ..
-pub record TextCounted (font text : List ℕ) (a : HorizontalAlignment) (pen : Pen) (r : DimensionsReport) : Type 0 where
-  pub counted : dimensions_outcome r.result ≡ counted_with font text a pen
-  pub summed : r.steps ≡ sums (u8g2 font) text (dimensions_outcome r.result)
+pub record TextCounted (font text : List ℕ) (a : HorizontalAlignment) (pen : Pen) (r : Report RenderedDimensions) : Type 0 where
+  pub counted : outcome r.result ≡ counted_with font text a pen
+  pub summed : r.steps ≡ sums (u8g2 font) text (outcome r.result)
 
 -- .. and it is shown.
-pub record TextDrawn (font text : List ℕ) (a : HorizontalAlignment) (pen : Pen) (context : Context) (before after : List ℕ) (r : DimensionsReport) : Type 0 where
+pub record TextDrawn (font text : List ℕ) (a : HorizontalAlignment) (pen : Pen) (context : Context) (before after : List ℕ) (r : Report RenderedDimensions) : Type 0 where
   pub told : TextCounted font text a pen r
   pub shown : after ≡ drawn_with font text a pen context before

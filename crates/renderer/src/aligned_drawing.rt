@@ -1,18 +1,20 @@
 // The dimensions of a drawn text, however it is aligned, which the public calls read their answers off.
 ghost use Rattle.std.specs.Prelude.{◌≡◌};
+ghost use Rattle.definitions.specs.Refusals.{outcome};
 ghost use Rattle.definitions.specs.Font.{u8g2};
-ghost use Rattle.definitions.specs.Calls.{request, draw, draw_buffer, dimensions_outcome};
+ghost use Rattle.definitions.specs.Calls.{request, draw, draw_buffer};
 ghost use Rattle.definitions.specs.Sums.{sums};
 
 use crate::letters::Context;
 use crate::lines::draw_aligned;
 use checks::limits::{has_bad_color, has_bad_size};
-use checks::origin::{OriginResult, Pen, checked_origin};
+use checks::origin::{Pen, checked_origin};
 use font_reader::new_from_raw_data;
 use lookup_sums::refused;
 use types::error::Error;
 use types::framebuffer::Framebuffer;
-use types::results::{DimensionsReport, FontReaderResult};
+use types::geometry::RenderedDimensions;
+use types::results::Report;
 use types::style::{FontStyle, HorizontalAlignment, Placement};
 
 // Draws the aligned text where it is placed on a framebuffer of that size, or refuses to; the steps of its lookups come with
@@ -25,8 +27,8 @@ pub fn aligned_drawing(
     horizontal_align: HorizontalAlignment,
     framebuffer: Framebuffer,
     buffer: &mut [u8],
-) -> DimensionsReport
-    ensures answered { dimensions_outcome result.result ≡ draw (u8g2 font.now)
+) -> Report<RenderedDimensions>
+    ensures answered { outcome result.result ≡ draw (u8g2 font.now)
         (request text.now placement style.vertical_pos horizontal_align) style.color framebuffer buffer.old }
     ensures shown { buffer.new ≡ draw_buffer (u8g2 font.now)
         (request text.now placement style.vertical_pos horizontal_align) style.color framebuffer buffer.old }
@@ -34,15 +36,15 @@ pub fn aligned_drawing(
         (request text.now placement style.vertical_pos horizontal_align) style.color framebuffer buffer.old) }
 {
     match new_from_raw_data(font) {
-        FontReaderResult::Err(error) => refused(error),
-        FontReaderResult::Ok(head) => {
+        Err(error) => refused(error),
+        Ok(head) => {
             if has_bad_size(framebuffer, &buffer[..]) {
                 return refused(Error::FramebufferSize);
             }
             let vertical_pos = style.vertical_pos;
             match checked_origin(head.ascent, head.descent, text, placement, vertical_pos) {
-                OriginResult::Err(error) => refused(error),
-                OriginResult::Ok(origin) => {
+                Err(error) => refused(error),
+                Ok(origin) => {
                     let color = style.color;
                     if has_bad_color(color, head.supports_background_color) {
                         return refused(Error::BackgroundColorNotSupported);

@@ -6,16 +6,17 @@ ghost use Rattle.answers.specs.Answers.{as_answer};
 ghost use Rattle.renderer.specs.CharAnswers.{DrawableAnswer, DrawableChar, CharDrawn};
 ghost use Rattle.renderer.specs.Texts.{DrawableLetters, LettersDrawn};
 
-use answers::{Answer, retrieve_answer};
+use answers::retrieve_answer;
 use checks::origin::Pen;
 use glyph_renderer::render_glyph;
-use layout::steps::{CharResult, NEWLINE, add_answer, add_newline, get_next_bounding_box};
+use layout::steps::{NEWLINE, add_answer, add_newline, get_next_bounding_box};
 use lookup_sums::{add_steps, no_steps, refused, sum_with};
 use types::error::Error;
 use types::font_reader::FontReader;
 use types::framebuffer::Framebuffer;
 use types::geometry::{Point, RenderedDimensions};
-use types::results::{DimensionsReport, DimensionsResult};
+use types::glyph_reader::GlyphReader;
+use types::results::Report;
 use types::style::FontColor;
 use utf8::next_char;
 use utf8_sequences::NextChar;
@@ -31,7 +32,7 @@ pub struct Context {
 fn draw_answer(
     font: &[u8],
     head: FontReader,
-    answer: Answer,
+    answer: Result<Option<GlyphReader>, Error>,
     dimensions: RenderedDimensions,
     origin: Point,
     context: Context,
@@ -42,24 +43,16 @@ fn draw_answer(
     ensures { buffer.new ≡ answer_shown context.framebuffer.width context.color
         (pixels_of (u8g2 font.now)) origin dimensions (as_answer answer) buffer.old }
 {
-    match answer {
-        Answer::Shows(glyph, _) => {
-            let glyph_box = get_next_bounding_box(dimensions, origin, glyph);
-            let color = context.color;
-            let framebuffer = context.framebuffer;
-            render_glyph(
-                font,
-                head,
-                glyph,
-                glyph_box,
-                color,
-                framebuffer,
-                &mut buffer[..],
-            );
-        }
-        Answer::Nothing(_) => {}
-        Answer::Stops(_, _) => {}
-    }
+    let Ok(shown) = answer else {
+        return;
+    };
+    let Some(glyph) = shown else {
+        return;
+    };
+    let glyph_box = get_next_bounding_box(dimensions, origin, glyph);
+    let color = context.color;
+    let framebuffer = context.framebuffer;
+    render_glyph(font, head, glyph, glyph_box, color, framebuffer, buffer);
 }
 
 // One character. It is counted first, so that less is kept while it is drawn.
@@ -71,26 +64,32 @@ fn draw_char(
     pen: Pen,
     context: Context,
     buffer: &mut [u8],
-) -> CharResult
+) -> Report<RenderedDimensions>
     requires { DrawableChar font.now head pen dimensions context.framebuffer (length buffer.old) }
     ensures { CharDrawn font.now ch dimensions pen context buffer.old buffer.new result }
 {
     if ch == NEWLINE {
-        return CharResult::Ok(add_newline(dimensions, pen.line_height), no_steps());
+        return Report {
+            result: Ok(add_newline(dimensions, pen.line_height)),
+            steps: no_steps(),
+        };
     }
     let origin = pen.origin;
     let answer = retrieve_answer(font, head, ch, pen.ignore_unknown_chars);
-    let counted = add_answer(dimensions, origin, answer);
+    let result = add_answer(dimensions, origin, answer.result);
     draw_answer(
         font,
         head,
-        answer,
+        answer.result,
         dimensions,
         origin,
         context,
-        &mut buffer[..],
+        buffer,
     );
-    counted
+    Report {
+        result,
+        steps: answer.steps,
+    }
 }
 
 // The letters of a line, or of a whole text, one after the other from the dimensions so far on, and their steps added up. The
@@ -103,7 +102,7 @@ pub fn draw_text(
     before: RenderedDimensions,
     context: Context,
     buffer: &mut [u8],
-) -> DimensionsReport
+) -> Report<RenderedDimensions>
     requires { DrawableLetters font.now head text.now pen before context.framebuffer (length buffer.old) }
     ensures { LettersDrawn font.now text.now pen before context buffer.old
         buffer.new result }
@@ -117,23 +116,23 @@ pub fn draw_text(
             return refused(Error::TextEncoding);
         };
         let drawn = draw_char(font, head, ch, dimensions, pen, context, &mut buffer[..]);
-        match drawn {
-            CharResult::Err(error, char_steps) => {
-                let sum = add_steps(steps, char_steps);
-                return DimensionsReport {
-                    result: DimensionsResult::Err(error),
+        match drawn.result {
+            Err(error) => {
+                let sum = add_steps(steps, drawn.steps);
+                return Report {
+                    result: Err(error),
                     steps: sum_with(error, sum),
                 };
             }
-            CharResult::Ok(longer, char_steps) => {
+            Ok(longer) => {
                 dimensions = longer;
-                steps = add_steps(steps, char_steps);
+                steps = add_steps(steps, drawn.steps);
             }
         }
         at += len;
     }
-    DimensionsReport {
-        result: DimensionsResult::Ok(dimensions),
+    Report {
+        result: Ok(dimensions),
         steps,
     }
 }

@@ -7,13 +7,13 @@ ghost use Rattle.renderer.specs.Texts.{DrawableText, DrawableLine, LineDrawn, Mo
 
 use crate::letters::{Context, draw_text};
 use checks::origin::Pen;
-use layout::steps::{CharResult, add_newline};
-use line_alignment::{PenResult, align_pen};
-use lookup_sums::{add_steps, no_steps, sum_with};
+use layout::steps::add_newline;
+use line_alignment::align_pen;
+use lookup_sums::{add_steps, no_steps, refused, sum_with};
 use types::font_reader::FontReader;
 use types::framebuffer::Framebuffer;
-use types::geometry::{BoundingBox, Point, RenderedDimensions};
-use types::results::{DimensionsReport, DimensionsResult};
+use types::geometry::{Point, RenderedDimensions};
+use types::results::Report;
 use types::style::{FontColor, HorizontalAlignment};
 
 // Where a text's lines stand.
@@ -28,7 +28,7 @@ fn no_dimensions() -> RenderedDimensions
 {
     RenderedDimensions {
         advance: Point { x: 0, y: 0 },
-        bounding_box: BoundingBox::None,
+        bounding_box: None,
     }
 }
 
@@ -57,21 +57,27 @@ fn draw_line(
     dimensions: RenderedDimensions,
     context: Context,
     buffer: &mut [u8],
-) -> CharResult
+) -> Report<RenderedDimensions>
     requires { DrawableLine font.now head line.now setting dimensions context.framebuffer (length buffer.old) }
     ensures { LineDrawn font.now line.now setting dimensions context buffer.old
         buffer.new result }
 {
     let pen = setting.pen;
     let horizontal_align = setting.horizontal_align;
-    match align_pen(font, head, line, horizontal_align, pen) {
-        PenResult::Err(error, steps) => CharResult::Err(error, steps),
-        PenResult::Ok(line_pen, steps) => {
+    let aligned = align_pen(font, head, line, horizontal_align, pen);
+    match aligned.result {
+        Err(error) => Report {
+            result: Err(error),
+            steps: aligned.steps,
+        },
+        Ok(line_pen) => {
             let drawn = draw_text(font, head, line, line_pen, dimensions, context, buffer);
-            let result = drawn.result;
-            match result {
-                DimensionsResult::Err(error) => CharResult::Err(error, no_steps()),
-                DimensionsResult::Ok(longer) => CharResult::Ok(longer, steps),
+            match drawn.result {
+                Err(error) => refused(error),
+                Ok(longer) => Report {
+                    result: Ok(longer),
+                    steps: aligned.steps,
+                },
             }
         }
     }
@@ -86,7 +92,7 @@ fn draw_lines(
     setting: LineSetting,
     context: Context,
     buffer: &mut [u8],
-) -> DimensionsReport
+) -> Report<RenderedDimensions>
     requires { DrawableText font.now head text.now setting.pen context.framebuffer (length buffer.old)
         × Moves setting.horizontal_align }
     ensures { TextDrawn font.now text.now setting.horizontal_align setting.pen context
@@ -107,19 +113,19 @@ fn draw_lines(
             context,
             &mut buffer[..],
         );
-        match drawn {
-            CharResult::Err(error, line_steps) => {
-                let sum = add_steps(steps, line_steps);
-                return DimensionsReport {
-                    result: DimensionsResult::Err(error),
+        match drawn.result {
+            Err(error) => {
+                let sum = add_steps(steps, drawn.steps);
+                return Report {
+                    result: Err(error),
                     steps: sum_with(error, sum),
                 };
             }
-            CharResult::Ok(longer, line_steps) => {
-                steps = add_steps(steps, line_steps);
+            Ok(longer) => {
+                steps = add_steps(steps, drawn.steps);
                 if end == text.len() {
-                    return DimensionsReport {
-                        result: DimensionsResult::Ok(longer),
+                    return Report {
+                        result: Ok(longer),
                         steps,
                     };
                 }
@@ -139,7 +145,7 @@ pub fn draw_aligned(
     horizontal_align: HorizontalAlignment,
     context: Context,
     buffer: &mut [u8],
-) -> DimensionsReport
+) -> Report<RenderedDimensions>
     requires { DrawableText font.now head text.now pen context.framebuffer (length buffer.old) }
     ensures { TextDrawn font.now text.now horizontal_align pen context buffer.old
         buffer.new result }
@@ -164,7 +170,7 @@ pub fn get_drawn_dimensions(
     text: &[u8],
     pen: Pen,
     horizontal_align: HorizontalAlignment,
-) -> DimensionsReport
+) -> Report<RenderedDimensions>
     requires { CheckedText font.now head text.now pen }
     ensures { TextCounted font.now text.now horizontal_align pen result }
 {

@@ -1,12 +1,14 @@
 // Drawing a text on a framebuffer.
 ghost use Rattle.std.specs.Prelude.{◌≡◌};
+ghost use Rattle.definitions.specs.Refusals.{outcome};
 ghost use Rattle.definitions.specs.Font.{u8g2};
-ghost use Rattle.definitions.specs.Calls.{plain, draw, draw_buffer, dimensions_outcome};
+ghost use Rattle.definitions.specs.Calls.{plain, draw, draw_buffer};
 ghost use Rattle.definitions.specs.Sums.{sums};
 
 use crate::aligned_drawing::aligned_drawing;
 use types::framebuffer::Framebuffer;
-use types::results::DimensionsReport;
+use types::geometry::RenderedDimensions;
+use types::results::Report;
 use types::style::{FontStyle, HorizontalAlignment, Placement};
 
 // Draws the text where it is placed on a framebuffer of that size, or refuses to; the steps of its lookups come with either. A call
@@ -18,8 +20,8 @@ pub fn render(
     style: FontStyle,
     framebuffer: Framebuffer,
     buffer: &mut [u8],
-) -> DimensionsReport
-    ensures answered { dimensions_outcome result.result ≡ draw (u8g2 font.now)
+) -> Report<RenderedDimensions>
+    ensures answered { outcome result.result ≡ draw (u8g2 font.now)
         (plain text.now placement style.vertical_pos) style.color framebuffer buffer.old }
     ensures shown { buffer.new ≡ draw_buffer (u8g2 font.now)
         (plain text.now placement style.vertical_pos) style.color framebuffer buffer.old }

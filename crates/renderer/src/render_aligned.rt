@@ -1,13 +1,15 @@
 // Drawing a text on a framebuffer, each of its lines aligned.
 ghost use Rattle.std.specs.Prelude.{◌≡◌};
+ghost use Rattle.definitions.specs.Refusals.{outcome};
 ghost use Rattle.definitions.specs.Font.{u8g2};
-ghost use Rattle.definitions.specs.Calls.{request, draw_buffer, draw_aligned, bounding_box_outcome};
+ghost use Rattle.definitions.specs.Calls.{request, draw_buffer, draw_aligned};
 ghost use Rattle.definitions.specs.Sums.{sums};
 
 use crate::aligned_drawing::aligned_drawing;
 use lookup_sums::box_alone;
 use types::framebuffer::Framebuffer;
-use types::results::BoundingBoxReport;
+use types::geometry::Rectangle;
+use types::results::Report;
 use types::style::{FontStyle, HorizontalAlignment, Placement};
 
 // Draws the aligned text, or refuses to, and answers with its bounding box, which is the one that aligned measuring answers; the
@@ -21,8 +23,8 @@ pub fn render_aligned(
     horizontal_align: HorizontalAlignment,
     framebuffer: Framebuffer,
     buffer: &mut [u8],
-) -> BoundingBoxReport
-    ensures answered { bounding_box_outcome result.result ≡ draw_aligned (u8g2 font.now)
+) -> Report<Option<Rectangle>>
+    ensures answered { outcome result.result ≡ draw_aligned (u8g2 font.now)
         (request text.now placement style.vertical_pos horizontal_align) style.color framebuffer buffer.old }
     ensures shown { buffer.new ≡ draw_buffer (u8g2 font.now)
         (request text.now placement style.vertical_pos horizontal_align) style.color framebuffer buffer.old }

@@ -6,8 +6,7 @@ ghost use Rattle.sheet_extent.specs.Extent.{before_zero, inside, side};
 
 use crate::values::Extent;
 use sheet_ground::texts::{COUNT, measure_reading};
-use types::geometry::{BoundingBox, Point, Rectangle};
-use types::results::DimensionsResult;
+use types::geometry::{Point, Rectangle};
 use types::style::{HorizontalAlignment, Placement, VerticalPosition};
 
 const MARGIN: usize = 3;
@@ -72,11 +71,11 @@ fn with_reading(
         ignore_unknown_chars: false,
     };
     let measured = measure_reading(font, k, placement, vertical_pos, horizontal_align);
-    let DimensionsResult::Ok(d) = measured else {
+    let Ok(d) = measured else {
         return extent;
     };
     let bounding_box = d.bounding_box;
-    let BoundingBox::Some(r) = bounding_box else {
+    let Some(r) = bounding_box else {
         return extent;
     };
     widened(extent, r)

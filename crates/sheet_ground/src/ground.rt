@@ -9,7 +9,6 @@ ghost use Rattle.sheet_ground.specs.Ground.{rubbish, GroundLaid};
 use crate::texts::{COUNT, measure_reading};
 use framebuffer::fill::fill_box;
 use types::place::Place;
-use types::results::DimensionsResult;
 use types::style::Placement;
 
 fn fill_with_rubbish(buffer: &mut [u8])
@@ -38,7 +37,7 @@ fn clear_reading(font: &[u8], k: usize, place: Place, buffer: &mut [u8])
         ignore_unknown_chars: false,
     };
     let measured = measure_reading(font, k, placement, vertical_pos, horizontal_align);
-    let DimensionsResult::Ok(d) = measured else {
+    let Ok(d) = measured else {
         return;
     };
     let bounding_box = d.bounding_box;

@@ -1,13 +1,15 @@
 // The readings: -45.0 to +45.0 degrees in tenths, numbered from 0.
 ghost use Rattle.std.specs.Prelude.{◌≡◌};
+ghost use Rattle.definitions.specs.Refusals.{outcome};
 ghost use Rattle.definitions.specs.Font.{u8g2};
-ghost use Rattle.definitions.specs.Calls.{request, measure, dimensions_outcome};
+ghost use Rattle.definitions.specs.Calls.{request, measure};
 ghost use Rattle.sheet_ground.specs.Readings.{reading_text};
 
 use angles::{ANGLE_ROOM, angle_text};
 use measuring::aligned_dimensions::aligned_dimensions;
 use numbers::text::Text;
-use types::results::DimensionsResult;
+use types::error::Error;
+use types::geometry::RenderedDimensions;
 use types::style::{HorizontalAlignment, Placement, VerticalPosition};
 
 pub const COUNT: usize = 901;
@@ -28,8 +30,8 @@ pub fn measure_reading(
     placement: Placement,
     vertical_pos: VerticalPosition,
     horizontal_align: HorizontalAlignment,
-) -> DimensionsResult
-    ensures { dimensions_outcome result ≡ measure (u8g2 font.now)
+) -> Result<RenderedDimensions, Error>
+    ensures { outcome result ≡ measure (u8g2 font.now)
         (request (reading_text k) placement vertical_pos horizontal_align) }
 {
     let text = reading_text(k);

@@ -4,7 +4,7 @@
 use sheet_ground::texts::reading_text;
 use sheet_totals::Totals;
 use types::error::Error;
-use types::results::DimensionsResult;
+use types::geometry::RenderedDimensions;
 use utils::error::{error_code_point, error_number};
 
 // Readings one after the other that are refused for one cause, the first and the last of them.
@@ -57,14 +57,14 @@ pub fn with_answer<R: Print>(
     rt: &R,
     refusals: Refusals,
     k: usize,
-    answer: DimensionsResult,
+    answer: Result<RenderedDimensions, Error>,
 ) -> Refusals {
     match answer {
-        DimensionsResult::Ok(_) => {
+        Ok(_) => {
             print_refusals(rt, refusals);
             Refusals::Not
         }
-        DimensionsResult::Err(error) => with_error(rt, refusals, k, error),
+        Err(error) => with_error(rt, refusals, k, error),
     }
 }
 

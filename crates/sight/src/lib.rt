@@ -2,12 +2,12 @@
 #![tactic(auto)]
 
 ghost use Rattle.std.specs.Prelude.{◌≡◌, ◌≤◌};
-ghost use Rattle.definitions.specs.Calls.{dimensions_outcome};
+ghost use Rattle.definitions.specs.Refusals.{outcome};
 ghost use Rattle.sight.specs.Sights.{side_seen, at_most_part, both_seen, box_seen, sight_of};
 
+use types::error::Error;
 use types::framebuffer::Framebuffer;
-use types::geometry::BoundingBox;
-use types::results::DimensionsResult;
+use types::geometry::{Rectangle, RenderedDimensions};
 
 // A text without a pixel is not seen.
 #[derive(Clone, Copy)]
@@ -64,11 +64,11 @@ fn both_seen(columns: Sight, rows: Sight) -> Sight
     }
 }
 
-fn box_seen(bounding_box: BoundingBox, framebuffer: Framebuffer) -> Sight
+fn box_seen(bounding_box: Option<Rectangle>, framebuffer: Framebuffer) -> Sight
     requires { (framebuffer.width ≤ 256) × (framebuffer.height ≤ 256) }
     ensures { result ≡ box_seen framebuffer bounding_box }
 {
-    let BoundingBox::Some(r) = bounding_box else {
+    let Some(r) = bounding_box else {
         return Sight::Unseen;
     };
     let columns = side_seen(r.top_left.x, r.size.width, framebuffer.width);
@@ -77,13 +77,13 @@ fn box_seen(bounding_box: BoundingBox, framebuffer: Framebuffer) -> Sight
 }
 
 // How much is seen of what a drawing answered.
-pub fn sight_of(answer: DimensionsResult, framebuffer: Framebuffer) -> Sight
+pub fn sight_of(answer: Result<RenderedDimensions, Error>, framebuffer: Framebuffer) -> Sight
     requires { (framebuffer.width ≤ 256) × (framebuffer.height ≤ 256) }
-    ensures { result ≡ sight_of framebuffer (dimensions_outcome answer) }
+    ensures { result ≡ sight_of framebuffer (outcome answer) }
 {
     match answer {
-        DimensionsResult::Err(_) => Sight::Refused,
-        DimensionsResult::Ok(dimensions) => {
+        Err(_) => Sight::Refused,
+        Ok(dimensions) => {
             let bounding_box = dimensions.bounding_box;
             box_seen(bounding_box, framebuffer)
         }

@@ -1,21 +1,24 @@
 // Measuring a text line by line. A line is measured from its own start, since how far it is moved is known only at its end.
 #![tactic(auto)]
 
-ghost use Rattle.std.specs.Prelude.{◌≡◌, ◌≤◌};
-ghost use Rattle.definitions.specs.TextSteps.{start, moved_box, with_line, next_line, lines_dimensions};
-ghost use Rattle.text_lines.specs.Lines.{as_state, Movable, CanAdd, CharAdded, TextMeasured};
+ghost use Rattle.std.specs.Prelude.{◌≡◌, ◌≤◌, pos};
+ghost use Rattle.definitions.specs.Text.{point};
+ghost use Rattle.definitions.specs.TextSteps.{start, moved_box, with_line, next_line, answer_of_line, lines_dimensions};
+ghost use Rattle.text_lines.specs.Lines.{as_state, state_outcome, Movable, CanAdd, CharAdded, TextMeasured};
 ghost use Rattle.checks.specs.Origins.{CheckedText};
-ghost use Rattle.layout.specs.Ranges.{LineHasRoom};
+ghost use Rattle.answers.specs.Answers.{as_answer};
+ghost use Rattle.layout.specs.Ranges.{HasRoom, LineHasRoom};
 
 use answers::try_retrieve_glyph_data;
 use checks::origin::Pen;
 use layout::render_actions::compute_horizontal_offset;
-use layout::steps::{CharResult, NEWLINE, add_answer};
+use layout::steps::{NEWLINE, add_answer};
 use lookup_sums::{add_steps, no_steps, sum_with};
 use types::error::Error;
 use types::font_reader::FontReader;
-use types::geometry::{BoundingBox, Point, Rectangle, RenderedDimensions};
-use types::results::{DimensionsReport, DimensionsResult};
+use types::geometry::{Point, Rectangle, RenderedDimensions};
+use types::glyph_reader::GlyphReader;
+use types::results::Report;
 use types::steps::LookupSteps;
 use types::style::HorizontalAlignment;
 use utf8::next_char;
@@ -27,14 +30,7 @@ use utils::combine_bounding_boxes;
 pub struct LineState {
     pub line: RenderedDimensions,
     pub advance_y: i32,
-    pub bounding_box: BoundingBox,
-}
-
-// What a character comes to, with the steps of its lookup either way.
-#[derive(Clone, Copy)]
-pub enum LineResult {
-    Ok(LineState, LookupSteps),
-    Err(Error, LookupSteps),
+    pub bounding_box: Option<Rectangle>,
 }
 
 fn empty_line() -> RenderedDimensions
@@ -42,20 +38,20 @@ fn empty_line() -> RenderedDimensions
 {
     RenderedDimensions {
         advance: Point { x: 0, y: 0 },
-        bounding_box: BoundingBox::None,
+        bounding_box: None,
     }
 }
 
-fn move_box(bounding_box: BoundingBox, x: i32, y: i32) -> BoundingBox
+fn move_box(bounding_box: Option<Rectangle>, x: i32, y: i32) -> Option<Rectangle>
     requires { Movable bounding_box x y }
     ensures { result ≡ moved_box x y bounding_box }
 {
-    let BoundingBox::Some(rectangle) = bounding_box else {
-        return BoundingBox::None;
+    let Some(rectangle) = bounding_box else {
+        return None;
     };
     let top_left = rectangle.top_left;
     let size = rectangle.size;
-    BoundingBox::Some(Rectangle {
+    Some(Rectangle {
         top_left: Point {
             x: x + top_left.x,
             y: y + top_left.y,
@@ -65,7 +61,11 @@ fn move_box(bounding_box: BoundingBox, x: i32, y: i32) -> BoundingBox
 }
 
 // The box of the lines that have ended, with this one.
-fn end_line(state: LineState, horizontal_align: HorizontalAlignment, origin: Point) -> BoundingBox
+fn end_line(
+    state: LineState,
+    horizontal_align: HorizontalAlignment,
+    origin: Point,
+) -> Option<Rectangle>
     requires { LineHasRoom origin (as_state state) }
     ensures { result ≡ with_line horizontal_align origin (as_state state) }
 {
@@ -94,7 +94,19 @@ fn add_newline(
     }
 }
 
-// One character: a newline ends the line, and a letter is added to it as plain text at (0, 0).
+// A letter is added to the line as plain text at (0, 0).
+fn add_letter(
+    state: LineState,
+    answer: Result<Option<GlyphReader>, Error>,
+) -> Result<LineState, Error>
+    requires { HasRoom (point (pos 0) (pos 0)) state.line }
+    ensures { state_outcome result ≡ answer_of_line (as_state state) (as_answer answer) }
+{
+    let line = add_answer(state.line, Point { x: 0, y: 0 }, answer)?;
+    Ok(LineState { line, ..state })
+}
+
+// One character: a newline ends the line, and a letter is added to it.
 fn add_char(
     font: &[u8],
     head: FontReader,
@@ -102,28 +114,22 @@ fn add_char(
     state: LineState,
     horizontal_align: HorizontalAlignment,
     pen: Pen,
-) -> LineResult
+) -> Report<LineState>
     requires { CanAdd font.now head state pen }
     ensures { CharAdded font.now ch horizontal_align pen state result }
 {
     if ch == NEWLINE {
         let origin = pen.origin;
         let next = add_newline(state, horizontal_align, pen.line_height, origin);
-        return LineResult::Ok(next, no_steps());
+        return Report {
+            result: Ok(next),
+            steps: no_steps(),
+        };
     }
     let answer = try_retrieve_glyph_data(font, head, ch, pen.ignore_unknown_chars);
-    let line_so_far = state.line;
-    let bounding_box = state.bounding_box;
-    match add_answer(line_so_far, Point { x: 0, y: 0 }, answer) {
-        CharResult::Err(error, steps) => LineResult::Err(error, steps),
-        CharResult::Ok(line, steps) => {
-            let longer = LineState {
-                line,
-                advance_y: state.advance_y,
-                bounding_box,
-            };
-            LineResult::Ok(longer, steps)
-        }
+    Report {
+        result: add_letter(state, answer.result),
+        steps: answer.steps,
     }
 }
 
@@ -154,43 +160,44 @@ pub fn measure_lines(
     text: &[u8],
     horizontal_align: HorizontalAlignment,
     pen: Pen,
-) -> DimensionsReport
+) -> Report<RenderedDimensions>
     requires { CheckedText font.now head text.now pen }
     ensures { TextMeasured font.now text.now horizontal_align pen result }
 {
     let mut state = LineState {
         line: empty_line(),
         advance_y: 0,
-        bounding_box: BoundingBox::None,
+        bounding_box: None,
     };
     let mut steps = no_steps();
     let mut at: usize = 0;
     while at < text.len() {
         let next = next_char(text, at);
         let NextChar::Char(ch, len) = next else {
-            return DimensionsReport {
-                result: DimensionsResult::Err(Error::TextEncoding),
+            return Report {
+                result: Err(Error::TextEncoding),
                 steps,
             };
         };
-        match add_char(font, head, ch, state, horizontal_align, pen) {
-            LineResult::Err(error, char_steps) => {
-                let sum = add_steps(steps, char_steps);
-                return DimensionsReport {
-                    result: DimensionsResult::Err(error),
+        let added = add_char(font, head, ch, state, horizontal_align, pen);
+        match added.result {
+            Err(error) => {
+                let sum = add_steps(steps, added.steps);
+                return Report {
+                    result: Err(error),
                     steps: sum_with(error, sum),
                 };
             }
-            LineResult::Ok(longer, char_steps) => {
+            Ok(longer) => {
                 state = longer;
-                steps = add_steps(steps, char_steps);
+                steps = add_steps(steps, added.steps);
             }
         }
         at += len;
     }
     let origin = pen.origin;
-    DimensionsReport {
-        result: DimensionsResult::Ok(end_text(state, horizontal_align, origin)),
+    Report {
+        result: Ok(end_text(state, horizontal_align, origin)),
         steps,
     }
 }

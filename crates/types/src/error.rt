@@ -1,6 +1,6 @@
 // Why a call is refused (SPECIFICATION, Refusals): specs/Refusals.antt of the crate definitions gives
 // each case its number and code point.
-#[derive(Clone, Copy)]
+#[derive(Clone, Copy, Debug, PartialEq, Eq)]
 pub enum Error {
     // the font has fewer than 23 or more than 1,048,576 bytes
     FontLength,

@@ -1,6 +1,6 @@
 // The values of a font's header, under the Rust's names. It is an answer only: every call takes the
 // font's bytes and reads them itself.
-#[derive(Clone, Copy)]
+#[derive(Clone, Copy, Debug, PartialEq, Eq)]
 pub struct FontReader {
     pub glyph_count: u8,
     pub supports_background_color: bool,

@@ -1,5 +1,5 @@
 // What is read of a glyph: its metrics, under the Rust's names, and where its runs begin.
-#[derive(Clone, Copy)]
+#[derive(Clone, Copy, Debug, PartialEq, Eq)]
 pub struct GlyphReader {
     pub glyph_width: u8,
     pub glyph_height: u8,

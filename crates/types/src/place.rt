@@ -3,7 +3,7 @@ use crate::framebuffer::Framebuffer;
 use crate::geometry::Point;
 use crate::style::{FontStyle, HorizontalAlignment};
 
-#[derive(Clone, Copy)]
+#[derive(Clone, Copy, Debug, PartialEq, Eq)]
 pub struct Place {
     pub position: Point,
     pub style: FontStyle,

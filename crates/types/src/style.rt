@@ -2,7 +2,7 @@
 use crate::geometry::Point;
 
 // Which height of the font stands at the given y (SPECIFICATION, Anchors).
-#[derive(Clone, Copy)]
+#[derive(Clone, Copy, Debug, PartialEq, Eq)]
 pub enum VerticalPosition {
     Baseline,
     Top,
@@ -11,7 +11,7 @@ pub enum VerticalPosition {
 }
 
 // Which side of each line stands at the given x.
-#[derive(Clone, Copy)]
+#[derive(Clone, Copy, Debug, PartialEq, Eq)]
 pub enum HorizontalAlignment {
     Left,
     Center,
@@ -20,13 +20,13 @@ pub enum HorizontalAlignment {
 
 // The colour of the pixels. Transparent leaves the background pixels of a glyph as they
 // were; WithBackground fills them, which not every font allows.
-#[derive(Clone, Copy)]
+#[derive(Clone, Copy, Debug, PartialEq, Eq)]
 pub enum FontColor {
     Transparent(u8),
     WithBackground { fg: u8, bg: u8 },
 }
 
-#[derive(Clone, Copy)]
+#[derive(Clone, Copy, Debug, PartialEq, Eq)]
 pub struct FontStyle {
     pub color: FontColor,
     pub vertical_pos: VerticalPosition,
@@ -34,7 +34,7 @@ pub struct FontStyle {
 
 // Where a text stands and how it goes on: its place, how far below a line the next one lies, and whether characters that the font
 // does not have are skipped.
-#[derive(Clone, Copy)]
+#[derive(Clone, Copy, Debug, PartialEq, Eq)]
 pub struct Placement {
     pub position: Point,
     pub line_height: u32,

@@ -11,7 +11,7 @@ ghost use Rattle.integers.specs.Integers.{min_z, max_z};
 ghost use Rattle.definitions.specs.Geometry.{span_length, join_rectangles, join, RectangleInReach, InReach};
 ghost use Rattle.utils.specs.Spans.{SpansInReach};
 
-use types::geometry::{BoundingBox, Point, Rectangle, Size};
+use types::geometry::{Point, Rectangle, Size};
 
 pub fn min(a: i32, b: i32) -> i32
     ensures { result ≡ min_z a b }
@@ -56,15 +56,15 @@ fn combine_rectangles(r1: Rectangle, r2: Rectangle) -> Rectangle
 }
 
 // The smallest rectangle over both boxes; with none, the other.
-pub fn combine_bounding_boxes(bb1: BoundingBox, bb2: BoundingBox) -> BoundingBox
+pub fn combine_bounding_boxes(bb1: Option<Rectangle>, bb2: Option<Rectangle>) -> Option<Rectangle>
     requires { InReach bb1 × InReach bb2 }
     ensures { result ≡ join bb1 bb2 }
 {
-    let BoundingBox::Some(r1) = bb1 else {
+    let Some(r1) = bb1 else {
         return bb2;
     };
-    let BoundingBox::Some(r2) = bb2 else {
+    let Some(r2) = bb2 else {
         return bb1;
     };
-    BoundingBox::Some(combine_rectangles(r1, r2))
+    Some(combine_rectangles(r1, r2))
 }

@@ -1,11 +1,11 @@
 -- The runs of a glyph that was found begin within the font. Assumes nothing.
 use Rattle.integers.proofs.Prelude.{sym, ap, ◌∙◌, arith}
-use Rattle.definitions.specs.Glyph.{glyph_outcome}
+use Rattle.definitions.specs.Refusals.{outcome}
 use Rattle.definitions.proofs.GlyphLaws.{glyph_range}
 use Rattle.answers.proofs.retrieve_whole_glyph.Goals as goal
 
 pub check_runs-requires : goal.check_runs-requires
 check_runs-requires c =
-    let found = sym c.retrieve_glyph_data-lookup.ensures.answered ∙ ap glyph_outcome c.in-Ok.is in
+    let found = sym c.retrieve_glyph_data-lookup.ensures.answered ∙ ap outcome c.in-Ok.is in
     let r = glyph_range c.args.font.now c.args.head c.args.ch c.in-Ok.glyph c.requires found in
     (c.requires, omega (arith, r))

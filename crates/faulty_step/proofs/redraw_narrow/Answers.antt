@@ -1,24 +1,24 @@
 -- As `redraw` of the gauge, but for what is filled: a refused step is that of its causes; else the narrowed box is filled and the new
 -- reading drawn.
 use Rattle.integers.proofs.Prelude.{◌≡◌, sym, ap, subst, ◌∙◌, true, List, ℕ, ◌<◌, arith, get_or}
-use Rattle.definitions.specs.Vocabulary.{Place}
+use Rattle.definitions.specs.Refusals.{outcome}
+use Rattle.std.specs.Prelude.{Result, Ok}
+use Rattle.definitions.specs.Vocabulary.{Error, Place}
 use Rattle.redraw_checks.specs.Drawing.{asked, ground_of}
 use Rattle.redraw.specs.Contexts.{FitsPlace}
 use Rattle.redraw_checks.specs.declared.Step.{Step}
-use Rattle.redraw_checks.specs.declared.StepResult.{StepResult}
-use Rattle.redraw_checks.specs.declared.StepResult.TheVariants.{Ok}
-use Rattle.redraw_checks.specs.Checks.{checked_step, step_outcome}
+use Rattle.redraw_checks.specs.Checks.{checked_step}
 use Rattle.redraw_checks.proofs.ChecksLaws.{Ready, ready}
 use Rattle.redraw.proofs.RedrawLaws.{stops, held, answers, leaves}
 use Rattle.faulty_step.specs.Fault.{to_fill, step_buffer}
 use Rattle.faulty_step.proofs.redraw_narrow.Goals as goal
 
 -- the tests passed
-is_ready : (font old new : List ℕ) (place : Place) (before : List ℕ) {answer : StepResult} {step : Step}
-    → step_outcome answer ≡ checked_step font old (asked place new) (ground_of place before) → answer ≡ Ok step
+is_ready : (font old new : List ℕ) (place : Place) (before : List ℕ) {answer : Result Step Error} {step : Step}
+    → outcome answer ≡ checked_step font old (asked place new) (ground_of place before) → answer ≡ Ok step
     → ((i : ℕ) → get_or font i 0 < 256) → Ready font old (asked place new) (ground_of place before) step
 is_ready font old new place before {answer} {step} tested is bytes =
-    ready font old (asked place new) (ground_of place before) step (sym tested ∙ ap step_outcome is) bytes
+    ready font old (asked place new) (ground_of place before) step (sym tested ∙ ap outcome is) bytes
 
 pub clear_narrow-requires : goal.clear_narrow-requires
 clear_narrow-requires c =
@@ -38,7 +38,7 @@ returns-in-Err c =
     let a = c.args in
     let new = asked a.place a.new_text.now in
     let screen = ground_of a.place a.screen.now in
-    let e = sym c.check_step.ensures ∙ ap step_outcome c.in-Err.is in
+    let e = sym c.check_step.ensures ∙ ap outcome c.in-Err.is in
     record {
       answered = stops a.font.now a.old_text.now new a.place.background screen e;
       shown = held a.font.now a.old_text.now new a.place.background screen e _;

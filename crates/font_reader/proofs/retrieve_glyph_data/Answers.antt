@@ -1,11 +1,15 @@
 -- The header read anew is `head`. The search's answer decides; a glyph that is found begins within the font.
+use Rattle.std.specs.Prelude.{Ok, Err}
 use Rattle.integers.proofs.Prelude.{◌≡◌, refl, sym, ap, ◌∙◌, List, ℕ, ◌*◌}
-use Rattle.definitions.specs.Vocabulary.{FontReader}
+use Rattle.integers.proofs.Choices.{impossible}
+use Rattle.types.specs.declared.error.Error.TheVariants.{GlyphNotFound, FontEnds}
+use Rattle.definitions.specs.Refusals.{refusal, outcome}
+use Rattle.definitions.specs.Vocabulary.{Error, FontReader, GlyphReader, Report}
 use Rattle.definitions.specs.Header.{header, Opened}
-use Rattle.types.specs.declared.results.GlyphLookup.{GlyphLookup}
-use Rattle.definitions.specs.Lookup.{Search, search as lookup, steps_of}
-use Rattle.definitions.specs.Glyph.{fields, from_search, glyph, glyph_outcome}
+use Rattle.definitions.specs.Lookup.{Search, found, missing, short, search as lookup, steps_of}
+use Rattle.definitions.specs.Glyph.{fields, from_search, glyph}
 use Rattle.definitions.proofs.LookupLaws.{search_within}
+use Rattle.glyph_searcher.specs.Answers.{search_report}
 use Rattle.font_reader.specs.Lookups.{LookedUp}
 use Rattle.font_reader.proofs.retrieve_glyph_data.Goals as goal
 
@@ -18,24 +22,38 @@ read_header-header-requires c = (c.requires.least, rw c.requires.read at c.requi
 
 -- What the search answers is what the lookup brings.
 module _ {font : List ℕ} {c : ℕ} {s : Search} (e : s ≡ lookup font c) where
-  brought : {r : GlyphLookup} → glyph_outcome r.result ≡ from_search font c s → r.steps ≡ steps_of s → LookedUp font c r
+  brought : {r : Report GlyphReader} → outcome r.result ≡ from_search font c s → r.steps ≡ steps_of s → LookedUp font c r
   unfolding glyph
   brought a k = record { answered = a ∙ ap (from_search font c) e; counted = k ∙ ap steps_of e }
 
-pub search-requires : goal.search-requires
-search-requires c = opened_again c.requires c.read_header-header.ensures
+-- .. where it found a glyph,
+was_found : (s : Search) (c : ℕ) {f : Report ℕ} {start : ℕ} → f ≡ search_report c s → f.result ≡ Ok start → found start f.steps ≡ s
+was_found (found at q) c e k = cc
+was_found (missing q) c e k = impossible cc
+was_found short c e k = impossible cc
+
+-- .. and where it did not.
+refused_so : {font : List ℕ} {c : ℕ} (s : Search) {f : Report ℕ} {error : Error} → s ≡ lookup font c → f ≡ search_report c s
+    → f.result ≡ Err error → LookedUp font c record { result = Err error; steps = f.steps }
+refused_so (found at q) e k is = impossible cc
+refused_so {c = c} (missing q) {error = error} e k is =
+    let same : error ≡ GlyphNotFound c = cc in
+    brought e (ap refusal same) (ap (λ (r : Report ℕ). r.steps) k)
+refused_so {c = c} short {error = error} e k is =
+    let same : error ≡ FontEnds c = cc in
+    brought e (ap refusal same) (ap (λ (r : Report ℕ). r.steps) k)
+
+pub search-found-requires : goal.search-found-requires
+search-found-requires c = opened_again c.requires c.read_header-header.ensures
 
 pub new-requires : goal.new-requires
-new-requires c = (opened_again c.requires c.read_header-header.ensures, search_within _ _ _ _ (sym c.in-Found.ensures))
+new-requires c = (opened_again c.requires c.read_header-header.ensures, search_within _ _ _ _ (sym (was_found _ _ c.search-found.ensures c.in-Ok.is)))
 
-pub returns-in-Found : goal.returns-in-Found
-returns-in-Found c =
+pub returns-in-Ok : goal.returns-in-Ok
+returns-in-Ok c =
     let a = c.args in
-    let fields_there = ap (λ (h : FontReader). fields a.font.now h a.ch (c.in-Found.start * 8)) c.read_header-header.ensures in
-    brought c.in-Found.ensures (c.new.ensures ∙ fields_there) refl
+    let fields_there = ap (λ (h : FontReader). fields a.font.now h a.ch (c.in-Ok.start * 8)) c.read_header-header.ensures in
+    brought (was_found _ _ c.search-found.ensures c.in-Ok.is) (c.new.ensures ∙ fields_there) refl
 
-pub returns-in-GlyphNotFound : goal.returns-in-GlyphNotFound
-returns-in-GlyphNotFound c = brought c.in-GlyphNotFound.ensures refl refl
-
-pub returns-in-FontEnds : goal.returns-in-FontEnds
-returns-in-FontEnds c = brought c.in-FontEnds.ensures refl refl
+pub returns-in-Err : goal.returns-in-Err
+returns-in-Err c = refused_so _ refl c.search-found.ensures c.in-Err.is

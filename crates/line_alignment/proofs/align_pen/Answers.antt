@@ -3,15 +3,14 @@ use Rattle.std.proofs.Common.{◌≡◌, sym, ap, subst, ◌∙◌, List, ℕ, p
 use Rattle.integers.proofs.Prelude.{to_z-of_z}
 use Rattle.integers.proofs.Laws.{zarith, stored}
 use Rattle.integers.proofs.Choices.{impossible}
-use Rattle.definitions.specs.Vocabulary.{FontReader}
+use Rattle.definitions.specs.Vocabulary.{FontReader, Report, RenderedDimensions}
 use Rattle.types.specs.declared.style.HorizontalAlignment.TheVariants.{Left}
-use Rattle.types.specs.declared.results.DimensionsReport.{DimensionsReport}
-use Rattle.definitions.specs.Refusals.{success}
+use Rattle.definitions.specs.Refusals.{success, outcome}
 use Rattle.definitions.specs.Utf8.{newlines}
 use Rattle.definitions.specs.Font.{u8g2}
 use Rattle.definitions.specs.Sums.{sums}
 use Rattle.definitions.specs.Text.{point, dimensions, horizontal_offset}
-use Rattle.definitions.specs.Calls.{code_points_of, dimensions_outcome}
+use Rattle.definitions.specs.Calls.{code_points_of}
 use Rattle.checks.specs.declared.origin.Pen.{Pen}
 use Rattle.checks.specs.Origins.{CheckedText, CheckedLine}
 use Rattle.layout.specs.Ranges.{Near}
@@ -26,8 +25,8 @@ from_start pen = record { origin = point (pos 0) (pos 0); line_height = pen.line
 
 -- the line was measured
 module _ {font line : List ℕ} {head : FontReader} {pen : Pen} (k : CheckedText font head line pen) (one : newlines (code_points_of line) ≡ 0)
-    {r : DimensionsReport} (m : TextMeasured font line Left (from_start pen) r) where
-  measured : dimensions_outcome r.result ≡ dimensions (measured_line font pen.ignore_unknown_chars line)
+    {r : Report RenderedDimensions} (m : TextMeasured font line Left (from_start pen) r) where
+  measured : outcome r.result ≡ dimensions (measured_line font pen.ignore_unknown_chars line)
   measured = m.measured ∙ line_measured k one
 
   counted : r.steps ≡ sums (u8g2 font) line (measured_line font pen.ignore_unknown_chars line).advance
@@ -37,7 +36,7 @@ pub compute_horizontal_offset-offset-requires : goal.compute_horizontal_offset-o
 compute_horizontal_offset-offset-requires c =
     let k = c.requires.0 in
     let is : success c.in-Ok.dimensions ≡ dimensions (measured_line c.args.font.now c.args.pen.ignore_unknown_chars c.args.line.now)
-    = sym (ap dimensions_outcome c.in-Ok.is) ∙ measured k c.requires.1 c.measure_lines-measured.ensures in
+    = sym (ap outcome c.in-Ok.is) ∙ measured k c.requires.1 c.measure_lines-measured.ensures in
     let n = advance_near k c.requires.1 is in
     simp (to_z-of_z, near_fits n) (box_near k c.requires.1 is, n)
 
@@ -45,7 +44,7 @@ pub move_pen-requires : goal.move_pen-requires
 move_pen-requires c =
     let k = c.requires.0 in
     let is : success c.in-Ok.dimensions ≡ dimensions (measured_line c.args.font.now c.args.pen.ignore_unknown_chars c.args.line.now)
-    = sym (ap dimensions_outcome c.in-Ok.is) ∙ measured k c.requires.1 c.measure_lines-measured.ensures in
+    = sym (ap outcome c.in-Ok.is) ∙ measured k c.requires.1 c.measure_lines-measured.ensures in
     let offset_is : to_z w32 (of_z w32 c.compute_horizontal_offset-offset.result)
     ≡ horizontal_offset c.args.horizontal_align c.in-Ok.dimensions.bounding_box c.in-Ok.dimensions.advance.x
     = stored w32 c.compute_horizontal_offset-offset.type_inv
@@ -59,7 +58,7 @@ returns-in-Err c =
     let k = c.requires.0 in
     let m = c.measure_lines-measured.ensures in
     record {
-      aligned = pen_refused k c.requires.1 c.args.horizontal_align (sym (ap dimensions_outcome c.in-Err.is) ∙ measured k c.requires.1 m);
+      aligned = pen_refused k c.requires.1 c.args.horizontal_align (sym (ap outcome c.in-Err.is) ∙ measured k c.requires.1 m);
       counted = counted k c.requires.1 m;
       placed = λ p e. impossible cc;
     }
@@ -69,7 +68,7 @@ returns-in-Ok c =
     let k = c.requires.0 in
     let a = c.args.horizontal_align in
     let is : success c.in-Ok.dimensions ≡ dimensions (measured_line c.args.font.now c.args.pen.ignore_unknown_chars c.args.line.now)
-    = sym (ap dimensions_outcome c.in-Ok.is) ∙ measured k c.requires.1 c.measure_lines-measured.ensures in
+    = sym (ap outcome c.in-Ok.is) ∙ measured k c.requires.1 c.measure_lines-measured.ensures in
     let offset_is : to_z w32 (of_z w32 c.compute_horizontal_offset-offset.result)
     ≡ horizontal_offset a c.in-Ok.dimensions.bounding_box c.in-Ok.dimensions.advance.x
     = stored w32 c.compute_horizontal_offset-offset.type_inv

@@ -1,7 +1,6 @@
 -- A font of more than 65,536 bytes, one that does not open, or what measuring answers.
 use Rattle.integers.proofs.Prelude.{sym, ap, ◌∙◌, arith}
-use Rattle.definitions.specs.Refusals.{error_number, code_point}
-use Rattle.definitions.specs.Calls.{font_reader_outcome}
+use Rattle.definitions.specs.Refusals.{error_number, code_point, outcome}
 use Rattle.measure_line.proofs.MeasuredLaws.{font_too_long, font_refused, font_opens}
 use Rattle.measure_line.proofs.measured.Goals as goal
 
@@ -14,7 +13,7 @@ returns-in-Err c =
     let e = c.in-Err.error in
     sym
     (font_refused a.font.now a.text.now (omega arith) (error_number e) (code_point e)
-    (sym c.new_from_raw_data.ensures ∙ ap font_reader_outcome c.in-Err.is))
+    (sym c.new_from_raw_data.ensures ∙ ap outcome c.in-Err.is))
 
 pub returns-in-Ok : goal.returns-in-Ok
 returns-in-Ok c =
@@ -22,4 +21,4 @@ returns-in-Ok c =
     c.get_rendered_dimensions-report.ensures.answered
     ∙ sym
     (font_opens a.font.now a.text.now (omega arith) c.in-Ok.head
-    (sym c.new_from_raw_data.ensures ∙ ap font_reader_outcome c.in-Ok.is))
+    (sym c.new_from_raw_data.ensures ∙ ap outcome c.in-Ok.is))

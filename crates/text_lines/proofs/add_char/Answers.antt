@@ -2,5 +2,5 @@
 use Rattle.text_lines.proofs.LinesLaws.{answer_room}
 use Rattle.text_lines.proofs.add_char.Goals as goal
 
-pub add_answer-requires : goal.add_answer-requires
-add_answer-requires c = answer_room c.requires.room
+pub add_letter-requires : goal.add_letter-requires
+add_letter-requires c = answer_room c.requires.room

@@ -3,11 +3,10 @@
 use Rattle.std.proofs.Common.{◌≡◌, refl, sym, ap, ◌∙◌, arith}
 use Rattle.definitions.specs.Refusals.{success}
 use Rattle.definitions.proofs.Utf8Laws.{position, none_malformed}
-use Rattle.definitions.specs.Font.{u8g2}
-use Rattle.definitions.specs.Sums.{brings}
 use Rattle.checks.proofs.OriginLaws.{as_line}
 use Rattle.layout.proofs.MeasureLaws.{checked_characters}
 use Rattle.layout.proofs.SumLoopLaws.{summed_start, summed_end, summed_fits}
+use Rattle.text_lines.specs.Lines.{state_outcome}
 use Rattle.text_lines.proofs.LoopLaws.{aligned_start, aligned_end, aligned_stops, measured_next, sum_stops}
 use Rattle.text_lines.proofs.measure_lines.Goals as goal
 
@@ -22,22 +21,20 @@ returns-in_default c = absurd (none_malformed _ c.loop-at.at c.loop-at-test.true
 
 pub add_steps-sum-requires : goal.add_steps-sum-requires
 add_steps-sum-requires c =
-    let brought : c.in-Err.char_steps ≡ brings (u8g2 c.args.font.now).steps c.in-Char.ch = c.in-Err.ensures.brought in
-    summed_fits c.loop-at.invariant.summed (sym c.in-Char.ensures) brought c.requires.opened.least c.requires.opened.most c.requires.checked.short
+    summed_fits c.loop-at.invariant.summed (sym c.in-Char.ensures) c.add_char-added.ensures.brought c.requires.opened.least c.requires.opened.most c.requires.checked.short
 
 pub returns-in-Err : goal.returns-in-Err
 returns-in-Err c =
     let k = c.requires.checked in
-    let stops = sym c.in-Err.ensures.added in
+    let stops = sym c.add_char-added.ensures.added ∙ ap state_outcome c.in-Err.is in
     record {
       measured = aligned_stops k c.loop-at.invariant.aligned (sym c.in-Char.ensures) stops;
-      summed = c.sum_with.ensures ∙ sum_stops k c.loop-at.invariant (sym c.in-Char.ensures) c.in-Err.ensures.brought c.add_steps-sum.ensures stops refl;
+      summed = c.sum_with.ensures ∙ sum_stops k c.loop-at.invariant (sym c.in-Char.ensures) c.add_char-added.ensures.brought c.add_steps-sum.ensures stops refl;
     }
 
 pub add_steps-steps-requires : goal.add_steps-steps-requires
 add_steps-steps-requires c =
-    let brought : c.in-Ok.char_steps ≡ brings (u8g2 c.args.font.now).steps c.in-Char.ch = c.in-Ok.ensures.brought in
-    summed_fits c.loop-at.invariant.summed (sym c.in-Char.ensures) brought c.requires.opened.least c.requires.opened.most c.requires.checked.short
+    summed_fits c.loop-at.invariant.summed (sym c.in-Char.ensures) c.add_char-added.ensures.brought c.requires.opened.least c.requires.opened.most c.requires.checked.short
 
 pub overflow_add-at : goal.overflow_add-at
 overflow_add-at c = let p = position c.args.text.now c.loop-at.at (sym c.in-Char.ensures) in omega (arith, c.requires.checked.short)
@@ -47,8 +44,8 @@ loop-at-smaller c = let p = position c.args.text.now c.loop-at.at (sym c.in-Char
 
 pub loop-at-preserved : goal.loop-at-preserved
 loop-at-preserved c =
-    measured_next c.requires.checked c.loop-at.invariant (sym c.in-Char.ensures) c.in-Ok.ensures.brought c.add_steps-steps.ensures c.requires.opened
-    (sym c.in-Ok.ensures.added)
+    measured_next c.requires.checked c.loop-at.invariant (sym c.in-Char.ensures) c.add_char-added.ensures.brought c.add_steps-steps.ensures c.requires.opened
+    (sym c.add_char-added.ensures.added ∙ ap state_outcome c.in-Ok.is)
 
 pub returns : goal.returns
 returns c = record {

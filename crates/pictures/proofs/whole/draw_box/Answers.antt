@@ -1,6 +1,6 @@
 -- `draw_box` meets its contract: DrawingLaws.antt has what the call leaves. Assumes nothing.
 use Rattle.integers.proofs.Prelude.{refl, ap, inl, inr, arith}
-use Rattle.definitions.specs.Calls.{dimensions_outcome}
+use Rattle.definitions.specs.Refusals.{outcome}
 use Rattle.pictures.proofs.DrawingLaws.{area_most, framed, called, is_drawn}
 use Rattle.pictures.proofs.whole.draw_box.Goals as goal
 
@@ -28,7 +28,7 @@ draw_at_corner-answer-requires c =
 pub returns-in-Err : goal.returns-in-Err
 returns-in-Err c =
     let a = c.args in
-    let is = ap dimensions_outcome c.in-Err.is in
+    let is = ap outcome c.in-Err.is in
     inr (
       a.rectangle,
       called a.rectangle a.buffer.now c.if-width-gt256.false c.if-height-gt256.false c.requires.room a.color c.requires.measured is
@@ -38,7 +38,7 @@ returns-in-Err c =
 pub returns-in-Ok : goal.returns-in-Ok
 returns-in-Ok c =
     let a = c.args in
-    let is = ap dimensions_outcome c.in-Ok.is in
+    let is = ap outcome c.in-Ok.is in
     is_drawn
     (called a.rectangle a.buffer.now c.if-width-gt256.false c.if-height-gt256.false c.requires.room a.color c.requires.measured is
     c.draw_at_corner-answer.ensures)

@@ -1,6 +1,6 @@
 -- A refused drawing is taken back.
 use Rattle.integers.proofs.Prelude.{ap, ◌∙◌}
-use Rattle.definitions.specs.Calls.{bounding_box_outcome}
+use Rattle.definitions.specs.Refusals.{outcome}
 use Rattle.redraw_checks.specs.Drawing.{asked, ground_of}
 use Rattle.readings.proofs.AloneLaws.{drawn_alone, refused_alone}
 use Rattle.readings.proofs.check.draw_alone.Goals as goal
@@ -10,7 +10,7 @@ returns-in-Ok c =
     let a = c.args in
     let r = c.render_aligned-drawn.ensures in
     drawn_alone a.font.now (asked a.place a.text.now) (ground_of a.place a.ground.now) c.copy_from_slice.ensures.after r.answered r.shown
-    (ap bounding_box_outcome c.in-Ok.is)
+    (ap outcome c.in-Ok.is)
 
 pub returns-in-Err : goal.returns-in-Err
 returns-in-Err c =
@@ -18,4 +18,4 @@ returns-in-Err c =
     let r = c.render_aligned-drawn.ensures in
     c.copy_from_slice-in-Err.ensures.after
     ∙ refused_alone a.font.now (asked a.place a.text.now) (ground_of a.place a.ground.now) c.copy_from_slice.ensures.after r.answered
-    (ap bounding_box_outcome c.in-Err.is)
+    (ap outcome c.in-Err.is)

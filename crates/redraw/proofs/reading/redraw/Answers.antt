@@ -1,10 +1,9 @@
 -- A refused step is that of its causes; else the old reading is cleared and the new one drawn (RedrawLaws), and what that leaves
 -- on a ground is `leaves_reading` of StepsLaws.
 use Rattle.integers.proofs.Prelude.{◌≡◌, sym, ap, subst, ◌∙◌, ℕ, arith, rules}
-use Rattle.definitions.specs.Refusals.{success}
-use Rattle.types.specs.declared.results.DimensionsReport.{DimensionsReport}
+use Rattle.definitions.specs.Vocabulary.{Report, RenderedDimensions}
+use Rattle.definitions.specs.Refusals.{success, outcome}
 use Rattle.definitions.specs.Font.{u8g2}
-use Rattle.definitions.specs.Calls.{dimensions_outcome}
 use Rattle.definitions.specs.Sums.{sums}
 use Rattle.definitions.specs.Agreement.{Ground}
 use Rattle.definitions.proofs.SumsLaws.{no_sums}
@@ -48,14 +47,14 @@ returns-in-Err c =
     let r = asked a.place a.new_text.now in
     let e = sym c.in-Err.ensures in
     let is_refused = stops a.font.now a.old_text.now r a.place.background p e in
-    let answered = ap (λ (r : DimensionsReport). dimensions_outcome r.result) c.refused.ensures ∙ is_refused in
+    let answered = ap (λ (r : Report RenderedDimensions). outcome r.result) c.refused.ensures ∙ is_refused in
     let shown = stays a.font.now a.old_text.now r a.place.background p e in
     let none = no_sums (u8g2 a.font.now) a.new_text.now is_refused (checks_early a.font.now a.old_text.now r p e) in
     record {
       answered = answered;
       shown = shown;
       leaves = leaves_reading (setting_of a.font.now a.place) a.old_text.now (reading_of a.new_text.now a.place.style.color) answered shown;
-      summed = ap (λ (r : DimensionsReport). r.steps) c.refused.ensures ∙ none;
+      summed = ap (λ (r : Report RenderedDimensions). r.steps) c.refused.ensures ∙ none;
     }
 
 -- `between` is read with either pen, so that clearing the new text (must-fail) is refused by `leaves`.

@@ -1,6 +1,6 @@
 -- The causes are tested in the definition's order; where none applies, the text is drawn. RenderLaws says what is left of a call.
 use Rattle.integers.proofs.Prelude.{◌≡◌, refl, sym, ap, ◌∙◌, false, arith, w8, SFits, to_z-of_z}
-use Rattle.definitions.specs.Refusals.{success}
+use Rattle.definitions.specs.Refusals.{success, outcome}
 use Rattle.definitions.specs.Header.{Opened}
 use Rattle.definitions.specs.Font.{u8g2}
 use Rattle.definitions.specs.Framebuffer.{framebuffer_cause}
@@ -8,7 +8,6 @@ use Rattle.definitions.specs.Limits.{background_off, background_cause}
 use Rattle.definitions.specs.Calls.{open_font, Request, request}
 use Rattle.definitions.proofs.OpenedLaws.{opened, heights_fit}
 use Rattle.definitions.proofs.SumsLaws.{open_early}
-use Rattle.checks.specs.Origins.{origin_outcome}
 use Rattle.checks.proofs.OriginLaws.{tested, request_checked, tested_early}
 use Rattle.checks.proofs.LimitLaws.{color_is}
 use Rattle.checks.proofs.SizeLaws.{size_fits}
@@ -37,7 +36,7 @@ module _ (c : After-checked_origin) where
   size_in : (framebuffer_cause c.args.framebuffer c.args.buffer.now).applies ≡ false
   size_in = sym c.has_bad_size.ensures ∙ c.if-has_bad_size.false
 
-  passed : origin_outcome c.checked_origin.result ≡ tested c.args.font.now known asked
+  passed : outcome c.checked_origin.result ≡ tested c.args.font.now known asked
   passed = simp (to_z-of_z, heights.0, heights.1) at c.checked_origin.ensures
 
   -- the answer to the colour is the cause's
@@ -68,7 +67,7 @@ pub returns-in-Err-checked_origin : goal.returns-in-Err-checked_origin
 returns-in-Err-checked_origin c =
     let k = (goal.at.returns-in-Err-checked_origin c).After-checked_origin in
     let a = c.args in
-    let off = sym (passed k) ∙ ap origin_outcome c.in-Err-checked_origin.is in
+    let off = sym (passed k) ∙ ap outcome c.in-Err-checked_origin.is in
     let told = reported_refused a.font.now (asked k) a.style.color a.framebuffer a.buffer.now c.refused-in-Err-checked_origin.ensures
     (position_refused a.font.now (asked k) a.style.color a.framebuffer a.buffer.now (known k) (size_in k) off)
     (tested_early a.font.now (known k) (asked k) off) in
@@ -78,7 +77,7 @@ pub returns-then-has_bad_color : goal.returns-then-has_bad_color
 returns-then-has_bad_color c =
     let k = (goal.at.returns-then-has_bad_color c).After-checked_origin in
     let a = c.args in
-    let on = sym (passed k) ∙ ap origin_outcome c.in-Ok-checked_origin.is in
+    let on = sym (passed k) ∙ ap outcome c.in-Ok-checked_origin.is in
     let told = reported_refused a.font.now (asked k) a.style.color a.framebuffer a.buffer.now c.refused-then-has_bad_color.ensures
     (color_refused a.font.now (asked k) a.style.color a.framebuffer a.buffer.now (known k) (size_in k) on
     (color_tested k ∙ sym c.has_bad_color.ensures ∙ c.if-has_bad_color.true))
@@ -89,7 +88,7 @@ pub draw_aligned-requires : goal.draw_aligned-requires
 draw_aligned-requires c =
     let k = (goal.at.draw_aligned-requires c).After-checked_origin in
     let a = c.args in
-    let on = sym (passed k) ∙ ap origin_outcome c.in-Ok-checked_origin.is in
+    let on = sym (passed k) ∙ ap outcome c.in-Ok-checked_origin.is in
     record {
       opened = is_open k;
       checked = request_checked _ (known k) (asked k) (heights k).0 (heights k).1 on;
@@ -100,7 +99,7 @@ pub returns-else-has_bad_color : goal.returns-else-has_bad_color
 returns-else-has_bad_color c =
     let k = (goal.at.returns-else-has_bad_color c).After-checked_origin in
     let a = c.args in
-    let on = sym (passed k) ∙ ap origin_outcome c.in-Ok-checked_origin.is in
+    let on = sym (passed k) ∙ ap outcome c.in-Ok-checked_origin.is in
     let d = c.draw_aligned.ensures in
     let whole = drawn_whole_lem a.font.now (asked k) a.style.color a.framebuffer a.buffer.now (known k) (size_in k) on
     (color_tested k ∙ sym c.has_bad_color.ensures ∙ c.if-has_bad_color.false) in

@@ -20,10 +20,10 @@ draw_answer-requires c =
 pub returns : goal.returns
 returns c =
     let looked = c.retrieve_answer-answer.ensures in
-    let added = c.add_answer-counted.ensures in
+    let added = c.add_answer-result.ensures in
     let other = ne_eqb _ _ c.if-ch-eq-NEWLINE.false in
     record {
-      counted = simp (added.added, looked.is, other);
+      counted = simp (added, looked.is, other);
       shown = c.draw_answer.ensures ∙ simp (looked.is, other);
-      brought = added.counted ∙ looked.counted ∙ simp other;
+      brought = looked.counted ∙ simp other;
     }

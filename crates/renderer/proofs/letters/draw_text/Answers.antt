@@ -1,7 +1,8 @@
 -- LetterLaws and SumLoopLaws have the loop's steps and its ends; here they are applied to the character that was read.
 use Rattle.integers.proofs.Prelude.{◌≡◌, refl, sym, ap, subst, ◌∙◌, ℕ, arith, drop}
 use Rattle.integers.proofs.Choices.{impossible}
-use Rattle.definitions.specs.Vocabulary.{RenderedDimensions, LookupSteps}
+use Rattle.definitions.specs.Vocabulary.{RenderedDimensions}
+use Rattle.definitions.specs.Refusals.{outcome}
 use Rattle.definitions.specs.Geometry.{InReach}
 use Rattle.utf8_sequences.specs.Sequences.{as_character}
 use Rattle.definitions.specs.Utf8.{character, first_character}
@@ -9,7 +10,6 @@ use Rattle.definitions.specs.Font.{u8g2}
 use Rattle.definitions.specs.Sums.{plus_steps, brings, Fits32}
 use Rattle.definitions.proofs.Utf8Laws.{Position, position, none_malformed}
 use Rattle.renderer.specs.CharAnswers.{Fits}
-use Rattle.layout.specs.CharResults.{char_outcome, char_steps}
 use Rattle.layout.proofs.MeasureLaws.{checked_characters, measured_room, measured_end, measured_stops}
 use Rattle.layout.proofs.SumLoopLaws.{summed_start, summed_end, summed_fits}
 use Rattle.renderer.proofs.LetterLaws.{drawn_small, drawn_start, drawn_end, drawn_next, drawn_stops, sum_next, sum_stops}
@@ -46,19 +46,19 @@ module _ (c : After-draw_char-drawn) where
   here : Position c.args.text.now c.loop-at.at c.in-Char.ch c.in-Char.len
   here = position _ _ first
 
-  brings_it : {q : LookupSteps} → char_steps c.draw_char-drawn.result ≡ q → q ≡ brings (u8g2 c.args.font.now).steps c.in-Char.ch
-  brings_it e = sym e ∙ c.draw_char-drawn.ensures.brought
+  brings_it : c.draw_char-drawn.result.steps ≡ brings (u8g2 c.args.font.now).steps c.in-Char.ch
+  brings_it = c.draw_char-drawn.ensures.brought
 
-  sum_fits : {q : LookupSteps} → char_steps c.draw_char-drawn.result ≡ q → Fits32 (plus_steps c.loop-at.steps q)
-  sum_fits e =
+  sum_fits : Fits32 (plus_steps c.loop-at.steps c.draw_char-drawn.result.steps)
+  sum_fits =
       let s = c.requires in
-      summed_fits c.loop-at.invariant.summed first (brings_it e) s.opened.least s.opened.most s.checked.short
+      summed_fits c.loop-at.invariant.summed first brings_it s.opened.least s.opened.most s.checked.short
 
 pub add_steps-sum-requires : goal.add_steps-sum-requires
-add_steps-sum-requires c = sum_fits (goal.at.add_steps-sum-requires c).After-draw_char-drawn (ap char_steps c.in-Err.is)
+add_steps-sum-requires c = sum_fits (goal.at.add_steps-sum-requires c).After-draw_char-drawn
 
 pub add_steps-steps-requires : goal.add_steps-steps-requires
-add_steps-steps-requires c = sum_fits (goal.at.add_steps-steps-requires c).After-draw_char-drawn (ap char_steps c.in-Ok.is)
+add_steps-steps-requires c = sum_fits (goal.at.add_steps-steps-requires c).After-draw_char-drawn
 
 pub returns-in-Err : goal.returns-in-Err
 returns-in-Err c =
@@ -66,11 +66,11 @@ returns-in-Err c =
     let is = c.in-Err.is in
     let i = c.loop-at.invariant in
     let d = c.draw_char-drawn.ensures in
-    let stops = sym d.counted ∙ ap char_outcome is in
+    let stops = sym d.counted ∙ ap outcome is in
     record {
       counted = sym (measured_stops c.requires.checked i.drawn.reached (first k) stops);
       summed = c.sum_with.ensures
-          ∙ sum_stops _ i.summed (first k) (brings_it k (ap char_steps is)) c.add_steps-sum.ensures c.args.pen.line_height
+          ∙ sum_stops _ i.summed (first k) (brings_it k) c.add_steps-sum.ensures c.args.pen.line_height
           c.args.pen.origin c.loop-at.dimensions stops refl;
       shown = drawn_stops _ _ _ _ _ _ _ _ _ c.requires.checked i.drawn (first k) stops d.shown;
       reach = λ e h. impossible cc;
@@ -88,11 +88,11 @@ loop-at-preserved c =
     let is = c.in-Ok.is in
     let i = c.loop-at.invariant in
     let d = c.draw_char-drawn.ensures in
-    let goes = sym d.counted ∙ ap char_outcome is in
+    let goes = sym d.counted ∙ ap outcome is in
     record {
       drawn = drawn_next _ _ _ _ _ _ _ _ _ c.requires.checked i.drawn (first k) (drawn_small c.requires.opened _) goes d.shown
           c.draw_char-drawn.auto.buffer;
-      summed = sum_next _ i.summed (first k) (brings_it k (ap char_steps is)) c.add_steps-steps.ensures c.args.pen.line_height
+      summed = sum_next _ i.summed (first k) (brings_it k) c.add_steps-steps.ensures c.args.pen.line_height
           c.args.pen.origin c.loop-at.dimensions goes;
     }
 

@@ -1,27 +1,26 @@
 -- The pen is where the definition puts the line; what it then draws is the definition's line.
 use Rattle.integers.proofs.Prelude.{◌≡◌, refl, sym, ap, subst, ◌∙◌}
-use Rattle.definitions.specs.Refusals.{success}
+use Rattle.definitions.specs.Refusals.{success, outcome}
 use Rattle.definitions.specs.Calls.{code_points_of}
 use Rattle.checks.specs.declared.origin.Pen.{Pen}
 use Rattle.layout.specs.Ranges.{Within}
-use Rattle.line_alignment.specs.Pens.{pen_outcome, pen_steps}
 use Rattle.renderer.proofs.DrawnLineLaws.{Moved, pen_came, stopped_line, cut_line, whole_line}
 use Rattle.renderer.proofs.lines.draw_line.Goals as goal
 use Rattle.renderer.proofs.lines.draw_line.Goals.{In-Ok}
 
 -- the line was measured
 module _ (c : In-Ok) where
-  comes : pen_outcome c.align_pen.result ≡ success c.in-Ok.line_pen
-  comes = ap pen_outcome c.in-Ok.is
+  comes : outcome c.align_pen-aligned.result.result ≡ success c.in-Ok.line_pen
+  comes = ap outcome c.in-Ok.is
 
   moved : Moved c.args.font.now c.args.line.now c.args.setting.horizontal_align c.args.setting.pen c.in-Ok.line_pen
-  moved = pen_came _ _ _ _ c.in-Ok.line_pen (sym comes ∙ c.align_pen.ensures.aligned)
+  moved = pen_came _ _ _ _ c.in-Ok.line_pen (sym comes ∙ c.align_pen-aligned.ensures.aligned)
 
 pub draw_text-drawn-requires : goal.draw_text-drawn-requires
 draw_text-drawn-requires c =
     record {
       opened = c.requires.opened;
-      checked = c.align_pen.ensures.placed c.in-Ok.line_pen (comes (goal.at.draw_text-drawn-requires c).In-Ok);
+      checked = c.align_pen-aligned.ensures.placed c.in-Ok.line_pen (comes (goal.at.draw_text-drawn-requires c).In-Ok);
       room = subst (λ (q : Pen). Within q.line_height 0 (code_points_of c.args.line.now) c.args.dimensions) (moved (goal.at.draw_text-drawn-requires c).In-Ok).is c.requires.room;
       fits = c.requires.fits;
     }
@@ -30,12 +29,14 @@ draw_text-drawn-requires c =
 pub returns-in-Err : goal.returns-in-Err
 returns-in-Err c =
     let is = c.in-Err.is in
-    stopped_line (sym (ap pen_outcome is) ∙ c.align_pen.ensures.aligned) (sym (ap pen_steps is) ∙ c.align_pen.ensures.counted) refl
+    stopped_line (sym (ap outcome is) ∙ c.align_pen-aligned.ensures.aligned) c.align_pen-aligned.ensures.counted refl
 
 pub returns-in-Err-result : goal.returns-in-Err-result
-returns-in-Err-result c = cut_line c.requires.one (moved (goal.at.returns-in-Err-result c).In-Ok) c.draw_text-drawn.ensures c.in-Err-result.is c.no_steps.ensures
+returns-in-Err-result c =
+    rw c.refused.ensures
+    (cut_line c.requires.one (moved (goal.at.returns-in-Err-result c).In-Ok) c.draw_text-drawn.ensures c.in-Err-result.is refl)
 
 pub returns-in-Ok-result : goal.returns-in-Ok-result
 returns-in-Ok-result c =
     whole_line c.requires.one (moved (goal.at.returns-in-Ok-result c).In-Ok) c.draw_text-drawn.ensures c.in-Ok-result.is
-    (sym (ap pen_steps c.in-Ok.is) ∙ c.align_pen.ensures.counted)
+    c.align_pen-aligned.ensures.counted

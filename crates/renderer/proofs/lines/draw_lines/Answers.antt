@@ -1,6 +1,6 @@
 -- LineLoopLaws has the loop's step and its ends; here they are applied to the line that was found.
 use Rattle.integers.proofs.Prelude.{◌≡◌, refl, ap, ◌∙◌, ◌-◌, ◌≤◌, ◌<◌, arith, List, ℕ, length, take, drop, length-drop}
-use Rattle.layout.specs.CharResults.{char_outcome, char_steps}
+use Rattle.definitions.specs.Refusals.{outcome}
 use Rattle.renderer.specs.Lines.{line_of}
 use Rattle.renderer.proofs.FirstLineLaws.{line_short}
 use Rattle.renderer.proofs.LineLoopLaws.{as_text, lines_begin, line_lent, line_drawable, line_fits, last_counted, last_shown, last_summed, next_turn, next_near}
@@ -50,13 +50,13 @@ pub add_steps-sum-requires : goal.add_steps-sum-requires
 add_steps-sum-requires c =
     let e = (goal.at.add_steps-sum-requires c).After-line_end-end in
     let p = c.requires.0 in
-    line_fits _ _ _ _ _ c.loop-error.invariant (lent e) _ c.draw_line-drawn.ensures (ap char_steps c.in-Err.is) p.opened.least p.opened.most p.checked.short
+    line_fits _ _ _ _ _ c.loop-error.invariant (lent e) _ c.draw_line-drawn.ensures refl p.opened.least p.opened.most p.checked.short
 
 pub add_steps-steps-requires : goal.add_steps-steps-requires
 add_steps-steps-requires c =
     let e = (goal.at.add_steps-steps-requires c).After-line_end-end in
     let p = c.requires.0 in
-    line_fits _ _ _ _ _ c.loop-error.invariant (lent e) _ c.draw_line-drawn.ensures (ap char_steps c.in-Ok.is) p.opened.least p.opened.most p.checked.short
+    line_fits _ _ _ _ _ c.loop-error.invariant (lent e) _ c.draw_line-drawn.ensures refl p.opened.least p.opened.most p.checked.short
 
 pub returns-in-Err : goal.returns-in-Err
 returns-in-Err c =
@@ -64,11 +64,11 @@ returns-in-Err c =
     let i = c.loop-error.invariant in
     let d = c.draw_line-drawn.ensures in
     let is = c.in-Err.is in
-    let stop = ap char_outcome is in
+    let stop = ap outcome is in
     as_text _ _ _ _ _ c.requires.1 _
     (stopped_counted _ _ _ _ _ i (lent e) _ d stop)
     (stopped_shown _ _ _ _ _ i (lent e) _ d stop)
-    (c.sum_with.ensures ∙ stopped_summed _ _ _ _ _ i (lent e) _ d stop (ap char_steps is) c.add_steps-sum.ensures refl)
+    (c.sum_with.ensures ∙ stopped_summed _ _ _ _ _ i (lent e) _ d stop refl c.add_steps-sum.ensures refl)
 
 pub returns-then-end-text : goal.returns-then-end-text
 returns-then-end-text c =
@@ -76,18 +76,18 @@ returns-then-end-text c =
     let i = c.loop-error.invariant in
     let d = c.draw_line-drawn.ensures in
     let is = c.in-Ok.is in
-    let goes = ap char_outcome is in
+    let goes = ap outcome is in
     let over = last_here e c.if-end-text.true in
     as_text _ _ _ _ _ c.requires.1 _
-    (last_counted _ _ _ _ _ i (lent e) _ d goes (ap char_steps is) c.add_steps-steps.ensures over)
-    (last_shown _ _ _ _ _ i (lent e) _ d goes (ap char_steps is) c.add_steps-steps.ensures over)
-    (last_summed _ _ _ _ _ i (lent e) _ d goes (ap char_steps is) c.add_steps-steps.ensures over)
+    (last_counted _ _ _ _ _ i (lent e) _ d goes refl c.add_steps-steps.ensures over)
+    (last_shown _ _ _ _ _ i (lent e) _ d goes refl c.add_steps-steps.ensures over)
+    (last_summed _ _ _ _ _ i (lent e) _ d goes refl c.add_steps-steps.ensures over)
 
 pub add_newline-dimensions-requires : goal.add_newline-dimensions-requires
 add_newline-dimensions-requires c =
     let e = (goal.at.add_newline-dimensions-requires c).After-line_end-end in
     let is = c.in-Ok.is in (
-      next_near _ _ _ _ _ c.loop-error.invariant (lent e) _ c.draw_line-drawn.ensures (ap char_outcome is) (ap char_steps is)
+      next_near _ _ _ _ _ c.loop-error.invariant (lent e) _ c.draw_line-drawn.ensures (ap outcome is) refl
           c.add_steps-steps.ensures (more_here e c.if-end-text.false),
       c.requires.0.checked.line,
     )
@@ -102,5 +102,5 @@ pub loop-error-preserved : goal.loop-error-preserved
 loop-error-preserved c =
     let e = (goal.at.loop-error-preserved c).After-line_end-end in
     let is = c.in-Ok.is in
-    next_turn _ _ _ _ _ c.loop-error.invariant (lent e) _ c.draw_line-drawn.ensures (ap char_outcome is) (ap char_steps is)
+    next_turn _ _ _ _ _ c.loop-error.invariant (lent e) _ c.draw_line-drawn.ensures (ap outcome is) refl
     c.add_steps-steps.ensures (more_here e c.if-end-text.false) c.add_newline-dimensions.ensures c.line_end-end.ensures
