@@ -7,6 +7,5 @@ use draw_options::read;
 use draw_program::program::start;
 
 fn main(rt: HostRuntime) {
-    let options = read(&rt);
-    start(&rt, options, &mut rt.reader());
+    start(&rt, read(&rt), &mut rt.reader());
 }

@@ -1,56 +1,38 @@
 -- What the words of the command line ask for.
-use Rattle.std.specs.Prelude.{Bool, true, false, ◌&&◌, List, [], ◌∷◌, ℕ, eqb}
-use Rattle.integers.specs.Integers.{pick}
+use Rattle.std.specs.Prelude.{true, false, List, ℕ, Option, None, Some, Result, Ok, Err, bytes_eq, codes, fold, if◌then◌else◌}
 use Rattle.types.specs.declared.style.HorizontalAlignment.{HorizontalAlignment}
 use Rattle.types.specs.declared.style.HorizontalAlignment.TheVariants.{Left, Center, Right}
 use Rattle.draw_options.specs.declared.Options.{Options}
-
--- the same bytes
-unfoldable pub same : List ℕ → List ℕ → Bool
-same [] [] = true
-same [] (y ∷ ys) = false
-same (x ∷ xs) [] = false
-same (x ∷ xs) (y ∷ ys) = eqb x y && same xs ys
-
--- `pgm` and `background`
-abbrev pub pgm : List ℕ
-pgm = 112 ∷ 103 ∷ 109 ∷ []
-
-abbrev pub background : List ℕ
-background = 98 ∷ 97 ∷ 99 ∷ 107 ∷ 103 ∷ 114 ∷ 111 ∷ 117 ∷ 110 ∷ 100 ∷ []
-
--- `left`, `center` and `right`
-abbrev pub left : List ℕ
-left = 108 ∷ 101 ∷ 102 ∷ 116 ∷ []
-
-abbrev pub center : List ℕ
-center = 99 ∷ 101 ∷ 110 ∷ 116 ∷ 101 ∷ 114 ∷ []
-
-abbrev pub right : List ℕ
-right = 114 ∷ 105 ∷ 103 ∷ 104 ∷ 116 ∷ []
+use Rattle.draw_options.specs.declared.UnknownWord.{UnknownWord}
 
 -- a plain text: its lines stand left, and its answer has an advance
 abbrev pub no_words : Options
-no_words = record { pgm = false; background = false; align = Left; aligned = false; known = true }
+no_words = record { pgm = false; background = false; align = None }
 
-abbrev pub with_alignment : Options → HorizontalAlignment → Options
-with_alignment o align = record { pgm = o.pgm; background = o.background; align = align; aligned = true; known = o.known }
+-- Each of three words is an alignment.
+abbrev pub named_alignment : List ℕ → Option HorizontalAlignment
+named_alignment word =
+    if bytes_eq word (codes "left") then Some Left
+    else if bytes_eq word (codes "center") then Some Center
+    else if bytes_eq word (codes "right") then Some Right
+    else None
 
--- Each of three words sets the alignment, and the last one counts; any other is wrong.
-abbrev pub with_side : Options → List ℕ → Options
-with_side o word =
-    pick (same word left) (with_alignment o Left)
-    (pick (same word center) (with_alignment o Center)
-    (pick (same word right) (with_alignment o Right)
-    record { pgm = o.pgm; background = o.background; align = o.align; aligned = o.aligned; known = false }))
+-- It sets the alignment, and the last one counts; any other word is wrong.
+abbrev pub with_alignment : Options → Option HorizontalAlignment → Result Options UnknownWord
+with_alignment o None = Err record {}
+with_alignment o (Some align) = Ok record o { align = Some align }
 
 -- Each of the two others sets its flag.
-abbrev pub with_word : Options → List ℕ → Options
+abbrev pub with_word : Options → List ℕ → Result Options UnknownWord
 with_word o word =
-    pick (same word pgm) record { pgm = true; background = o.background; align = o.align; aligned = o.aligned; known = o.known }
-    (pick (same word background) record { pgm = o.pgm; background = true; align = o.align; aligned = o.aligned; known = o.known }
-    (with_side o word))
+    if bytes_eq word (codes "pgm") then Ok record o { pgm = true }
+    else if bytes_eq word (codes "background") then Ok record o { background = true }
+    else with_alignment o (named_alignment word)
 
-unfoldable pub with_words : Options → List (List ℕ) → Options
-with_words o [] = o
-with_words o (word ∷ words) = with_words (with_word o word) words
+-- After a wrong word nothing is right again.
+abbrev pub with_next : Result Options UnknownWord → List ℕ → Result Options UnknownWord
+with_next (Ok o) word = with_word o word
+with_next (Err e) word = Err e
+
+abbrev pub with_words : Options → List (List ℕ) → Result Options UnknownWord
+with_words o words = fold with_next (Ok o) words

@@ -3,92 +3,65 @@
 #![tactic(auto)]
 
 ghost use Rattle.std.specs.Prelude.{◌≡◌, List, ℕ};
-ghost use Rattle.draw_options.specs.Words.{with_alignment, with_side, with_word, with_words, no_words};
+ghost use Rattle.draw_options.specs.Words.{named_alignment, with_word, with_words, no_words};
 
-use buffers::is_same;
 use std::env::Env;
+use system::arguments;
 use types::style::HorizontalAlignment;
 
-#[derive(Clone, Copy)]
+#[derive(Clone, Copy, Default)]
 pub struct Options {
     pub pgm: bool,
     pub background: bool,
-    // without an alignment it is Left
-    pub align: HorizontalAlignment,
-    // an alignment was asked for, so the answer has no advance
-    pub aligned: bool,
-    // every word was one of the five
-    pub known: bool,
+    // without one the lines stand left; with one the answer has no advance
+    pub align: Option<HorizontalAlignment>,
 }
 
-fn with_alignment(options: Options, align: HorizontalAlignment) -> Options
-    ensures { result ≡ with_alignment options align }
+// A word is none of the five.
+#[derive(Clone, Copy)]
+pub struct UnknownWord;
+
+// The alignment of that name.
+pub fn named_alignment(word: &str) -> Option<HorizontalAlignment>
+    ensures { result ≡ named_alignment word.now }
 {
-    Options {
-        pgm: options.pgm,
-        background: options.background,
-        align,
-        aligned: true,
-        known: options.known,
+    match word {
+        "left" => Some(HorizontalAlignment::Left),
+        "center" => Some(HorizontalAlignment::Center),
+        "right" => Some(HorizontalAlignment::Right),
+        _ => None,
     }
 }
 
-fn with_side(options: Options, word: &[u8]) -> Options
-    ensures { result ≡ with_side options word.now }
-{
-    if is_same(word, b"left") {
-        return with_alignment(options, HorizontalAlignment::Left);
-    }
-    if is_same(word, b"center") {
-        return with_alignment(options, HorizontalAlignment::Center);
-    }
-    if is_same(word, b"right") {
-        return with_alignment(options, HorizontalAlignment::Right);
-    }
-    let mut wrong = options;
-    wrong.known = false;
-    wrong
-}
-
-fn with_word(options: Options, word: &[u8]) -> Options
+fn with_word(options: Options, word: &str) -> Result<Options, UnknownWord>
     ensures { result ≡ with_word options word.now }
 {
-    let mut more = options;
-    if is_same(word, b"pgm") {
-        more.pgm = true;
-        return more;
+    match word {
+        "pgm" => Ok(Options {
+            pgm: true,
+            ..options
+        }),
+        "background" => Ok(Options {
+            background: true,
+            ..options
+        }),
+        _ => {
+            let align = named_alignment(word).ok_or(UnknownWord)?;
+            Ok(Options {
+                align: Some(align),
+                ..options
+            })
+        }
     }
-    if is_same(word, b"background") {
-        more.background = true;
-        return more;
-    }
-    with_side(options, word)
 }
 
 // No contract can say what an argument is: it is some word.
-fn with_argument<R: Env>(rt: &R, options: Options, i: usize) -> Options
-    ensures { (word : List ℕ) × (result ≡ with_word options word) }
-{
-    let mut word = [0u8; 4096];
-    let n = system::arg(rt, i, &mut word);
-    with_word(options, &word[..n])
-}
-
-pub fn read<R: Env>(rt: &R) -> Options
+pub fn read<R: Env>(rt: &R) -> Result<Options, UnknownWord>
     ensures { (words : List (List ℕ)) × (result ≡ with_words no_words words) }
 {
-    let mut options = Options {
-        pgm: false,
-        background: false,
-        align: HorizontalAlignment::Left,
-        aligned: false,
-        known: true,
-    };
-    let n = system::arg_count(rt);
-    let mut i = 1;
-    while i < n {
-        options = with_argument(rt, options, i);
-        i += 1;
+    let mut options = Options::default();
+    for word in arguments(rt) {
+        options = with_word(options, word.as_str())?;
     }
-    options
+    Ok(options)
 }

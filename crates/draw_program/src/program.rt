@@ -3,23 +3,24 @@ ghost use Rattle.std.specs.Prelude.{◌≡◌, length};
 ghost use Rattle.picture_text.specs.Marks.{IsPicture};
 ghost use Rattle.draw_program.specs.Shown.{Small, Showable};
 
-use draw_options::Options;
-use font_file::FontFile;
+use draw_options::{Options, UnknownWord};
 use pgm::write_image;
 use picture_text::{EMPTY, color, print_rows};
 use pictures::whole::{DrawResult, draw_whole};
 use std::io::Read;
 use std::rt::Files;
-use types::error::Error;
 use types::geometry::{RenderedDimensions, Size};
+use types::style::HorizontalAlignment;
 
 // The call's answer: an aligned one has no advance.
-fn answer<R: Print>(rt: &R, dimensions: RenderedDimensions, aligned: bool) {
-    if aligned {
-        let bounding_box = dimensions.bounding_box;
-        printing::bounding_box(rt, bounding_box);
-    } else {
-        printing::dimensions(rt, dimensions);
+fn answer<R: Print>(
+    rt: &R,
+    dimensions: RenderedDimensions,
+    align: Option<HorizontalAlignment>,
+) {
+    match align {
+        None => printing::dimensions(rt, dimensions),
+        Some(_) => printing::bounding_box(rt, dimensions.bounding_box),
     }
     printing::text(rt, b"\n");
 }
@@ -29,7 +30,7 @@ fn show_pixels<R: Files + Print + Eprint + Alloc>(rt: &R, size: Size, pgm: bool,
     requires { IsPicture size.width size.height (length pixels.now) }
 {
     if pgm {
-        write_image(rt, b"draw.pgm", size, pixels);
+        write_image(rt, "draw.pgm", size, pixels);
         return;
     }
     print_rows(rt, pixels, size.width as usize, size.height as usize);
@@ -44,7 +45,7 @@ fn show_drawn<R: Files + Print + Eprint + Alloc>(
 )
     requires { Small size × (length buffer.now ≡ 65536) }
 {
-    answer(rt, dimensions, options.aligned);
+    answer(rt, dimensions, options.align);
     let n = (size.width as usize) * (size.height as usize);
     show_pixels(rt, size, options.pgm, &buffer[..n]);
 }
@@ -67,7 +68,7 @@ fn show<R: Files + Print + Eprint + Alloc>(
 {
     match drawing {
         DrawResult::Refused(error) => printing::refusal_line(rt, error),
-        DrawResult::Blank(dimensions) => answer(rt, dimensions, options.aligned),
+        DrawResult::Blank(dimensions) => answer(rt, dimensions, options.align),
         DrawResult::TooLarge(rectangle) => show_too_large(rt, rectangle.size),
         DrawResult::Drawn(dimensions, size) => show_drawn(rt, dimensions, size, options, buffer),
     }
@@ -81,27 +82,30 @@ fn draw_input<R: Files + Print + Eprint + Alloc, I: Read>(
     input: &mut I,
 ) {
     let mut text = [0u8; 4097];
-    let n = system::read_full(input, &mut text);
+    let text = system::read_full(input, &mut text);
     let mut buffer = [EMPTY; 65536];
-    let align = options.align;
+    let align = options.align.unwrap_or(HorizontalAlignment::Left);
     let color = color(options.background);
-    let drawing = draw_whole(font, &text[..n], align, color, &mut buffer);
+    let drawing = draw_whole(font, text, align, color, &mut buffer);
     show(rt, drawing, options, &buffer);
 }
 
-pub fn start<R: Files + Print + Eprint + Alloc, I: Read>(rt: &R, options: Options, input: &mut I) {
-    if !options.known {
+pub fn start<R: Files + Print + Eprint + Alloc, I: Read>(
+    rt: &R,
+    options: Result<Options, UnknownWord>,
+    input: &mut I,
+) {
+    let Ok(options) = options else {
         printing::text(
             rt,
             b"draw: the arguments are pgm (the image goes into draw.pgm), background (behind the glyphs), and left, center or right\n",
         );
         return;
-    }
-    let path = b"font.bin";
-    let mut font = font_file::buffer();
-    match font_file::read(rt, path, &mut font) {
-        FontFile::Unreadable(error) => system::fail(rt, path, error),
-        FontFile::TooLong => printing::refusal_line(rt, Error::FontLength),
-        FontFile::Length(n) => draw_input(rt, &font[..n], options, input),
+    };
+    let path = "font.bin";
+    let mut buffer = font_file::buffer();
+    match font_file::read(rt, path, &mut buffer) {
+        Ok(font) => draw_input(rt, font, options, input),
+        Err(error) => error.print(rt, path),
     }
 }

@@ -3,70 +3,70 @@
 // name padded with U+0000; with a wrong word. What the aligned runs must print is what tools/draw_model.py prints.
 #![tactic(auto)]
 
-use draw_options::Options;
+use draw_options::{Options, UnknownWord};
 use draw_program::program::start;
+use std::fs::File;
 use std::rt::Files;
 use types::style::HorizontalAlignment;
 
-fn run<R: Files + Print + Eprint + Alloc>(rt: &R, heading: &[u8], path: &[u8], options: Options) {
+fn run<R: Files + Print + Eprint + Alloc>(
+    rt: &R,
+    heading: &[u8],
+    path: &str,
+    options: Result<Options, UnknownWord>,
+) {
     printing::text(rt, heading);
-    match system::open_read(rt, path) {
+    match File::open(rt, path) {
         Ok(mut input) => start(rt, options, &mut input),
         Err(error) => system::fail(rt, path, error),
     }
 }
 
 fn print_image<R: Files + Print + Eprint + Alloc>(rt: &R) {
-    let path = b"draw.pgm";
+    let path = "draw.pgm";
     let mut image = [0u8; 65536];
-    let n = match system::open_read(rt, path) {
-        Ok(mut file) => system::read_full(&mut file, &mut image),
-        Err(error) => {
-            system::fail(rt, path, error);
-            return;
+    match File::open(rt, path) {
+        Ok(mut file) => {
+            printing::text(rt, system::read_full(&mut file, &mut image));
+            printing::text(rt, b"\n");
         }
-    };
-    printing::text(rt, &image[..n]);
-    printing::text(rt, b"\n");
-}
-
-fn plain(pgm: bool, known: bool) -> Options {
-    Options {
-        pgm,
-        background: true,
-        align: HorizontalAlignment::Left,
-        aligned: false,
-        known,
+        Err(error) => system::fail(rt, path, error),
     }
 }
 
-fn aligned(align: HorizontalAlignment, background: bool) -> Options {
-    Options {
-        pgm: false,
+fn aligned(align: HorizontalAlignment, background: bool) -> Result<Options, UnknownWord> {
+    Ok(Options {
         background,
-        align,
-        aligned: true,
-        known: true,
-    }
+        align: Some(align),
+        ..Options::default()
+    })
 }
 
 fn run_aligned<R: Files + Print + Eprint + Alloc>(rt: &R) {
     let left = aligned(HorizontalAlignment::Left, false);
-    run(rt, b"left\n", b"lines.txt", left);
+    run(rt, b"left\n", "lines.txt", left);
     let center = aligned(HorizontalAlignment::Center, false);
-    run(rt, b"center\n", b"lines.txt", center);
+    run(rt, b"center\n", "lines.txt", center);
     let right = aligned(HorizontalAlignment::Right, true);
-    run(rt, b"right, background\n", b"lines.txt", right);
-    run(rt, b"center, no pixel\n", b"blank.txt", center);
-    run(rt, b"right, refused\n", b"unknown.txt", right);
-    run(rt, b"left, padded with U+0000\n", b"padded.txt", left);
+    run(rt, b"right, background\n", "lines.txt", right);
+    run(rt, b"center, no pixel\n", "blank.txt", center);
+    run(rt, b"right, refused\n", "unknown.txt", right);
+    run(rt, b"left, padded with U+0000\n", "padded.txt", left);
 }
 
 fn main(rt: HostRuntime) {
     let rt = &rt;
-    run(rt, b"background\n", b"text.txt", plain(false, true));
-    run(rt, b"background, pgm\n", b"text.txt", plain(true, true));
+    let background = Options {
+        background: true,
+        ..Options::default()
+    };
+    run(rt, b"background\n", "text.txt", Ok(background));
+    let image = Options {
+        pgm: true,
+        ..background
+    };
+    run(rt, b"background, pgm\n", "text.txt", Ok(image));
     print_image(rt);
     run_aligned(rt);
-    run(rt, b"a wrong word\n", b"text.txt", plain(false, false));
+    run(rt, b"a wrong word\n", "text.txt", Err(UnknownWord));
 }

@@ -1,21 +1,46 @@
 // A font file is read whole or not at all.
 #![tactic(auto)]
 
-ghost use Rattle.std.specs.Prelude.{◌≡◌, length};
-ghost use Rattle.font_file.specs.Files.{EndsWithin};
+ghost use Rattle.std.specs.Prelude.{◌≡◌, ◌<◌, length, IfOk};
+ghost use Rattle.font_file.specs.declared.FontFileError.TheVariants.{Unreadable};
 
-use std::io::{Error, Read};
+use std::fs::File;
+use std::io;
 use std::rt::Files;
+use system::Stopped;
+use types::error::Error;
 
-// What comes of reading a font file into a buffer.
-#[derive(Clone, Copy)]
-pub enum FontFile {
-    // the font's bytes begin the buffer, and there are so many of them
-    Length(usize),
-    // it cannot be opened, or reading it fails, and why
-    Unreadable(Error),
+// Why there is no font.
+#[derive(Drop)]
+pub enum FontFileError {
+    // the file cannot be opened, or reading it fails
+    Unreadable(io::Error),
     // it fills the buffer, and may go on
     TooLong,
+}
+
+impl From<io::Error> for FontFileError {
+    ghost from_gives = { λ error result. result ≡ Unreadable error };
+
+    fn from(error: io::Error) -> FontFileError {
+        FontFileError::Unreadable(error)
+    }
+}
+
+impl From<Stopped<'_>> for FontFileError {
+    fn from(stopped: Stopped<'_>) -> FontFileError {
+        FontFileError::Unreadable(stopped.error)
+    }
+}
+
+impl FontFileError {
+    // Says why there is no font, as a call would.
+    pub fn print<R: Print + Eprint + Alloc>(self, rt: &R, path: &str) {
+        match self {
+            FontFileError::Unreadable(error) => system::fail(rt, path, error),
+            FontFileError::TooLong => printing::refusal_line(rt, Error::FontLength),
+        }
+    }
 }
 
 // Room for the longest font that the calls take, 1,048,576 bytes, and one byte more, which only a longer file fills.
@@ -25,31 +50,15 @@ pub fn buffer() -> [u8; 1_048_577]
     [0; 1_048_577]
 }
 
-// Reads to the end of the file, or until the buffer is full.
-fn read_to_end<F: Read>(file: &mut F, font: &mut [u8]) -> FontFile
-    ensures { EndsWithin (length font.new) result }
+// Reads the file of that name into the buffer, and answers the font's bytes.
+pub fn read<'a, R: Files>(rt: &R, path: &str, buffer: &'a mut [u8]) -> Result<&'a [u8], FontFileError>
+    ensures { IfOk result (λ font. length font.now < length buffer.old) }
 {
-    let mut n: usize = 0;
-    while n < font.len() {
-        let k = match file.read(&mut font[n..]) {
-            Ok(k) => k,
-            Err(error) => return FontFile::Unreadable(error),
-        };
-        if k == 0 {
-            return FontFile::Length(n);
-        }
-        n += k;
+    let room = buffer.len();
+    let mut file = File::open(rt, path)?;
+    let font = system::fill(&mut file, buffer)?;
+    if font.len() == room {
+        return Err(FontFileError::TooLong);
     }
-    FontFile::TooLong
-}
-
-// Reads the file of that name into the buffer.
-pub fn read<R: Files>(rt: &R, path: &[u8], font: &mut [u8]) -> FontFile
-    ensures { EndsWithin (length font.new) result }
-{
-    let mut file = match system::open_read(rt, path) {
-        Ok(file) => file,
-        Err(error) => return FontFile::Unreadable(error),
-    };
-    read_to_end(&mut file, &mut font[..])
+    Ok(font)
 }

@@ -1,6 +1,6 @@
 -- The line follows from as much of the files as the program reads: a font of more than 65,536 bytes is number 1 and a text of more
 -- than 4,096 bytes number 4, whatever else they hold.
-use Rattle.integers.proofs.Prelude.{◌≡◌, refl, sym, ap, ◌∙◌, List, ℕ, ◌<◌, dec_lt, arith, length, take, length-take, take_all, lt-ltb}
+use Rattle.integers.proofs.Prelude.{◌≡◌, refl, sym, ap, ◌∙◌, List, ℕ, ◌<◌, ◌≤◌, dec_lt, arith, length, take, length-take, take_all, lt-ltb}
 use Rattle.definitions.specs.Vocabulary.{FontReader}
 use Rattle.definitions.specs.Refusals.{Outcome, success, refused, unless_refused}
 use Rattle.definitions.specs.Header.{font_causes}
@@ -11,9 +11,9 @@ use Rattle.measure_line.specs.Measured.{by_program, measure_opened, measured_by_
 use Rattle.measure_line.proofs.MeasuredLaws.{font_too_long}
 use Rattle.measure_program.specs.Filled.{Filled}
 
--- Whatever a buffer holds, some file fills it: the contract of `measure_buffers` is never empty.
-pub some_file : (buffer : List ℕ) (n : ℕ) → Filled (take n buffer) buffer n
-some_file buffer n = sym (take_all (length buffer) (take n buffer) (omega (arith, length-take n buffer)))
+-- Whatever was read, some file fills it: the contract of `measure_read` is never empty.
+pub some_file : (room : ℕ) (bytes : List ℕ) → length bytes ≤ room → Filled room bytes bytes
+some_file room bytes h = sym (take_all room bytes h)
 
 text_too_long : (font : List ℕ) (r : Request) → 4096 < length r.text → measure (u8g2 font) r ≡ unless_refused (font_causes font) (refused 4 0)
 unfolding measure
@@ -44,7 +44,7 @@ module _ (font text : List ℕ) (k : ℕ) (room : 4096 < k) where
       split (yes p) = font_too_long (take n font) (take k text) (cut_long 65536 n font h p) ∙ sym (font_too_long font text p)
       split (no p) = rw (take_all n font (omega arith), cut_text (open_font font))
 
-pub files_line : (file input font text : List ℕ) (n k : ℕ) → Filled file font n → Filled input text k → 65536 < length font → 4096 < length text
-    → measuring_line (take n font) (take k text) ≡ measuring_line file input
+pub files_line : (n k : ℕ) (file input : List ℕ) {font text : List ℕ} → Filled n file font → Filled k input text → 65536 < n → 4096 < k
+    → measuring_line font text ≡ measuring_line file input
 unfolding measuring_line
-files_line file input font text n k f g p q = rw (f, g) (ap outcome_line (cut_files file input (length text) q (length font) p))
+files_line n k file input f g p q = rw (f, g) (ap outcome_line (cut_files file input k q n p))

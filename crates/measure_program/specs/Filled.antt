@@ -1,6 +1,6 @@
 -- Reading a file until it ends or the buffer is full.
-use Rattle.std.specs.Prelude.{◌≡◌, List, ℕ, length, take}
+use Rattle.std.specs.Prelude.{◌≡◌, List, ℕ, take}
 
--- The buffer's first n bytes are the file's, all of them or as many as the buffer has room for.
-abbrev pub Filled : List ℕ → List ℕ → ℕ → Type 0
-Filled file buffer n = take n buffer ≡ take (length buffer) file
+-- What was read are the file's bytes, all of them or as many as there is room for.
+abbrev pub Filled : ℕ → List ℕ → List ℕ → Type 0
+Filled room file bytes = bytes ≡ take room file

@@ -6,6 +6,7 @@ ghost use Rattle.std.specs.Prelude.{◌+◌, ◌≤◌};
 
 use case_calls::request;
 use cases::case_file::{number, unpack};
+use std::fs::File;
 
 // One case: prints it and answers where the next one begins.
 fn replay<R: Print>(
@@ -75,8 +76,8 @@ fn main(rt: HostRuntime) {
     let mut text = [0u8; 4200];
     let mut label = [0u8; 128];
     let mut framebuffer = [0u8; 65600];
-    let path = b"cases.bin";
-    let n = match system::open_read(&rt, path) {
+    let path = "cases.bin";
+    let file = match File::open(&rt, path) {
         Ok(mut cases) => system::read_full(&mut cases, &mut file),
         Err(error) => {
             system::fail(&rt, path, error);
@@ -85,7 +86,7 @@ fn main(rt: HostRuntime) {
     };
     replay_all(
         &rt,
-        &file[..n],
+        file,
         &mut label,
         &mut font,
         &mut text,

@@ -3,18 +3,15 @@
 // fills one column too few.
 #![tactic(auto)]
 
-use sheet_options::options::read;
+use sheet_options::read;
 use sheet_program::program::start;
 
 fn main(rt: HostRuntime) {
-    let asked = read(&rt);
-    if !asked.right {
-        printing::text(
+    match read(&rt) {
+        Ok(options) => start(&rt, "font.bin", options),
+        Err(_) => printing::text(
             &rt,
             b"sheet: the arguments are an anchor (baseline, top, center, bottom), align (left, center, right), at X Y (from -1048576 to 1048576) and narrow\n",
-        );
-        return;
+        ),
     }
-    let options = asked.options;
-    start(&rt, b"font.bin", options);
 }

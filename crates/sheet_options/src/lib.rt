@@ -1,6 +1,63 @@
-// What the words of a command line ask the sheet for.
+// What the words of a command line ask the sheet for: an anchor, an alignment after `align`, since `center` is an anchor too,
+// `narrow`, and `at X Y`, in any order. A later word of a kind replaces an earlier one.
 #![tactic(auto)]
 
-mod number;
-pub mod options;
-pub mod values;
+ghost use Rattle.std.specs.Prelude.{◌≤ℤ◌, pos, negsuc, MatchOption, ⊤};
+
+use draw_options::named_alignment;
+use sheet_extent::values::{Options, Wanted};
+use std::env::Env;
+use system::{Word, arguments};
+use types::geometry::Point;
+use types::style::{HorizontalAlignment, VerticalPosition};
+
+// A word is not known where it stands, or one is missing behind it.
+#[derive(Clone, Copy)]
+pub struct WrongWord;
+
+// The largest coordinate of a place.
+const MOST: u32 = 1_048_576;
+
+// A coordinate within the calls' limits: digits, or a minus sign and digits.
+fn coordinate(word: Option<Word>) -> Result<i32, WrongWord>
+{
+    let word = word.ok_or(WrongWord)?;
+    let text = word.as_str();
+    match text.parse::<i32>() {
+        Ok(n) if n.unsigned_abs() <= MOST && !text.starts_with('+') => Ok(n),
+        _ => Err(WrongWord),
+    }
+}
+
+fn alignment(word: Option<Word>) -> Result<HorizontalAlignment, WrongWord> {
+    let word = word.ok_or(WrongWord)?;
+    named_alignment(word.as_str()).ok_or(WrongWord)
+}
+
+// The program's arguments.
+pub fn read<R: Env>(rt: &R) -> Result<Options, WrongWord> {
+    let mut options = Options {
+        vertical_pos: VerticalPosition::Baseline,
+        horizontal_align: HorizontalAlignment::Left,
+        wanted: Wanted::Seen,
+        narrow: false,
+    };
+    let mut words = arguments(rt);
+    while let Some(word) = words.next() {
+        match word.as_str() {
+            "baseline" => options.vertical_pos = VerticalPosition::Baseline,
+            "top" => options.vertical_pos = VerticalPosition::Top,
+            "center" => options.vertical_pos = VerticalPosition::Center,
+            "bottom" => options.vertical_pos = VerticalPosition::Bottom,
+            "align" => options.horizontal_align = alignment(words.next())?,
+            "at" => {
+                let x = coordinate(words.next())?;
+                let y = coordinate(words.next())?;
+                options.wanted = Wanted::At(Point { x, y });
+            }
+            "narrow" => options.narrow = true,
+            _ => return Err(WrongWord),
+        }
+    }
+    Ok(options)
+}

@@ -1,37 +1,24 @@
 // The file of pictures: a line with the framebuffer's width and height, and then for each reading a character that says what is
-// seen of it, and the framebuffer's bytes. What cannot be opened takes nothing.
+// seen of it, and the framebuffer's bytes.
 use sight::Sight;
-use std::io::Write;
+use std::fs::File;
+use std::io::{Result, Write};
+use std::rt::Files;
 use types::framebuffer::Framebuffer;
 
-fn write_bytes<W: Write>(cells: &mut Option<W>, bytes: &[u8]) -> bool {
-    match cells {
-        Some(file) => file.write_all(bytes).is_ok(),
-        None => false,
-    }
-}
-
-fn write_number<W: Write>(cells: &mut Option<W>, n: u64) -> bool {
-    match cells {
-        Some(file) => write!(file, "{n}").is_ok(),
-        None => false,
-    }
-}
-
-pub fn write_head<W: Write>(cells: &mut Option<W>, framebuffer: Framebuffer) -> bool {
-    let wide = write_number(cells, framebuffer.width as u64);
-    let space = write_bytes(cells, b" ");
-    let high = write_number(cells, framebuffer.height as u64);
-    let end = write_bytes(cells, b"\n");
-    wide & space & high & end
+// The file, with its first line.
+pub fn create<R: Files>(rt: &R, framebuffer: Framebuffer) -> Result<R::File> {
+    let mut file = File::create(rt, "sheet.cells")?;
+    let width = framebuffer.width;
+    let height = framebuffer.height;
+    writeln!(file, "{width} {height}")?;
+    Ok(file)
 }
 
 // A difference is what the eye is to fall on, so it comes before all else.
 fn letter(sight: Sight, differing: usize) -> u8 {
-    if differing != 0 {
-        return b'd';
-    }
     match sight {
+        _ if differing != 0 => b'd',
         Sight::Whole => b'w',
         Sight::Part => b'p',
         Sight::Unseen => b'n',
@@ -39,14 +26,14 @@ fn letter(sight: Sight, differing: usize) -> u8 {
     }
 }
 
-pub fn write_cell<W: Write>(
-    cells: &mut Option<W>,
+// The file, with one reading more.
+pub fn with_cell<W: Write + Drop>(
+    mut file: W,
     sight: Sight,
     differing: usize,
     screen: &[u8],
-) -> bool {
-    let mut mark = [0u8; 1];
-    mark[0] = letter(sight, differing);
-    let marked = write_bytes(cells, &mark);
-    write_bytes(cells, screen) & marked
+) -> Result<W> {
+    file.write_all(&[letter(sight, differing)])?;
+    file.write_all(screen)?;
+    Ok(file)
 }

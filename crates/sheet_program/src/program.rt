@@ -3,17 +3,15 @@ ghost use Rattle.std.specs.Prelude.{length};
 ghost use Rattle.sheet_extent.specs.Extent.{place_for};
 ghost use Rattle.sheet_program.specs.Sheets.{Buffers, LargeBuffers, SheetOf};
 
-use crate::cells::write_head;
+use crate::cells;
 use crate::run::run;
 use crate::values::Sheet;
 use faulty_step::Trial;
-use font_file::FontFile;
 use sheet_extent::place::place_for;
 use sheet_extent::values::Options;
 use sheet_ground::ground::lay_ground;
 use sheet_report::{print_totals, print_verdict};
 use std::rt::Files;
-use types::error::Error;
 use types::place::Place;
 
 // Makes the sheet on framebuffers of the place's size. It is made whether or not its pictures can be written.
@@ -31,14 +29,9 @@ fn fill_sheet<R: Files + Print>(
 {
     lay_ground(font, place, &mut ground[..]);
     screen.copy_from_slice(&ground[..]);
-    let framebuffer = place.framebuffer;
-    let mut cells = system::open_overwrite(rt, b"sheet.cells").ok();
-    let begun = write_head(&mut cells, framebuffer);
+    let cells = cells::create(rt, place.framebuffer);
     let trial = Trial { place, narrow };
-    let sheet = run(rt, font, trial, &ground[..], screen, alone, &mut cells);
-    let totals = sheet.totals;
-    let written = begun & sheet.written;
-    Sheet { totals, written }
+    run(rt, font, trial, &ground[..], screen, alone, cells)
 }
 
 // The same on buffers for the largest framebuffers, of 256 × 256 pixels. Whatever the font, the anchor, the alignment and the place,
@@ -76,15 +69,14 @@ fn show_sheet<R: Files + Print>(rt: &R, font: &[u8], options: Options) {
     let sheet = make_sheet(rt, font, options, &mut ground, &mut screen, &mut alone);
     let totals = sheet.totals;
     print_totals(rt, totals);
-    print_verdict(rt, totals, sheet.written);
+    print_verdict(rt, totals, sheet.written.is_ok());
 }
 
 // The program, for the font in that file.
-pub fn start<R: Files + Print + Eprint + Alloc>(rt: &R, path: &[u8], options: Options) {
-    let mut font = font_file::buffer();
-    match font_file::read(rt, path, &mut font) {
-        FontFile::Unreadable(error) => system::fail(rt, path, error),
-        FontFile::TooLong => printing::refusal_line(rt, Error::FontLength),
-        FontFile::Length(n) => show_sheet(rt, &font[..n], options),
+pub fn start<R: Files + Print + Eprint + Alloc>(rt: &R, path: &str, options: Options) {
+    let mut buffer = font_file::buffer();
+    match font_file::read(rt, path, &mut buffer) {
+        Ok(font) => show_sheet(rt, font, options),
+        Err(error) => error.print(rt, path),
     }
 }

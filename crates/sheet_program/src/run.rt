@@ -1,7 +1,7 @@
 // The loop over all readings: each is checked, reported where it fails, and its picture is written.
 ghost use Rattle.sheet_program.specs.Sheets.{Begins, Runs};
 
-use crate::cells::write_cell;
+use crate::cells::with_cell;
 use crate::values::Sheet;
 use faulty_step::Trial;
 use readings::step::step;
@@ -9,18 +9,18 @@ use sheet_ground::texts::COUNT;
 use sheet_report::{Refusals, print_difference, print_refusals, with_answer};
 use sheet_totals::{counted, no_totals};
 use sight::sight_of;
-use std::io::Write;
+use std::io::{Result, Write};
 
-// Draws all readings, one over the other, reports those that are refused or leave a difference, and writes the pictures. On a
-// ground that is background wherever a reading can stand, none differs.
-pub fn run<R: Print, W: Write>(
+// Draws all readings, one over the other, reports those that are refused or leave a difference, and writes the pictures, up to the
+// first that cannot be written. On a ground that is background wherever a reading can stand, none differs.
+pub fn run<R: Print, W: Write + Drop>(
     rt: &R,
     font: &[u8],
     trial: Trial,
     ground: &[u8],
     screen: &mut [u8],
     alone: &mut [u8],
-    cells: &mut Option<W>,
+    mut cells: Result<W>,
 ) -> Sheet
     requires { Begins trial.place.framebuffer ground.now screen.old alone.old }
     ensures { Runs trial.narrow font.now trial.place ground.now screen.new result }
@@ -29,20 +29,18 @@ pub fn run<R: Print, W: Write>(
     let framebuffer = place.framebuffer;
     let mut totals = no_totals();
     let mut refusals = Refusals::Not;
-    let mut written = true;
     let mut old = COUNT;
-    let mut k: usize = 0;
-    while k < COUNT {
+    for k in 0..COUNT {
         let found = step(font, old, k, trial, ground, &mut screen[..], &mut alone[..]);
         let answer = found.answer;
         let sight = sight_of(answer, framebuffer);
         totals = counted(totals, sight, found.differing);
         refusals = with_answer(rt, refusals, k, answer);
         print_difference(rt, k, found.differing);
-        written = write_cell(&mut *cells, sight, found.differing, &screen[..]) & written;
+        cells = cells.and_then(|file| with_cell(file, sight, found.differing, &screen[..]));
         old = found.old;
-        k += 1;
     }
     print_refusals(rt, refusals);
+    let written = cells.map(|_| ());
     Sheet { totals, written }
 }

@@ -1,9 +1,10 @@
 // What a sheet came to. There is no code here.
 use sheet_totals::Totals;
+use std::io::Result;
 
 // The totals, and whether all pictures were written.
 #[derive(Clone, Copy)]
 pub struct Sheet {
     pub totals: Totals,
-    pub written: bool,
+    pub written: Result<()>,
 }

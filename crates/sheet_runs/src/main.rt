@@ -19,7 +19,7 @@ fn run_seen<R: Files + Print + Eprint + Alloc>(
 ) {
     start(
         rt,
-        b"gauge.bin",
+        "gauge.bin",
         Options {
             vertical_pos: VerticalPosition::Baseline,
             horizontal_align,
@@ -33,7 +33,7 @@ fn run_cut<R: Files + Print + Eprint + Alloc>(rt: &R) {
     printing::text(rt, b"top at -9 -4, in a font that ends within its 5\n");
     start(
         rt,
-        b"cut.bin",
+        "cut.bin",
         Options {
             vertical_pos: VerticalPosition::Top,
             horizontal_align: HorizontalAlignment::Left,
@@ -46,7 +46,7 @@ fn run_cut<R: Files + Print + Eprint + Alloc>(rt: &R) {
 fn run_at<R: Files + Print + Eprint + Alloc>(rt: &R, x: i32) {
     start(
         rt,
-        b"gauge.bin",
+        "gauge.bin",
         Options {
             vertical_pos: VerticalPosition::Top,
             horizontal_align: HorizontalAlignment::Left,

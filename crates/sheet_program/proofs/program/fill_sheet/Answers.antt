@@ -6,7 +6,7 @@ use Rattle.sheet_program.proofs.program.fill_sheet.Goals as goal
 pub returns : goal.returns
 returns g c =
     let a = c.args in
-    let r = c.run-sheet in
+    let r = c.run in
     let laid = c.lay_ground.ensures in
     record {
       totals = r.ensures.totals ∙ ap (λ (l : List ℕ). totals_to a.narrow a.font.now a.place l 901) laid.laid;

@@ -8,7 +8,6 @@ pub loop-k-init : goal.loop-k-init
 loop-k-init g c =
     let a = c.args in
     record {
-      most = omega arith;
       screen-length = refl;
       alone-length = refl;
       here = ap (screen_of 901) c.requires.begins ∙ start_screen a.trial.narrow a.font.now a.trial.place a.ground.now;
@@ -18,7 +17,7 @@ loop-k-init g c =
 pub counted-totals-requires : goal.counted-totals-requires
 counted-totals-requires g c =
     let a = c.args in
-    few a.trial.narrow a.font.now a.trial.place a.ground.now c.loop-k-test.true c.loop-k.invariant.counts
+    few a.trial.narrow a.font.now a.trial.place a.ground.now (omega arith) c.loop-k.invariant.counts
 
 pub loop-k-preserved : goal.loop-k-preserved
 loop-k-preserved g c =
@@ -26,7 +25,6 @@ loop-k-preserved g c =
     let i = c.loop-k.invariant in
     let finds = c.step-found.ensures in
     record {
-      most = omega (arith, c.loop-k-test.true);
       screen-length = omega arith;
       alone-length = omega arith;
       here = next_screen a.trial.narrow a.font.now a.trial.place a.ground.now i.here finds;
