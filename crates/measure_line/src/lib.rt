@@ -4,11 +4,11 @@
 ghost use Rattle.std.specs.Prelude.{◌≡◌};
 ghost use Rattle.definitions.specs.Refusals.{outcome};
 ghost use Rattle.measure_line.specs.Measured.{measured_by_program, measuring_line};
-ghost use Rattle.numbers.specs.Written.{LineWritten};
 
 use answer_line::{LINE_ROOM, result_line};
 use font_reader::new_from_raw_data;
 use measuring::rendered_dimensions::get_rendered_dimensions;
+use numbers::text::Text;
 use types::error::Error;
 use types::geometry::{Point, RenderedDimensions};
 use types::style::{Placement, VerticalPosition};
@@ -36,11 +36,10 @@ fn measured(font: &[u8], text: &[u8]) -> Result<RenderedDimensions, Error>
     }
 }
 
-// Writes the line to the start of `out` and answers its length. What stands behind the line stays.
-pub fn measure_line(font: &[u8], text: &[u8], out: &mut [u8; LINE_ROOM]) -> usize
-    ensures { LineWritten out.old (measuring_line font.now text.now) result
-        out.new }
+/// The line of a text in a font.
+#[tactic(auto, unfolding(crate::specs::Measured::measuring_line))]
+pub fn measure_line(font: &[u8], text: &[u8]) -> Text<LINE_ROOM>
+    ensures { result ≡ measuring_line font.now text.now }
 {
-    let result = measured(font, text);
-    result_line(out, result)
+    result_line(measured(font, text))
 }

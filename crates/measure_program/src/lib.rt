@@ -2,14 +2,14 @@
 // the line.
 #![tactic(auto)]
 
-ghost use Rattle.std.specs.Prelude.{◌≤◌, List, ℕ, length};
+ghost use Rattle.std.specs.Prelude.{◌≡◌, ◌≤◌, List, ℕ, length};
 ghost use Rattle.io.specs.Counts.{IsPrefixLen};
 ghost use Rattle.measure_line.specs.Measured.{measuring_line};
-ghost use Rattle.numbers.specs.Written.{Written};
 ghost use Rattle.measure_program.specs.Filled.{Filled};
 
 use answer_line::LINE_ROOM;
 use measure_line::measure_line;
+use numbers::text::Text;
 use std::fs::File;
 use std::io::Read;
 use std::rt::Files;
@@ -36,14 +36,13 @@ fn read_text<'a, I: Read>(input: &mut I, buffer: &'a mut [u8; TEXT_ROOM]) -> &'a
     read_full(input, buffer)
 }
 
-// Writes the line of a font file and an input, each of any length, to the start of `out` and answers the
-// line's length. `font` and `text` are what there was room for.
-fn measure_read(font: &[u8], text: &[u8], out: &mut [u8; LINE_ROOM]) -> usize
-    ensures counts { IsPrefixLen result out.new }
-    ensures line { (file input : List ℕ) → Filled FONT_ROOM file font.now → Filled TEXT_ROOM input text.now
-        → Written out.old 0 (measuring_line file input) result out.new }
+// The line of a font file and an input, each of any length. `font` and `text` are what there was room for.
+#[tactic(auto, using(crate::proofs::FilledLaws::files_line))]
+fn measure_read(font: &[u8], text: &[u8]) -> Text<LINE_ROOM>
+    ensures { (file input : List ℕ) → Filled FONT_ROOM file font.now → Filled TEXT_ROOM input text.now
+        → result ≡ measuring_line file input }
 {
-    measure_line(font, text, out)
+    measure_line(font, text)
 }
 
 // Measures the text that comes from `input` in the font of that path.
@@ -52,7 +51,6 @@ pub fn measure_file<R: Files + Print, I: Read>(rt: &R, path: &str, input: &mut I
     let font = read_font(rt, path, &mut font);
     let mut text = [0u8; TEXT_ROOM];
     let text = read_text(input, &mut text);
-    let mut line = [0u8; LINE_ROOM];
-    let end = measure_read(font, text, &mut line);
-    let _ = rt.write_all(&line[..end]);
+    let line = measure_read(font, text);
+    let _ = rt.write_all(line.as_bytes());
 }

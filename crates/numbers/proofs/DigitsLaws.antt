@@ -1,6 +1,6 @@
 -- The digits that `io::decimal` writes, the fewest that hold the number, are the definition's.
-use Rattle.integers.proofs.Prelude.{◌≡◌, ◌∙◌, List, ℕ, zero, suc, ◌+◌, ◌-◌, ◌/◌, ◌%◌, ◌^◌, ◌≤◌, ◌<◌, mod-eq_of_lt, pow-suc, pow-le-pow_right, dec_lt, arith}
-use Rattle.integers.proofs.Prelude.{take, lt-ltb}
+use Rattle.integers.proofs.Prelude.{◌≡◌, ℕ, zero, suc, ◌+◌, ◌-◌, ◌/◌, ◌%◌, ◌^◌, ◌≤◌, ◌<◌, mod-eq_of_lt, pow-suc, pow-le-pow_right, dec_lt, arith}
+use Rattle.integers.proofs.Prelude.{lt-ltb}
 use Rattle.io.specs.Digits.{hex_digit_ascii, last_digits, IsDigitCount}
 use Rattle.numbers.specs.Decimal.{decimal}
 use Rattle.numbers.proofs.DecimalLaws.{decimal_small, decimal_more}
@@ -31,12 +31,3 @@ at_most_ten k n h f = split (dec_lt 10 k)
     split : Dec (10 < k) → k ≤ 10
     split (yes p) = absurd (omega (arith, f.2 (omega arith), pow-le-pow_right {n = 10} (omega arith) {i = 10} {j = k - 1} (omega arith)))
     split (no p) = omega arith
-
--- The first k bytes are the number's digits,
-pub record Spelled (n k : ℕ) (out : List ℕ) : Type 0 where
-  pub few : k ≤ 10
-  pub is : take k out ≡ decimal n
-
--- as `io::decimal` ensures.
-pub by_decimal : {C : Type 0} {n k : ℕ} {out : List ℕ} → n < 2 ^ 32 → C × (IsDigitCount 10 1 n k × (take k out ≡ last_digits 10 k n)) → Spelled n k out
-by_decimal {n = n} {k = k} h (c, (f, e)) = record { few = at_most_ten k n h f; is = e ∙ spelled k n f }
