@@ -16,24 +16,20 @@ use types::style::{Placement, VerticalPosition};
 // The longest font that the program takes; the calls take longer ones.
 const MAX_FONT_SIZE: usize = 65_536;
 
+#[tactic(auto, unfolding(crate::specs::Measured::measured_by_program))]
 fn measured(font: &[u8], text: &[u8]) -> Result<RenderedDimensions, Error>
     ensures { outcome result ≡ measured_by_program font.now text.now }
 {
     if MAX_FONT_SIZE < font.len() {
         return Err(Error::FontLength);
     }
-    match new_from_raw_data(font) {
-        Err(error) => Err(error),
-        Ok(head) => {
-            let placement = Placement {
-                position: Point { x: 0, y: 0 },
-                line_height: head.line_height,
-                ignore_unknown_chars: false,
-            };
-            let report = get_rendered_dimensions(font, text, placement, VerticalPosition::Baseline);
-            report.result
-        }
-    }
+    let head = new_from_raw_data(font)?;
+    let placement = Placement {
+        position: Point { x: 0, y: 0 },
+        line_height: head.line_height,
+        ignore_unknown_chars: false,
+    };
+    get_rendered_dimensions(font, text, placement, VerticalPosition::Baseline).result
 }
 
 /// The line of a text in a font.
