@@ -32,7 +32,7 @@ fn sign_of(tenths: i32) -> Text<ANGLE_ROOM>
 // One digit, or two from 10 on.
 #[tactic(auto, using(crate::proofs::AngleLaws::one_digit, crate::proofs::AngleLaws::two_digits, std::proofs::Common::append_assoc))]
 fn push_degrees(text: &mut Text<ANGLE_ROOM>, degrees: u32)
-    requires { (length text.old ≤ 3) × (degrees ≤ 99) }
+    requires { (length text.old + 2 ≤ ANGLE_ROOM) × (degrees ≤ 99) }
     ensures degrees { text.new ≡ text.old ++ degrees_then degrees [] }
     ensures few { length text.new ≤ length text.old + 2 }
 {

@@ -16,7 +16,7 @@ pub const LINE_ROOM: usize = 73;
 
 // Left, top, width and height.
 fn push_rectangle(line: &mut Text<LINE_ROOM>, r: Rectangle)
-    requires { length line.old + 46 ≤ 73 }
+    requires { length line.old + 46 ≤ LINE_ROOM }
     ensures words { line.new ≡ line.old ++ spaced (box_words (Some r)) }
     ensures few { length line.new ≤ length line.old + 46 }
 {
@@ -27,7 +27,7 @@ fn push_rectangle(line: &mut Text<LINE_ROOM>, r: Rectangle)
 }
 
 fn push_bounding_box(line: &mut Text<LINE_ROOM>, bounding_box: Option<Rectangle>)
-    requires { length line.old + 46 ≤ 73 }
+    requires { length line.old + 46 ≤ LINE_ROOM }
     ensures words { line.new ≡ line.old ++ spaced (box_words bounding_box) }
     ensures few { length line.new ≤ length line.old + 46 }
 {

@@ -3,7 +3,6 @@
 #![tactic(auto)]
 
 ghost use Rattle.std.specs.Prelude.{◌≡◌, ◌≤◌, List, ℕ, length};
-ghost use Rattle.io.specs.Counts.{IsPrefixLen};
 ghost use Rattle.measure_line.specs.Measured.{measuring_line};
 ghost use Rattle.measure_program.specs.Filled.{Filled};
 

@@ -43,7 +43,7 @@ fn mark(pixel: u8) -> u8
 
 // The characters that show a row's pixels.
 fn marks(row: &[u8]) -> Text<WIDEST>
-    requires { length row.now ≤ 256 }
+    requires { length row.now ≤ WIDEST }
     ensures { result ≡ map shade row.now }
 {
     let mut text = Text::new();
