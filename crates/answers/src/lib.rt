@@ -1,17 +1,18 @@
 // What a font answers to one character of a text, in measuring and in drawing.
 #![tactic(auto)]
 
+pub mod lookup;
+
 ghost use Rattle.std.specs.Prelude.{◌≡◌};
 ghost use Rattle.definitions.specs.Refusals.{outcome};
-ghost use Rattle.definitions.specs.Header.{Opened};
 ghost use Rattle.definitions.specs.Text.{answer};
 ghost use Rattle.definitions.specs.Font.{u8g2, measured_answer, drawn_answer};
 ghost use Rattle.answers.specs.Answers.{as_answer, IsAnswer, WholeLookedUp};
 
-use font_reader::retrieve_glyph_data;
+use crate::lookup::retrieve_glyph_data;
+use font_reader::opened::OpenedFont;
 use runs::check_runs;
 use types::error::Error;
-use types::font_reader::FontReader;
 use types::glyph_reader::GlyphReader;
 use types::results::Report;
 
@@ -41,29 +42,26 @@ fn answer_of(lookup: Report<GlyphReader>, ignore_unknown_chars: bool) -> Report<
 
 // The answer to a code point in measuring, which reads no runs.
 pub fn try_retrieve_glyph_data(
-    font: &[u8],
-    head: FontReader,
+    font: &OpenedFont,
     ch: u32,
     ignore_unknown_chars: bool,
 ) -> Report<Option<GlyphReader>>
-    requires { Opened font.now head }
-    ensures { IsAnswer (measured_answer (u8g2 font.now) ignore_unknown_chars ch)
-        ((u8g2 font.now).steps ch) result }
+    ensures { IsAnswer (measured_answer (u8g2 font.now.bytes.now) ignore_unknown_chars ch)
+        ((u8g2 font.now.bytes.now).steps ch) result }
 {
-    answer_of(retrieve_glyph_data(font, head, ch), ignore_unknown_chars)
+    answer_of(retrieve_glyph_data(font, ch), ignore_unknown_chars)
 }
 
 // The glyph of a code point, its runs read to the last pixel. So a glyph that the font's end cuts off is refused before any
 // of it is drawn.
-fn retrieve_whole_glyph(font: &[u8], head: FontReader, ch: u32) -> Report<GlyphReader>
-    requires { Opened font.now head }
-    ensures { WholeLookedUp font.now ch result }
+fn retrieve_whole_glyph(font: &OpenedFont, ch: u32) -> Report<GlyphReader>
+    ensures { WholeLookedUp font.now.bytes.now ch result }
 {
-    let lookup = retrieve_glyph_data(font, head, ch);
+    let lookup = retrieve_glyph_data(font, ch);
     let Ok(glyph) = lookup.result else {
         return lookup;
     };
-    if check_runs(font, head, glyph) {
+    if check_runs(font.bytes, font.head, glyph) {
         return lookup;
     }
     Report {
@@ -74,14 +72,12 @@ fn retrieve_whole_glyph(font: &[u8], head: FontReader, ch: u32) -> Report<GlyphR
 
 // The answer to a code point in drawing.
 pub fn retrieve_answer(
-    font: &[u8],
-    head: FontReader,
+    font: &OpenedFont,
     ch: u32,
     ignore_unknown_chars: bool,
 ) -> Report<Option<GlyphReader>>
-    requires { Opened font.now head }
-    ensures { IsAnswer (drawn_answer (u8g2 font.now) ignore_unknown_chars ch)
-        ((u8g2 font.now).steps ch) result }
+    ensures { IsAnswer (drawn_answer (u8g2 font.now.bytes.now) ignore_unknown_chars ch)
+        ((u8g2 font.now.bytes.now).steps ch) result }
 {
-    answer_of(retrieve_whole_glyph(font, head, ch), ignore_unknown_chars)
+    answer_of(retrieve_whole_glyph(font, ch), ignore_unknown_chars)
 }

@@ -9,12 +9,12 @@ ghost use Rattle.redraw.specs.Redraw.{cleared_by, redrawn};
 ghost use Rattle.faulty_step.specs.Fault.{narrowed_box, to_fill, step_buffer};
 
 use checks::origin::Pen;
+use font_reader::opened::OpenedFont;
 use framebuffer::fill::fill_box;
 use redraw::reading::{draw_reading, redraw};
 use redraw_checks::check_step;
 use renderer::lines::get_drawn_dimensions;
 use types::error::Error;
-use types::font_reader::FontReader;
 use types::geometry::{Rectangle, RenderedDimensions, Size};
 use types::place::Place;
 
@@ -48,21 +48,14 @@ fn narrowed(bounding_box: Option<Rectangle>) -> Option<Rectangle>
 }
 
 // Clears the old reading with the fault put in: one column too few is filled.
-fn clear_narrow(
-    font: &[u8],
-    head: FontReader,
-    text: &[u8],
-    pen: Pen,
-    place: Place,
-    screen: &mut [u8],
-)
-    requires { DrawableText font.now head text.now pen place.framebuffer (length screen.old) }
+fn clear_narrow(font: &OpenedFont, text: &[u8], pen: Pen, place: Place, screen: &mut [u8])
+    requires { DrawableText text.now pen place.framebuffer (length screen.old) }
     ensures { screen.new ≡ cleared_by place.framebuffer.width place.background
-        (to_fill true (counted_with font.now text.now place.horizontal_align pen))
+        (to_fill true (counted_with font.now.bytes.now text.now place.horizontal_align pen))
         screen.old }
 {
     let horizontal_align = place.horizontal_align;
-    let drawn = get_drawn_dimensions(font, head, text, pen, horizontal_align);
+    let drawn = get_drawn_dimensions(font, text, pen, horizontal_align);
     let result = drawn.result;
     let Ok(dimensions) = result else {
         return;
@@ -89,11 +82,12 @@ fn redraw_narrow(
     match check_step(font, old_text, new_text, place, &screen[..]) {
         Err(error) => Err(error),
         Ok(step) => {
-            let head = step.head;
-            let old_pen = step.old_pen;
-            let new_pen = step.new_pen;
-            clear_narrow(font, head, old_text, old_pen, place, &mut screen[..]);
-            let report = draw_reading(font, head, new_text, new_pen, place, screen);
+            let opened = OpenedFont {
+                bytes: font,
+                head: step.head,
+            };
+            clear_narrow(&opened, old_text, step.old_pen, place, &mut screen[..]);
+            let report = draw_reading(&opened, new_text, step.new_pen, place, screen);
             report.result
         }
     }

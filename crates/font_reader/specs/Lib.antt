@@ -1,1 +1,1 @@
-pub mod Lookups
+pub mod Opens

@@ -1,18 +1,16 @@
-// Reading a font's bytes: the header, and from a code point to its glyph.
+// Reading a font's header, and opening a font.
 #![tactic(auto)]
+
+pub mod opened;
 
 ghost use Rattle.std.specs.Prelude.{◌≡◌, ◌≤◌, ◌<◌, length, pos, ◌≤ℤ◌};
 ghost use Rattle.integers.specs.Integers.{signed8};
 ghost use Rattle.definitions.specs.Refusals.{outcome};
-ghost use Rattle.definitions.specs.Header.{header, header_off, default_line_height, negative, signed_byte, Opened};
+ghost use Rattle.definitions.specs.Header.{header, header_off, default_line_height, negative, signed_byte};
 ghost use Rattle.definitions.specs.Calls.{open_font};
-ghost use Rattle.font_reader.specs.Lookups.{LookedUp};
 
 use types::error::Error;
 use types::font_reader::FontReader;
-use types::glyph_reader::GlyphReader;
-use types::results::Report;
-use types::steps::LookupSteps;
 use utils::big_endian::u16_at;
 
 const HEADER_SIZE: usize = 23;
@@ -112,24 +110,4 @@ pub fn new_from_raw_data(font: &[u8]) -> Result<FontReader, Error>
         return Err(Error::FontHeader);
     }
     Ok(read_header(font))
-}
-
-// What the font answers to a code point: its glyph, or number 7 or 8, and by how many steps. The header is read anew, as only a few
-// of its numbers are needed: the compiler does not inline this function, and would copy all of `head` for each letter.
-pub fn retrieve_glyph_data(font: &[u8], head: FontReader, ch: u32) -> Report<GlyphReader>
-    requires { Opened font.now head }
-    ensures { LookedUp font.now ch result }
-{
-    let header = read_header(font);
-    let found = glyph_searcher::search(font, header, ch);
-    match found.result {
-        Ok(start) => Report {
-            result: glyph_reader::new(font, header, ch, start),
-            steps: found.steps,
-        },
-        Err(error) => Report {
-            result: Err(error),
-            steps: found.steps,
-        },
-    }
 }

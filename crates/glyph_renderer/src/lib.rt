@@ -8,9 +8,9 @@ ghost use Rattle.definitions.specs.Framebuffer.{shown};
 ghost use Rattle.definitions.specs.Picture.{box_picture};
 ghost use Rattle.glyph_renderer.specs.Drawing.{GlyphDrawable};
 
+use font_reader::opened::OpenedFont;
 use framebuffer::fill::fill_box;
 use rows::draw_rows;
-use types::font_reader::FontReader;
 use types::framebuffer::Framebuffer;
 use types::geometry::Rectangle;
 use types::glyph_reader::GlyphReader;
@@ -20,17 +20,16 @@ use visible_part::get_visible_part;
 // Draws a glyph whose runs were checked, which cannot fail. A background is filled first, and the ones are drawn on it. Of a
 // glyph beside, above or below the framebuffer nothing is read.
 pub fn render_glyph(
-    font: &[u8],
-    head: FontReader,
+    font: &OpenedFont,
     glyph: GlyphReader,
     bounding_box: Option<Rectangle>,
     color: FontColor,
     framebuffer: Framebuffer,
     buffer: &mut [u8],
 )
-    requires { GlyphDrawable font.now head glyph bounding_box framebuffer (length buffer.old) }
+    requires { GlyphDrawable font.now.bytes.now font.now.head glyph bounding_box framebuffer (length buffer.old) }
     ensures { buffer.new ≡ shown framebuffer.width (box_picture color
-        (pixels_of (u8g2 font.now) glyph) bounding_box) buffer.old }
+        (pixels_of (u8g2 font.now.bytes.now) glyph) bounding_box) buffer.old }
 {
     let Some(area) = bounding_box else {
         return;
@@ -46,5 +45,13 @@ pub fn render_glyph(
             fg
         }
     };
-    draw_rows(font, head, glyph, part, value, framebuffer, buffer);
+    draw_rows(
+        font.bytes,
+        font.head,
+        glyph,
+        part,
+        value,
+        framebuffer,
+        buffer,
+    );
 }

@@ -4,14 +4,14 @@
 ghost use Rattle.std.specs.Prelude.{◌≡◌};
 ghost use Rattle.definitions.specs.Utf8.{newlines};
 ghost use Rattle.definitions.specs.Calls.{code_points_of};
-ghost use Rattle.checks.specs.Origins.{CheckedText};
+ghost use Rattle.checks.specs.Origins.{Checked};
 ghost use Rattle.layout.specs.Ranges.{Near};
 ghost use Rattle.line_alignment.specs.Pens.{moved_by, PenAligned};
 
 use checks::origin::Pen;
+use font_reader::opened::OpenedFont;
 use layout::render_actions::compute_horizontal_offset;
 use text_lines::measure_lines;
-use types::font_reader::FontReader;
 use types::geometry::Point;
 use types::results::Report;
 use types::style::HorizontalAlignment;
@@ -34,21 +34,21 @@ fn move_pen(pen: Pen, x: i32) -> Pen
 // The pen of a line, or why the line is stopped: the line is measured from its own start, and the pen moved by its offset. It reads
 // no runs.
 pub fn align_pen(
-    font: &[u8],
-    head: FontReader,
+    font: &OpenedFont,
     line: &[u8],
     horizontal_align: HorizontalAlignment,
     pen: Pen,
 ) -> Report<Pen>
-    requires { CheckedText font.now head line.now pen × (newlines (code_points_of line.now) ≡ 0) }
-    ensures { PenAligned font.now line.now horizontal_align pen result }
+    requires { Checked line.now pen.origin pen.line_height
+        × (newlines (code_points_of line.now) ≡ 0) }
+    ensures { PenAligned font.now.bytes.now line.now horizontal_align pen result }
 {
     let start = Pen {
         origin: Point { x: 0, y: 0 },
         line_height: pen.line_height,
         ignore_unknown_chars: pen.ignore_unknown_chars,
     };
-    let measured = measure_lines(font, head, line, HorizontalAlignment::Left, start);
+    let measured = measure_lines(font, line, HorizontalAlignment::Left, start);
     match measured.result {
         Err(error) => Report {
             result: Err(error),

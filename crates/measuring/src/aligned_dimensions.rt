@@ -3,7 +3,7 @@ ghost use Rattle.definitions.specs.Calls.{request};
 ghost use Rattle.measuring.specs.Aligned.{AlignedMeasured};
 
 use checks::origin::{Pen, checked_origin};
-use font_reader::new_from_raw_data;
+use font_reader::opened::OpenedFont;
 use lookup_sums::refused;
 use text_lines::measure_lines;
 use types::geometry::RenderedDimensions;
@@ -21,9 +21,10 @@ pub fn aligned_dimensions(
     ensures { AlignedMeasured font.now
         (request text.now placement vertical_pos horizontal_align) result }
 {
-    match new_from_raw_data(font) {
+    match OpenedFont::open(font) {
         Err(error) => refused(error),
-        Ok(head) => {
+        Ok(opened) => {
+            let head = opened.head;
             match checked_origin(head.ascent, head.descent, text, placement, vertical_pos) {
                 Err(error) => refused(error),
                 Ok(origin) => {
@@ -32,7 +33,7 @@ pub fn aligned_dimensions(
                         line_height: placement.line_height,
                         ignore_unknown_chars: placement.ignore_unknown_chars,
                     };
-                    measure_lines(font, head, text, horizontal_align, pen)
+                    measure_lines(&opened, text, horizontal_align, pen)
                 }
             }
         }

@@ -9,33 +9,25 @@ ghost use Rattle.redraw.specs.Redraw.{ReadingDrawn, cleared_by, redrawn, redrawn
 ghost use Rattle.redraw.specs.Steps.{setting_of, reading_of, LeavesReading};
 
 use checks::origin::Pen;
+use font_reader::opened::OpenedFont;
 use framebuffer::fill::fill_box;
 use lookup_sums::refused;
 use redraw_checks::check_step;
 use renderer::letters::Context;
 use renderer::lines::{draw_aligned, get_drawn_dimensions};
 use types::error::Error;
-use types::font_reader::FontReader;
 use types::geometry::RenderedDimensions;
 use types::place::Place;
 use types::results::Report;
-use utils::error::error_number;
 
 // Fills the box of a text that draws. One that does not draw has left nothing on the framebuffer.
-fn clear_reading(
-    font: &[u8],
-    head: FontReader,
-    text: &[u8],
-    pen: Pen,
-    place: Place,
-    buffer: &mut [u8],
-)
-    requires { DrawableText font.now head text.now pen place.framebuffer (length buffer.old) }
+fn clear_reading(font: &OpenedFont, text: &[u8], pen: Pen, place: Place, buffer: &mut [u8])
+    requires { DrawableText text.now pen place.framebuffer (length buffer.old) }
     ensures { buffer.new ≡ cleared_by place.framebuffer.width place.background
-        (counted_with font.now text.now place.horizontal_align pen) buffer.old }
+        (counted_with font.now.bytes.now text.now place.horizontal_align pen) buffer.old }
 {
     let horizontal_align = place.horizontal_align;
-    let drawn = get_drawn_dimensions(font, head, text, pen, horizontal_align);
+    let drawn = get_drawn_dimensions(font, text, pen, horizontal_align);
     let result = drawn.result;
     let Ok(dimensions) = result else {
         return;
@@ -47,19 +39,18 @@ fn clear_reading(
 
 // Draws a text of which every character draws, and of any other nothing.
 pub fn draw_reading(
-    font: &[u8],
-    head: FontReader,
+    font: &OpenedFont,
     text: &[u8],
     pen: Pen,
     place: Place,
     buffer: &mut [u8],
 ) -> Report<RenderedDimensions>
-    requires { DrawableText font.now head text.now pen place.framebuffer (length buffer.old) }
-    ensures { ReadingDrawn font.now text.now pen place buffer.old buffer.new
+    requires { DrawableText text.now pen place.framebuffer (length buffer.old) }
+    ensures { ReadingDrawn font.now.bytes.now text.now pen place buffer.old buffer.new
         result }
 {
     let horizontal_align = place.horizontal_align;
-    let expected = get_drawn_dimensions(font, head, text, pen, horizontal_align);
+    let expected = get_drawn_dimensions(font, text, pen, horizontal_align);
     let result = expected.result;
     let Ok(_) = result else {
         return expected;
@@ -68,7 +59,7 @@ pub fn draw_reading(
     let color = style.color;
     let framebuffer = place.framebuffer;
     let context = Context { color, framebuffer };
-    draw_aligned(font, head, text, pen, horizontal_align, context, buffer)
+    draw_aligned(font, text, pen, horizontal_align, context, buffer)
 }
 
 // Clears the old text's reading and draws the new text's, or refuses to. Causes 1 to 6 are tested for both texts before a pixel
@@ -94,11 +85,12 @@ pub fn redraw(
     match check_step(font, old_text, new_text, place, &buffer[..]) {
         Err(error) => refused(error),
         Ok(step) => {
-            let head = step.head;
-            let old_pen = step.old_pen;
-            let new_pen = step.new_pen;
-            clear_reading(font, head, old_text, old_pen, place, &mut buffer[..]);
-            draw_reading(font, head, new_text, new_pen, place, buffer)
+            let opened = OpenedFont {
+                bytes: font,
+                head: step.head,
+            };
+            clear_reading(&opened, old_text, step.old_pen, place, &mut buffer[..]);
+            draw_reading(&opened, new_text, step.new_pen, place, buffer)
         }
     }
 }
@@ -109,9 +101,6 @@ pub fn is_taken(answer: Result<RenderedDimensions, Error>) -> bool
 {
     match answer {
         Ok(_) => true,
-        Err(error) => {
-            let number = error_number(error);
-            (number == 7) | (number == 8)
-        }
+        Err(error) => matches!(error, Error::GlyphNotFound(_) | Error::FontEnds(_)),
     }
 }

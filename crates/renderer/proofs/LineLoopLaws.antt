@@ -149,10 +149,9 @@ module _ (font text before : List ℕ) (s : LineSetting) (context : Context) whe
     pub line_lent : {end : ℕ} → end ≡ at + length bytes → take (end - at) here ≡ bytes
     line_lent {end} e = let n : end - at ≡ length bytes = omega arith in ap (λ (m : ℕ). take m here) n ∙ line_taken here
 
-    pub line_drawable : {head : FontReader} {p : Framebuffer} → Opened font head → Checked text s.pen.origin line_height → Fits (length before) p
-        → {lent : List ℕ} → lent ≡ bytes → DrawableLine font head lent s d p (length buffer)
-    line_drawable {head} {p} o k fits is = subst (λ (b : List ℕ). DrawableLine font head b s d p (length buffer)) (sym is) record {
-      opened = o;
+    pub line_drawable : {p : Framebuffer} → Checked text s.pen.origin line_height → Fits (length before) p
+        → {lent : List ℕ} → lent ≡ bytes → DrawableLine lent s d p (length buffer)
+    line_drawable {p} k fits is = subst (λ (b : List ℕ). DrawableLine b s d p (length buffer)) (sym is) record {
       checked = record {
         short = omega (arith, k.short, inside);
         utf8 = ap is_utf8 (line_decoded here decoded);

@@ -2,7 +2,6 @@
 use Rattle.std.specs.Prelude.{◌≡◌, List, ℕ, ◌≤◌}
 use Rattle.definitions.specs.Refusals.{outcome}
 use Rattle.definitions.specs.Vocabulary.{Point, FontReader, RenderedDimensions, Framebuffer, Report}
-use Rattle.definitions.specs.Header.{Opened}
 use Rattle.definitions.specs.Text.{Answer}
 use Rattle.definitions.specs.TextSteps.{step, step_shown}
 use Rattle.definitions.specs.Font.{u8g2, drawn_answer, pixels_of}
@@ -24,8 +23,7 @@ pub record DrawableAnswer (font : List ℕ) (head : FontReader) (l : Answer) (or
   pub fits : Fits bytes framebuffer
 
 -- A character may be drawn, whatever the answer.
-pub record DrawableChar (font : List ℕ) (head : FontReader) (pen : Pen) (d : RenderedDimensions) (framebuffer : Framebuffer) (bytes : ℕ) : Type 0 where
-  pub opened : Opened font head
+pub record DrawableChar (pen : Pen) (d : RenderedDimensions) (framebuffer : Framebuffer) (bytes : ℕ) : Type 0 where
   pub room : HasRoom pen.origin d
   pub line : pen.line_height ≤ 65535
   pub fits : Fits bytes framebuffer

@@ -1,9 +1,8 @@
 -- When a text may be drawn, and what it comes to: what is answered, with which sums, and what the framebuffer then holds.
 use Rattle.std.specs.Prelude.{◌≡◌, List, ℕ}
-use Rattle.definitions.specs.Vocabulary.{FontReader, Point, RenderedDimensions, Framebuffer, HorizontalAlignment, Report}
+use Rattle.definitions.specs.Vocabulary.{Point, RenderedDimensions, Framebuffer, HorizontalAlignment, Report}
 use Rattle.types.specs.declared.style.HorizontalAlignment.TheVariants.{Left, Center, Right}
 use Rattle.definitions.specs.Refusals.{Outcome, success, outcome}
-use Rattle.definitions.specs.Header.{Opened}
 use Rattle.definitions.specs.Geometry.{join, InReach}
 use Rattle.definitions.specs.Utf8.{newlines}
 use Rattle.definitions.specs.Text.{Answer, Layout, join_all, dimensions_of, dimensions, moved_line, aligned}
@@ -22,9 +21,8 @@ use Rattle.renderer.specs.CharAnswers.{Fits}
 
 -- ---- letters, from the dimensions so far on
 
--- A line in an open font, or a whole text, room for it after what comes before, and a buffer for the framebuffer.
-pub record DrawableLetters (font : List ℕ) (head : FontReader) (text : List ℕ) (pen : Pen) (before : RenderedDimensions) (framebuffer : Framebuffer) (bytes : ℕ) : Type 0 where
-  pub opened : Opened font head
+-- A line, or a whole text, room for it after what comes before, and a buffer for the framebuffer.
+pub record DrawableLetters (text : List ℕ) (pen : Pen) (before : RenderedDimensions) (framebuffer : Framebuffer) (bytes : ℕ) : Type 0 where
   pub checked : CheckedLine text pen.origin pen.line_height
   pub room : Within pen.line_height 0 (code_points_of text) before
   pub fits : Fits bytes framebuffer
@@ -46,8 +44,7 @@ pub record LettersDrawn (font text : List ℕ) (pen : Pen) (d : RenderedDimensio
 
 -- ---- a line, measured and then drawn, with the dimensions before it
 
-pub record DrawableLine (font : List ℕ) (head : FontReader) (text : List ℕ) (s : LineSetting) (d : RenderedDimensions) (framebuffer : Framebuffer) (bytes : ℕ) : Type 0 where
-  pub opened : Opened font head
+pub record DrawableLine (text : List ℕ) (s : LineSetting) (d : RenderedDimensions) (framebuffer : Framebuffer) (bytes : ℕ) : Type 0 where
   pub checked : Checked text s.pen.origin s.pen.line_height
   pub one : newlines (code_points_of text) ≡ 0
   pub room : Within s.pen.line_height 0 (code_points_of text) d
@@ -74,9 +71,8 @@ Moves Left = ⊥
 Moves Center = Unit {0}
 Moves Right = Unit {0}
 
--- A checked text in an open font, and a buffer for the framebuffer.
-pub record DrawableText (font : List ℕ) (head : FontReader) (text : List ℕ) (pen : Pen) (framebuffer : Framebuffer) (bytes : ℕ) : Type 0 where
-  pub opened : Opened font head
+-- A checked text, and a buffer for the framebuffer.
+pub record DrawableText (text : List ℕ) (pen : Pen) (framebuffer : Framebuffer) (bytes : ℕ) : Type 0 where
   pub checked : Checked text pen.origin pen.line_height
   pub fits : Fits bytes framebuffer
 

@@ -9,7 +9,7 @@ use crate::letters::Context;
 use crate::lines::draw_aligned;
 use checks::limits::{has_bad_color, has_bad_size};
 use checks::origin::{Pen, checked_origin};
-use font_reader::new_from_raw_data;
+use font_reader::opened::OpenedFont;
 use lookup_sums::refused;
 use types::error::Error;
 use types::framebuffer::Framebuffer;
@@ -35,9 +35,10 @@ pub fn aligned_drawing(
     ensures summed { result.steps ≡ sums (u8g2 font.now) text.now (draw (u8g2 font.now)
         (request text.now placement style.vertical_pos horizontal_align) style.color framebuffer buffer.old) }
 {
-    match new_from_raw_data(font) {
+    match OpenedFont::open(font) {
         Err(error) => refused(error),
-        Ok(head) => {
+        Ok(opened) => {
+            let head = opened.head;
             if has_bad_size(framebuffer, &buffer[..]) {
                 return refused(Error::FramebufferSize);
             }
@@ -55,7 +56,7 @@ pub fn aligned_drawing(
                         ignore_unknown_chars: placement.ignore_unknown_chars,
                     };
                     let context = Context { color, framebuffer };
-                    draw_aligned(font, head, text, pen, horizontal_align, context, buffer)
+                    draw_aligned(&opened, text, pen, horizontal_align, context, buffer)
                 }
             }
         }

@@ -8,11 +8,11 @@ ghost use Rattle.renderer.specs.Texts.{DrawableLetters, LettersDrawn};
 
 use answers::retrieve_answer;
 use checks::origin::Pen;
+use font_reader::opened::OpenedFont;
 use glyph_renderer::render_glyph;
 use layout::steps::{NEWLINE, add_answer, add_newline, get_next_bounding_box};
 use lookup_sums::{add_steps, no_steps, refused, sum_with};
 use types::error::Error;
-use types::font_reader::FontReader;
 use types::framebuffer::Framebuffer;
 use types::geometry::{Point, RenderedDimensions};
 use types::glyph_reader::GlyphReader;
@@ -30,18 +30,17 @@ pub struct Context {
 
 // Draws the glyph that a character shows, at the advance so far. Other answers draw nothing.
 fn draw_answer(
-    font: &[u8],
-    head: FontReader,
+    font: &OpenedFont,
     answer: Result<Option<GlyphReader>, Error>,
     dimensions: RenderedDimensions,
     origin: Point,
     context: Context,
     buffer: &mut [u8],
 )
-    requires { DrawableAnswer font.now head (as_answer answer) origin dimensions context.framebuffer
+    requires { DrawableAnswer font.now.bytes.now font.now.head (as_answer answer) origin dimensions context.framebuffer
         (length buffer.old) }
     ensures { buffer.new ≡ answer_shown context.framebuffer.width context.color
-        (pixels_of (u8g2 font.now)) origin dimensions (as_answer answer) buffer.old }
+        (pixels_of (u8g2 font.now.bytes.now)) origin dimensions (as_answer answer) buffer.old }
 {
     let Ok(shown) = answer else {
         return;
@@ -52,21 +51,20 @@ fn draw_answer(
     let glyph_box = get_next_bounding_box(dimensions, origin, glyph);
     let color = context.color;
     let framebuffer = context.framebuffer;
-    render_glyph(font, head, glyph, glyph_box, color, framebuffer, buffer);
+    render_glyph(font, glyph, glyph_box, color, framebuffer, buffer);
 }
 
 // One character. It is counted first, so that less is kept while it is drawn.
 fn draw_char(
-    font: &[u8],
-    head: FontReader,
+    font: &OpenedFont,
     ch: u32,
     dimensions: RenderedDimensions,
     pen: Pen,
     context: Context,
     buffer: &mut [u8],
 ) -> Report<RenderedDimensions>
-    requires { DrawableChar font.now head pen dimensions context.framebuffer (length buffer.old) }
-    ensures { CharDrawn font.now ch dimensions pen context buffer.old buffer.new result }
+    requires { DrawableChar pen dimensions context.framebuffer (length buffer.old) }
+    ensures { CharDrawn font.now.bytes.now ch dimensions pen context buffer.old buffer.new result }
 {
     if ch == NEWLINE {
         return Report {
@@ -75,17 +73,9 @@ fn draw_char(
         };
     }
     let origin = pen.origin;
-    let answer = retrieve_answer(font, head, ch, pen.ignore_unknown_chars);
+    let answer = retrieve_answer(font, ch, pen.ignore_unknown_chars);
     let result = add_answer(dimensions, origin, answer.result);
-    draw_answer(
-        font,
-        head,
-        answer.result,
-        dimensions,
-        origin,
-        context,
-        buffer,
-    );
+    draw_answer(font, answer.result, dimensions, origin, context, buffer);
     Report {
         result,
         steps: answer.steps,
@@ -95,16 +85,15 @@ fn draw_char(
 // The letters of a line, or of a whole text, one after the other from the dimensions so far on, and their steps added up. The
 // first that stops the text is the answer, and those before it stay.
 pub fn draw_text(
-    font: &[u8],
-    head: FontReader,
+    font: &OpenedFont,
     text: &[u8],
     pen: Pen,
     before: RenderedDimensions,
     context: Context,
     buffer: &mut [u8],
 ) -> Report<RenderedDimensions>
-    requires { DrawableLetters font.now head text.now pen before context.framebuffer (length buffer.old) }
-    ensures { LettersDrawn font.now text.now pen before context buffer.old
+    requires { DrawableLetters text.now pen before context.framebuffer (length buffer.old) }
+    ensures { LettersDrawn font.now.bytes.now text.now pen before context buffer.old
         buffer.new result }
 {
     let mut dimensions = before;
@@ -115,7 +104,7 @@ pub fn draw_text(
         let NextChar::Char(ch, len) = next else {
             return refused(Error::TextEncoding);
         };
-        let drawn = draw_char(font, head, ch, dimensions, pen, context, &mut buffer[..]);
+        let drawn = draw_char(font, ch, dimensions, pen, context, &mut buffer[..]);
         match drawn.result {
             Err(error) => {
                 let sum = add_steps(steps, drawn.steps);

@@ -1,16 +1,16 @@
 // Drawing a text line by line, each line where its alignment puts it.
 ghost use Rattle.std.specs.Prelude.{◌≡◌, ◌+◌, ◌≤◌, length, drop};
 ghost use Rattle.definitions.specs.TextSteps.{start};
-ghost use Rattle.checks.specs.Origins.{CheckedText};
+ghost use Rattle.checks.specs.Origins.{Checked};
 ghost use Rattle.renderer.specs.Lines.{line_of};
 ghost use Rattle.renderer.specs.Texts.{DrawableText, DrawableLine, LineDrawn, Moves, TextCounted, TextDrawn};
 
 use crate::letters::{Context, draw_text};
 use checks::origin::Pen;
+use font_reader::opened::OpenedFont;
 use layout::steps::add_newline;
 use line_alignment::align_pen;
 use lookup_sums::{add_steps, no_steps, refused, sum_with};
-use types::font_reader::FontReader;
 use types::framebuffer::Framebuffer;
 use types::geometry::{Point, RenderedDimensions};
 use types::results::Report;
@@ -50,28 +50,27 @@ fn line_end(text: &[u8], at: usize) -> usize
 // One line. All of it is measured before its first letter is drawn: what stops it in measuring leaves the framebuffer as it was.
 // Drawing looks its letters up a second time, and counts none of that. It comes to what a character does: dimensions or a refusal.
 fn draw_line(
-    font: &[u8],
-    head: FontReader,
+    font: &OpenedFont,
     line: &[u8],
     setting: LineSetting,
     dimensions: RenderedDimensions,
     context: Context,
     buffer: &mut [u8],
 ) -> Report<RenderedDimensions>
-    requires { DrawableLine font.now head line.now setting dimensions context.framebuffer (length buffer.old) }
-    ensures { LineDrawn font.now line.now setting dimensions context buffer.old
+    requires { DrawableLine line.now setting dimensions context.framebuffer (length buffer.old) }
+    ensures { LineDrawn font.now.bytes.now line.now setting dimensions context buffer.old
         buffer.new result }
 {
     let pen = setting.pen;
     let horizontal_align = setting.horizontal_align;
-    let aligned = align_pen(font, head, line, horizontal_align, pen);
+    let aligned = align_pen(font, line, horizontal_align, pen);
     match aligned.result {
         Err(error) => Report {
             result: Err(error),
             steps: aligned.steps,
         },
         Ok(line_pen) => {
-            let drawn = draw_text(font, head, line, line_pen, dimensions, context, buffer);
+            let drawn = draw_text(font, line, line_pen, dimensions, context, buffer);
             match drawn.result {
                 Err(error) => refused(error),
                 Ok(longer) => Report {
@@ -86,16 +85,15 @@ fn draw_line(
 // The lines of a checked text, one after the other, and their steps added up. The first that is stopped is the answer, and the
 // lines before it stay.
 fn draw_lines(
-    font: &[u8],
-    head: FontReader,
+    font: &OpenedFont,
     text: &[u8],
     setting: LineSetting,
     context: Context,
     buffer: &mut [u8],
 ) -> Report<RenderedDimensions>
-    requires { DrawableText font.now head text.now setting.pen context.framebuffer (length buffer.old)
+    requires { DrawableText text.now setting.pen context.framebuffer (length buffer.old)
         × Moves setting.horizontal_align }
-    ensures { TextDrawn font.now text.now setting.horizontal_align setting.pen context
+    ensures { TextDrawn font.now.bytes.now text.now setting.horizontal_align setting.pen context
         buffer.old buffer.new result }
 {
     let pen = setting.pen;
@@ -106,7 +104,6 @@ fn draw_lines(
         let end = line_end(text, at);
         let drawn = draw_line(
             font,
-            head,
             &text[at..end],
             setting,
             dimensions,
@@ -138,16 +135,15 @@ fn draw_lines(
 
 // A checked text, aligned. Left moves no line, so none is measured: the text is drawn as it stands.
 pub fn draw_aligned(
-    font: &[u8],
-    head: FontReader,
+    font: &OpenedFont,
     text: &[u8],
     pen: Pen,
     horizontal_align: HorizontalAlignment,
     context: Context,
     buffer: &mut [u8],
 ) -> Report<RenderedDimensions>
-    requires { DrawableText font.now head text.now pen context.framebuffer (length buffer.old) }
-    ensures { TextDrawn font.now text.now horizontal_align pen context buffer.old
+    requires { DrawableText text.now pen context.framebuffer (length buffer.old) }
+    ensures { TextDrawn font.now.bytes.now text.now horizontal_align pen context buffer.old
         buffer.new result }
 {
     let setting = LineSetting {
@@ -156,23 +152,22 @@ pub fn draw_aligned(
     };
     match horizontal_align {
         HorizontalAlignment::Left => {
-            draw_text(font, head, text, pen, no_dimensions(), context, buffer)
+            draw_text(font, text, pen, no_dimensions(), context, buffer)
         }
-        HorizontalAlignment::Center => draw_lines(font, head, text, setting, context, buffer),
-        HorizontalAlignment::Right => draw_lines(font, head, text, setting, context, buffer),
+        HorizontalAlignment::Center => draw_lines(font, text, setting, context, buffer),
+        HorizontalAlignment::Right => draw_lines(font, text, setting, context, buffer),
     }
 }
 
 // What drawing a checked text answers: it is drawn on a framebuffer without rows, which shows nothing of it.
 pub fn get_drawn_dimensions(
-    font: &[u8],
-    head: FontReader,
+    font: &OpenedFont,
     text: &[u8],
     pen: Pen,
     horizontal_align: HorizontalAlignment,
 ) -> Report<RenderedDimensions>
-    requires { CheckedText font.now head text.now pen }
-    ensures { TextCounted font.now text.now horizontal_align pen result }
+    requires { Checked text.now pen.origin pen.line_height }
+    ensures { TextCounted font.now.bytes.now text.now horizontal_align pen result }
 {
     let mut pixels = [0u8; 1];
     let context = Context {
@@ -182,13 +177,5 @@ pub fn get_drawn_dimensions(
             height: 0,
         },
     };
-    draw_aligned(
-        font,
-        head,
-        text,
-        pen,
-        horizontal_align,
-        context,
-        &mut pixels[..0],
-    )
+    draw_aligned(font, text, pen, horizontal_align, context, &mut pixels[..0])
 }

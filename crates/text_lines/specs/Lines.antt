@@ -1,8 +1,7 @@
 -- How the code's state of measuring line by line is read, what its steps may count on, and what they come to.
 use Rattle.std.specs.Prelude.{◌≡◌, List, ℕ, ◌≤◌, ℤ, Result, Ok, Err}
-use Rattle.definitions.specs.Vocabulary.{Error, BoundingBox, RenderedDimensions, FontReader, HorizontalAlignment, Report}
+use Rattle.definitions.specs.Vocabulary.{Error, BoundingBox, RenderedDimensions, HorizontalAlignment, Report}
 use Rattle.definitions.specs.Refusals.{Outcome, success, refusal, outcome}
-use Rattle.definitions.specs.Header.{Opened}
 use Rattle.definitions.specs.TextSteps as steps
 use Rattle.definitions.specs.Font.{u8g2, measured_answer}
 use Rattle.definitions.specs.Calls.{code_points_of}
@@ -24,9 +23,8 @@ pub record Movable (b : BoundingBox) (x y : ℤ) : Type 0 where
   pub right : Near x
   pub down : Near y
 
--- An open font, and room for a character more.
-pub record CanAdd (font : List ℕ) (head : FontReader) (s : LineState) (pen : Pen) : Type 0 where
-  pub opened : Opened font head
+-- Room for a character more.
+pub record CanAdd (s : LineState) (pen : Pen) : Type 0 where
   pub room : LineHasRoom pen.origin (as_state s)
   pub line : pen.line_height ≤ 65535
 

@@ -5,17 +5,17 @@ ghost use Rattle.std.specs.Prelude.{◌≡◌, ◌≤◌, pos};
 ghost use Rattle.definitions.specs.Text.{point};
 ghost use Rattle.definitions.specs.TextSteps.{start, moved_box, with_line, next_line, answer_of_line, lines_dimensions};
 ghost use Rattle.text_lines.specs.Lines.{as_state, state_outcome, Movable, CanAdd, CharAdded, TextMeasured};
-ghost use Rattle.checks.specs.Origins.{CheckedText};
+ghost use Rattle.checks.specs.Origins.{Checked};
 ghost use Rattle.answers.specs.Answers.{as_answer};
 ghost use Rattle.layout.specs.Ranges.{HasRoom, LineHasRoom};
 
 use answers::try_retrieve_glyph_data;
 use checks::origin::Pen;
+use font_reader::opened::OpenedFont;
 use layout::render_actions::compute_horizontal_offset;
 use layout::steps::{NEWLINE, add_answer};
 use lookup_sums::{add_steps, no_steps, sum_with};
 use types::error::Error;
-use types::font_reader::FontReader;
 use types::geometry::{Point, Rectangle, RenderedDimensions};
 use types::glyph_reader::GlyphReader;
 use types::results::Report;
@@ -108,15 +108,14 @@ fn add_letter(
 
 // One character: a newline ends the line, and a letter is added to it.
 fn add_char(
-    font: &[u8],
-    head: FontReader,
+    font: &OpenedFont,
     ch: u32,
     state: LineState,
     horizontal_align: HorizontalAlignment,
     pen: Pen,
 ) -> Report<LineState>
-    requires { CanAdd font.now head state pen }
-    ensures { CharAdded font.now ch horizontal_align pen state result }
+    requires { CanAdd state pen }
+    ensures { CharAdded font.now.bytes.now ch horizontal_align pen state result }
 {
     if ch == NEWLINE {
         let origin = pen.origin;
@@ -126,7 +125,7 @@ fn add_char(
             steps: no_steps(),
         };
     }
-    let answer = try_retrieve_glyph_data(font, head, ch, pen.ignore_unknown_chars);
+    let answer = try_retrieve_glyph_data(font, ch, pen.ignore_unknown_chars);
     Report {
         result: add_letter(state, answer.result),
         steps: answer.steps,
@@ -155,14 +154,13 @@ fn end_text(
 
 // The letters of a checked text, one after the other, and their steps added up. The first that stops the text is the answer.
 pub fn measure_lines(
-    font: &[u8],
-    head: FontReader,
+    font: &OpenedFont,
     text: &[u8],
     horizontal_align: HorizontalAlignment,
     pen: Pen,
 ) -> Report<RenderedDimensions>
-    requires { CheckedText font.now head text.now pen }
-    ensures { TextMeasured font.now text.now horizontal_align pen result }
+    requires { Checked text.now pen.origin pen.line_height }
+    ensures { TextMeasured font.now.bytes.now text.now horizontal_align pen result }
 {
     let mut state = LineState {
         line: empty_line(),
@@ -179,7 +177,7 @@ pub fn measure_lines(
                 steps,
             };
         };
-        let added = add_char(font, head, ch, state, horizontal_align, pen);
+        let added = add_char(font, ch, state, horizontal_align, pen);
         match added.result {
             Err(error) => {
                 let sum = add_steps(steps, added.steps);

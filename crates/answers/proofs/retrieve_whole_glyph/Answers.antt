@@ -6,6 +6,7 @@ use Rattle.answers.proofs.retrieve_whole_glyph.Goals as goal
 
 pub check_runs-requires : goal.check_runs-requires
 check_runs-requires c =
+    let f = c.args.font.now in
     let found = sym c.retrieve_glyph_data-lookup.ensures.answered ∙ ap outcome c.in-Ok.is in
-    let r = glyph_range c.args.font.now c.args.head c.args.ch c.in-Ok.glyph c.requires found in
-    (c.requires, omega (arith, r))
+    let r = glyph_range f.bytes.now f.head c.args.ch c.in-Ok.glyph f.opened found in
+    (f.opened, omega (arith, r))

@@ -20,17 +20,23 @@ is_ready : (font old new : List ℕ) (place : Place) (before : List ℕ) {answer
 is_ready font old new place before {answer} {step} tested is bytes =
     ready font old (asked place new) (ground_of place before) step (sym tested ∙ ap outcome is) bytes
 
+pub invariant_of-opened : goal.invariant_of-opened
+invariant_of-opened c =
+    let a = c.args in
+    let r = is_ready a.font.now a.old_text.now a.new_text.now a.place a.screen.now c.check_step.ensures c.in-Ok.is (λ i. omega (arith, c.type_inv.font i)) in
+    record { opened = r.opens }
+
 pub clear_narrow-requires : goal.clear_narrow-requires
 clear_narrow-requires c =
     let a = c.args in
     let r = is_ready a.font.now a.old_text.now a.new_text.now a.place a.screen.now c.check_step.ensures c.in-Ok.is (λ i. omega (arith, c.type_inv.font i)) in
-    record { opened = r.opens; checked = r.old_checked; fits = r.fits }
+    record { checked = r.old_checked; fits = r.fits }
 
 pub draw_reading-report-requires : goal.draw_reading-report-requires
 draw_reading-report-requires c =
     let a = c.args in
     let r = is_ready a.font.now a.old_text.now a.new_text.now a.place a.screen.now c.check_step.ensures c.in-Ok.is (λ i. omega (arith, c.type_inv.font i)) in
-    record { opened = r.opens; checked = r.new_checked; fits = subst (λ (n : ℕ). FitsPlace n a.place) (sym c.clear_narrow.auto.screen) r.fits }
+    record { checked = r.new_checked; fits = subst (λ (n : ℕ). FitsPlace n a.place) (sym c.clear_narrow.auto.screen) r.fits }
 
 pub returns-in-Err : goal.returns-in-Err
 unfolding step_buffer

@@ -15,13 +15,13 @@ use Rattle.glyph_renderer.proofs.render_glyph.Goals.{then-part-via-then-part, th
 pub returns-in_default : goal.returns-in_default
 returns-in_default c =
     let a = c.args in
-    sym (ap (λ (b : BoundingBox). shown a.framebuffer.width (box_picture a.color (pixels_of (u8g2 a.font.now) a.glyph) b) a.buffer.now)
+    sym (ap (λ (b : BoundingBox). shown a.framebuffer.width (box_picture a.color (pixels_of (u8g2 a.font.now.bytes.now) a.glyph) b) a.buffer.now)
     c.in_default.is ∙ shown_blank a.framebuffer.width a.buffer.now)
 
 pub returns-then-part : goal.returns-then-part
 returns-then-part c =
     let a = c.args in
-    let ps = pixels_of (u8g2 a.font.now) a.glyph in
+    let ps = pixels_of (u8g2 a.font.now.bytes.now) a.glyph in
     let g : GlyphArea a.glyph c.in-Some.area = box_area a.glyph c.in-Some.area (subst (λ (b : BoundingBox). GlyphBox a.glyph b) c.in-Some.is c.requires.box) in
     let e = c.get_visible_part-part.ensures in
     sym (ap (λ (b : BoundingBox). shown a.framebuffer.width (box_picture a.color ps b) a.buffer.now) c.in-Some.is

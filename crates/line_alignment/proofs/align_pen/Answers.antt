@@ -6,13 +6,14 @@ use Rattle.integers.proofs.Choices.{impossible}
 use Rattle.definitions.specs.Vocabulary.{FontReader, Report, RenderedDimensions}
 use Rattle.types.specs.declared.style.HorizontalAlignment.TheVariants.{Left}
 use Rattle.definitions.specs.Refusals.{success, outcome}
+use Rattle.definitions.specs.Header.{Opened}
 use Rattle.definitions.specs.Utf8.{newlines}
 use Rattle.definitions.specs.Font.{u8g2}
 use Rattle.definitions.specs.Sums.{sums}
 use Rattle.definitions.specs.Text.{point, dimensions, horizontal_offset}
 use Rattle.definitions.specs.Calls.{code_points_of}
 use Rattle.checks.specs.declared.origin.Pen.{Pen}
-use Rattle.checks.specs.Origins.{CheckedText, CheckedLine}
+use Rattle.checks.specs.Origins.{Checked, CheckedText, CheckedLine}
 use Rattle.layout.specs.Ranges.{Near}
 use Rattle.layout.proofs.RangeLaws.{near_fits}
 use Rattle.text_lines.specs.Lines.{TextMeasured}
@@ -22,6 +23,9 @@ use Rattle.line_alignment.proofs.align_pen.Goals as goal
 
 abbrev from_start : Pen → Pen
 from_start pen = record { origin = point (pos 0) (pos 0); line_height = pen.line_height; ignore_unknown_chars = pen.ignore_unknown_chars }
+
+in_open_font : {font text : List ℕ} {head : FontReader} {pen : Pen} → Opened font head → Checked text pen.origin pen.line_height → CheckedText font head text pen
+in_open_font o k = record { opened = o; checked = k }
 
 -- the line was measured
 module _ {font line : List ℕ} {head : FontReader} {pen : Pen} (k : CheckedText font head line pen) (one : newlines (code_points_of line) ≡ 0)
@@ -34,16 +38,16 @@ module _ {font line : List ℕ} {head : FontReader} {pen : Pen} (k : CheckedText
 
 pub compute_horizontal_offset-offset-requires : goal.compute_horizontal_offset-offset-requires
 compute_horizontal_offset-offset-requires c =
-    let k = c.requires.0 in
-    let is : success c.in-Ok.dimensions ≡ dimensions (measured_line c.args.font.now c.args.pen.ignore_unknown_chars c.args.line.now)
+    let k = in_open_font c.args.font.now.opened c.requires.0 in
+    let is : success c.in-Ok.dimensions ≡ dimensions (measured_line c.args.font.now.bytes.now c.args.pen.ignore_unknown_chars c.args.line.now)
     = sym (ap outcome c.in-Ok.is) ∙ measured k c.requires.1 c.measure_lines-measured.ensures in
     let n = advance_near k c.requires.1 is in
     simp (to_z-of_z, near_fits n) (box_near k c.requires.1 is, n)
 
 pub move_pen-requires : goal.move_pen-requires
 move_pen-requires c =
-    let k = c.requires.0 in
-    let is : success c.in-Ok.dimensions ≡ dimensions (measured_line c.args.font.now c.args.pen.ignore_unknown_chars c.args.line.now)
+    let k = in_open_font c.args.font.now.opened c.requires.0 in
+    let is : success c.in-Ok.dimensions ≡ dimensions (measured_line c.args.font.now.bytes.now c.args.pen.ignore_unknown_chars c.args.line.now)
     = sym (ap outcome c.in-Ok.is) ∙ measured k c.requires.1 c.measure_lines-measured.ensures in
     let offset_is : to_z w32 (of_z w32 c.compute_horizontal_offset-offset.result)
     ≡ horizontal_offset c.args.horizontal_align c.in-Ok.dimensions.bounding_box c.in-Ok.dimensions.advance.x
@@ -55,7 +59,7 @@ move_pen-requires c =
 
 pub returns-in-Err : goal.returns-in-Err
 returns-in-Err c =
-    let k = c.requires.0 in
+    let k = in_open_font c.args.font.now.opened c.requires.0 in
     let m = c.measure_lines-measured.ensures in
     record {
       aligned = pen_refused k c.requires.1 c.args.horizontal_align (sym (ap outcome c.in-Err.is) ∙ measured k c.requires.1 m);
@@ -65,9 +69,9 @@ returns-in-Err c =
 
 pub returns-in-Ok : goal.returns-in-Ok
 returns-in-Ok c =
-    let k = c.requires.0 in
+    let k = in_open_font c.args.font.now.opened c.requires.0 in
     let a = c.args.horizontal_align in
-    let is : success c.in-Ok.dimensions ≡ dimensions (measured_line c.args.font.now c.args.pen.ignore_unknown_chars c.args.line.now)
+    let is : success c.in-Ok.dimensions ≡ dimensions (measured_line c.args.font.now.bytes.now c.args.pen.ignore_unknown_chars c.args.line.now)
     = sym (ap outcome c.in-Ok.is) ∙ measured k c.requires.1 c.measure_lines-measured.ensures in
     let offset_is : to_z w32 (of_z w32 c.compute_horizontal_offset-offset.result)
     ≡ horizontal_offset a c.in-Ok.dimensions.bounding_box c.in-Ok.dimensions.advance.x

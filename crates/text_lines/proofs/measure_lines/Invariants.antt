@@ -7,7 +7,7 @@ use Rattle.text_lines.proofs.measure_lines.Given as goal
 
 abbrev pub invariant-loop-at : goal.invariant-loop-at
 invariant-loop-at l =
-    MeasuredTo l.font l.pen.ignore_unknown_chars l.horizontal_align l.pen.line_height l.pen.origin l.text (as_state l.state) l.steps l.at
+    MeasuredTo l.font.bytes.now l.pen.ignore_unknown_chars l.horizontal_align l.pen.line_height l.pen.origin l.text (as_state l.state) l.steps l.at
 
 abbrev pub decreases-loop-at : goal.decreases-loop-at
 decreases-loop-at l = length l.text - l.at

@@ -32,13 +32,16 @@ module _ (c : In-Ok) where
   is_ready : Ready c.args.font.now c.args.old_text.now new screen c.in-Ok.step
   is_ready = ready _ _ new screen c.in-Ok.step passes (λ i. omega (arith, c.type_inv.font i))
 
+pub invariant_of-opened : goal.invariant_of-opened
+invariant_of-opened c = record { opened = (is_ready (goal.at.invariant_of-opened c).In-Ok).opens }
+
 pub clear_reading-requires : goal.clear_reading-requires
 clear_reading-requires c = let r = is_ready (goal.at.clear_reading-requires c).In-Ok in search rules
 
 pub draw_reading-requires : goal.draw_reading-requires
 draw_reading-requires c =
     let r = is_ready (goal.at.draw_reading-requires c).In-Ok in
-    record { opened = r.opens; checked = r.new_checked; fits = subst (λ (n : ℕ). FitsPlace n c.args.place) (sym c.clear_reading.auto.buffer) r.fits }
+    record { checked = r.new_checked; fits = subst (λ (n : ℕ). FitsPlace n c.args.place) (sym c.clear_reading.auto.buffer) r.fits }
 
 pub returns-in-Err : goal.returns-in-Err
 returns-in-Err c =

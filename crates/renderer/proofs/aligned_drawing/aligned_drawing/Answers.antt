@@ -1,5 +1,6 @@
 -- The causes are tested in the definition's order; where none applies, the text is drawn. RenderLaws says what is left of a call.
-use Rattle.integers.proofs.Prelude.{◌≡◌, refl, sym, ap, ◌∙◌, false, arith, w8, SFits, to_z-of_z}
+use Rattle.integers.proofs.Prelude.{◌≡◌, refl, sym, ap, ◌∙◌, false, arith, List, ℕ, w8, SFits, to_z-of_z}
+use Rattle.definitions.specs.Vocabulary.{HorizontalAlignment, RenderedDimensions, Report}
 use Rattle.definitions.specs.Refusals.{success, outcome}
 use Rattle.definitions.specs.Header.{Opened}
 use Rattle.definitions.specs.Font.{u8g2}
@@ -11,26 +12,29 @@ use Rattle.definitions.proofs.SumsLaws.{open_early}
 use Rattle.checks.proofs.OriginLaws.{tested, request_checked, tested_early}
 use Rattle.checks.proofs.LimitLaws.{color_is}
 use Rattle.checks.proofs.SizeLaws.{size_fits}
+use Rattle.checks.specs.declared.origin.Pen.{Pen}
+use Rattle.renderer.specs.declared.letters.Context.{Context}
+use Rattle.renderer.specs.Texts.{TextDrawn}
 use Rattle.renderer.proofs.RenderLaws.{reported, reported_refused, font_refused, size_refused, position_refused, color_refused, drawn_whole_lem}
 use Rattle.renderer.proofs.aligned_drawing.aligned_drawing.Goals as goal
 use Rattle.renderer.proofs.aligned_drawing.aligned_drawing.Goals.{In-Ok, After-checked_origin}
 
 -- opening succeeded
-opens : (c : In-Ok) → open_font c.args.font.now ≡ success c.in-Ok.head
-opens c = sym c.in-Ok.ensures
+opens : (c : In-Ok) → open_font c.args.font.now ≡ success c.in-Ok.opened.head
+opens c = c.in-Ok.ensures.1
 
 -- .. the framebuffer has its size, and the place was tested
 module _ (c : After-checked_origin) where
   abbrev asked : Request
   asked = let a = c.args in request a.text.now a.placement a.style.vertical_pos a.horizontal_align
 
-  known : open_font c.args.font.now ≡ success c.in-Ok.head
-  known = sym c.in-Ok.ensures
+  known : open_font c.args.font.now ≡ success c.in-Ok.opened.head
+  known = c.in-Ok.ensures.1
 
-  is_open : Opened c.args.font.now c.in-Ok.head
-  is_open = opened _ c.in-Ok.head known
+  is_open : Opened c.args.font.now c.in-Ok.opened.head
+  is_open = opened _ c.in-Ok.opened.head known
 
-  heights : SFits w8 c.in-Ok.head.ascent × SFits w8 c.in-Ok.head.descent
+  heights : SFits w8 c.in-Ok.opened.head.ascent × SFits w8 c.in-Ok.opened.head.descent
   heights = heights_fit c.args.font.now (λ i. omega (arith, c.type_inv.font i)) is_open
 
   size_in : (framebuffer_cause c.args.framebuffer c.args.buffer.now).applies ≡ false
@@ -41,14 +45,20 @@ module _ (c : After-checked_origin) where
 
   -- the answer to the colour is the cause's
   color_tested : let a = c.args in (background_cause a.style.color (u8g2 a.font.now).background).applies
-      ≡ background_off a.style.color c.in-Ok.head.supports_background_color
+      ≡ background_off a.style.color c.in-Ok.opened.head.supports_background_color
   color_tested = sym (color_is is_open c.args.style.color)
+
+-- an open font has the bytes that it was opened with
+of_bytes : {opened font text : List ℕ} {align : HorizontalAlignment} {pen : Pen} {context : Context} {before after : List ℕ}
+    {r : Report RenderedDimensions} → opened ≡ font → TextDrawn opened text align pen context before after r
+    → TextDrawn font text align pen context before after r
+of_bytes e d = rw (← e) d
 
 pub returns-in-Err : goal.returns-in-Err
 returns-in-Err c =
     let a = c.args in
     let q = request a.text.now a.placement a.style.vertical_pos a.horizontal_align in
-    let off = sym c.in-Err.ensures in
+    let off = c.in-Err.ensures in
     let told = reported_refused a.font.now q a.style.color a.framebuffer a.buffer.now c.refused.ensures
     (font_refused a.font.now q a.style.color a.framebuffer a.buffer.now off) (open_early a.font.now off) in
     record { answered = told.0; shown = told.1.0; summed = told.1.1 }
@@ -90,7 +100,6 @@ draw_aligned-requires c =
     let a = c.args in
     let on = sym (passed k) ∙ ap outcome c.in-Ok-checked_origin.is in
     record {
-      opened = is_open k;
       checked = request_checked _ (known k) (asked k) (heights k).0 (heights k).1 on;
       fits = size_fits a.framebuffer a.buffer.now (size_in k);
     }
@@ -100,7 +109,7 @@ returns-else-has_bad_color c =
     let k = (goal.at.returns-else-has_bad_color c).After-checked_origin in
     let a = c.args in
     let on = sym (passed k) ∙ ap outcome c.in-Ok-checked_origin.is in
-    let d = c.draw_aligned.ensures in
+    let d = of_bytes c.in-Ok.ensures.0 c.draw_aligned.ensures in
     let whole = drawn_whole_lem a.font.now (asked k) a.style.color a.framebuffer a.buffer.now (known k) (size_in k) on
     (color_tested k ∙ sym c.has_bad_color.ensures ∙ c.if-has_bad_color.false) in
     let told = reported a.font.now (asked k) a.style.color a.framebuffer a.buffer.now c.draw_aligned.result

@@ -12,7 +12,7 @@ pub draw_answer-requires : goal.draw_answer-requires
 draw_answer-requires c =
     let looked = c.retrieve_answer-answer.ensures.is in
     record {
-      runs = λ g e. runs_checked c.requires.opened c.args.pen.ignore_unknown_chars c.args.ch g (sym looked ∙ e);
+      runs = λ g e. runs_checked c.args.font.now.opened c.args.pen.ignore_unknown_chars c.args.ch g (sym looked ∙ e);
       room = c.requires.room;
       fits = c.requires.fits;
     }

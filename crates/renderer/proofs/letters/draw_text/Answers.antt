@@ -32,7 +32,6 @@ pub draw_char-drawn-requires : goal.draw_char-drawn-requires
 draw_char-drawn-requires c =
     let i = c.loop-at.invariant.drawn in
     record {
-      opened = c.requires.opened;
       room = measured_room c.requires.checked i.reached;
       line = c.requires.checked.line;
       fits = subst (λ (n : ℕ). Fits n c.args.context.framebuffer) (sym i.kept) c.requires.fits;
@@ -46,13 +45,14 @@ module _ (c : After-draw_char-drawn) where
   here : Position c.args.text.now c.loop-at.at c.in-Char.ch c.in-Char.len
   here = position _ _ first
 
-  brings_it : c.draw_char-drawn.result.steps ≡ brings (u8g2 c.args.font.now).steps c.in-Char.ch
+  brings_it : c.draw_char-drawn.result.steps ≡ brings (u8g2 c.args.font.now.bytes.now).steps c.in-Char.ch
   brings_it = c.draw_char-drawn.ensures.brought
 
   sum_fits : Fits32 (plus_steps c.loop-at.steps c.draw_char-drawn.result.steps)
   sum_fits =
       let s = c.requires in
-      summed_fits c.loop-at.invariant.summed first brings_it s.opened.least s.opened.most s.checked.short
+      let o = c.args.font.now.opened in
+      summed_fits c.loop-at.invariant.summed first brings_it o.least o.most s.checked.short
 
 pub add_steps-sum-requires : goal.add_steps-sum-requires
 add_steps-sum-requires c = sum_fits (goal.at.add_steps-sum-requires c).After-draw_char-drawn
@@ -90,7 +90,7 @@ loop-at-preserved c =
     let d = c.draw_char-drawn.ensures in
     let goes = sym d.counted ∙ ap outcome is in
     record {
-      drawn = drawn_next _ _ _ _ _ _ _ _ _ c.requires.checked i.drawn (first k) (drawn_small c.requires.opened _) goes d.shown
+      drawn = drawn_next _ _ _ _ _ _ _ _ _ c.requires.checked i.drawn (first k) (drawn_small c.args.font.now.opened _) goes d.shown
           c.draw_char-drawn.auto.buffer;
       summed = sum_next _ i.summed (first k) (brings_it k) c.add_steps-steps.ensures c.args.pen.line_height
           c.args.pen.origin c.loop-at.dimensions goes;

@@ -5,7 +5,7 @@ use Rattle.renderer.proofs.DrawingLaws.{DrawingTo}
 use Rattle.renderer.proofs.letters.draw_text.Given as goal
 
 abbrev pub invariant-loop-at : goal.invariant-loop-at
-invariant-loop-at l = DrawingTo l.font l.text l.initial.buffer l.pen l.fn.before l.context l.buffer l.dimensions l.steps l.at
+invariant-loop-at l = DrawingTo l.font.bytes.now l.text l.initial.buffer l.pen l.fn.before l.context l.buffer l.dimensions l.steps l.at
 
 abbrev pub decreases-loop-at : goal.decreases-loop-at
 decreases-loop-at l = length l.text - l.at

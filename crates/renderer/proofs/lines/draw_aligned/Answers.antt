@@ -10,7 +10,6 @@ pub draw_text-requires : goal.draw_text-requires
 draw_text-requires c =
     let s = c.requires in
     record {
-      opened = s.opened;
       checked = as_line s.checked;
       room = simp c.no_dimensions.ensures (within_start (as_line s.checked));
       fits = s.fits;

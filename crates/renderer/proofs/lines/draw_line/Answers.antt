@@ -13,13 +13,12 @@ module _ (c : In-Ok) where
   comes : outcome c.align_pen-aligned.result.result ≡ success c.in-Ok.line_pen
   comes = ap outcome c.in-Ok.is
 
-  moved : Moved c.args.font.now c.args.line.now c.args.setting.horizontal_align c.args.setting.pen c.in-Ok.line_pen
+  moved : Moved c.args.font.now.bytes.now c.args.line.now c.args.setting.horizontal_align c.args.setting.pen c.in-Ok.line_pen
   moved = pen_came _ _ _ _ c.in-Ok.line_pen (sym comes ∙ c.align_pen-aligned.ensures.aligned)
 
 pub draw_text-drawn-requires : goal.draw_text-drawn-requires
 draw_text-drawn-requires c =
     record {
-      opened = c.requires.opened;
       checked = c.align_pen-aligned.ensures.placed c.in-Ok.line_pen (comes (goal.at.draw_text-drawn-requires c).In-Ok);
       room = subst (λ (q : Pen). Within q.line_height 0 (code_points_of c.args.line.now) c.args.dimensions) (moved (goal.at.draw_text-drawn-requires c).In-Ok).is c.requires.room;
       fits = c.requires.fits;

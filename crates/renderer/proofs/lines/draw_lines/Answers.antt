@@ -12,7 +12,7 @@ pub loop-error-init : goal.loop-error-init
 loop-error-init c =
     let a = c.args in
     simp (c.no_dimensions-dimensions.ensures, c.no_steps-steps.ensures)
-    (lines_begin a.font.now a.text.now a.buffer.now a.setting a.context c.requires.0.checked)
+    (lines_begin a.font.now.bytes.now a.text.now a.buffer.now a.setting a.context c.requires.0.checked)
 
 pub line_end-end-requires : goal.line_end-end-requires
 line_end-end-requires c = c.loop-error.invariant.summed.reached.inside
@@ -44,19 +44,21 @@ pub draw_line-drawn-requires : goal.draw_line-drawn-requires
 draw_line-drawn-requires c =
     let e = (goal.at.draw_line-drawn-requires c).After-line_end-end in
     let k = c.requires.0 in
-    line_drawable _ _ _ _ _ c.loop-error.invariant k.opened k.checked k.fits (lent e)
+    line_drawable _ _ _ _ _ c.loop-error.invariant k.checked k.fits (lent e)
 
 pub add_steps-sum-requires : goal.add_steps-sum-requires
 add_steps-sum-requires c =
     let e = (goal.at.add_steps-sum-requires c).After-line_end-end in
     let p = c.requires.0 in
-    line_fits _ _ _ _ _ c.loop-error.invariant (lent e) _ c.draw_line-drawn.ensures refl p.opened.least p.opened.most p.checked.short
+    let o = c.args.font.now.opened in
+    line_fits _ _ _ _ _ c.loop-error.invariant (lent e) _ c.draw_line-drawn.ensures refl o.least o.most p.checked.short
 
 pub add_steps-steps-requires : goal.add_steps-steps-requires
 add_steps-steps-requires c =
     let e = (goal.at.add_steps-steps-requires c).After-line_end-end in
     let p = c.requires.0 in
-    line_fits _ _ _ _ _ c.loop-error.invariant (lent e) _ c.draw_line-drawn.ensures refl p.opened.least p.opened.most p.checked.short
+    let o = c.args.font.now.opened in
+    line_fits _ _ _ _ _ c.loop-error.invariant (lent e) _ c.draw_line-drawn.ensures refl o.least o.most p.checked.short
 
 pub returns-in-Err : goal.returns-in-Err
 returns-in-Err c =

@@ -4,7 +4,7 @@ use Rattle.renderer.proofs.LineLoopLaws.{LinesTo}
 use Rattle.renderer.proofs.lines.draw_lines.Given as goal
 
 abbrev pub invariant-loop-error : goal.invariant-loop-error
-invariant-loop-error l = LinesTo l.font l.text l.initial.buffer l.setting l.context l.buffer l.dimensions l.steps l.at
+invariant-loop-error l = LinesTo l.font.bytes.now l.text l.initial.buffer l.setting l.context l.buffer l.dimensions l.steps l.at
 
 abbrev pub decreases-loop-error : goal.decreases-loop-error
 decreases-loop-error l = length l.text + 1 - l.at

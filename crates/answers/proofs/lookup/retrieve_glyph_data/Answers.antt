@@ -1,4 +1,4 @@
--- The header read anew is `head`. The search's answer decides; a glyph that is found begins within the font.
+-- The search's answer decides; a glyph that is found begins within the font.
 use Rattle.std.specs.Prelude.{Ok, Err}
 use Rattle.integers.proofs.Prelude.{◌≡◌, refl, sym, ap, ◌∙◌, List, ℕ, ◌*◌}
 use Rattle.integers.proofs.Choices.{impossible}
@@ -10,15 +10,8 @@ use Rattle.definitions.specs.Lookup.{Search, found, missing, short, search as lo
 use Rattle.definitions.specs.Glyph.{fields, from_search, glyph}
 use Rattle.definitions.proofs.LookupLaws.{search_within}
 use Rattle.glyph_searcher.specs.Answers.{search_report}
-use Rattle.font_reader.specs.Lookups.{LookedUp}
-use Rattle.font_reader.proofs.retrieve_glyph_data.Goals as goal
-
-opened_again : {font : List ℕ} {head read : FontReader} → Opened font head → read ≡ header font → Opened font read
-opened_again o e = rw (e, ← o.read) o
-
-pub read_header-header-requires : goal.read_header-header-requires
-unfolding header
-read_header-header-requires c = (c.requires.least, rw c.requires.read at c.requires.height)
+use Rattle.answers.specs.Lookups.{LookedUp}
+use Rattle.answers.proofs.lookup.retrieve_glyph_data.Goals as goal
 
 -- What the search answers is what the lookup brings.
 module _ {font : List ℕ} {c : ℕ} {s : Search} (e : s ≡ lookup font c) where
@@ -43,16 +36,13 @@ refused_so {c = c} short {error = error} e k is =
     let same : error ≡ FontEnds c = cc in
     brought e (ap refusal same) (ap (λ (r : Report ℕ). r.steps) k)
 
-pub search-found-requires : goal.search-found-requires
-search-found-requires c = opened_again c.requires c.read_header-header.ensures
-
 pub new-requires : goal.new-requires
-new-requires c = (opened_again c.requires c.read_header-header.ensures, search_within _ _ _ _ (sym (was_found _ _ c.search-found.ensures c.in-Ok.is)))
+new-requires c = (c.args.font.now.opened, search_within _ _ _ _ (sym (was_found _ _ c.search-found.ensures c.in-Ok.is)))
 
 pub returns-in-Ok : goal.returns-in-Ok
 returns-in-Ok c =
     let a = c.args in
-    let fields_there = ap (λ (h : FontReader). fields a.font.now h a.ch (c.in-Ok.start * 8)) c.read_header-header.ensures in
+    let fields_there = ap (λ (h : FontReader). fields a.font.now.bytes.now h a.ch (c.in-Ok.start * 8)) a.font.now.opened.read in
     brought (was_found _ _ c.search-found.ensures c.in-Ok.is) (c.new.ensures ∙ fields_there) refl
 
 pub returns-in-Err : goal.returns-in-Err
