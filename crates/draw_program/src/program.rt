@@ -7,6 +7,7 @@ use draw_options::{Options, UnknownWord};
 use pgm::write_image;
 use picture_text::{EMPTY, color, print_rows};
 use pictures::whole::{DrawResult, draw_whole};
+use printing::{BoxOrNone, Dimensions};
 use std::io::Read;
 use std::rt::Files;
 use types::geometry::{RenderedDimensions, Size};
@@ -18,11 +19,10 @@ fn answer<R: Print>(
     dimensions: RenderedDimensions,
     align: Option<HorizontalAlignment>,
 ) {
-    match align {
-        None => printing::dimensions(rt, dimensions),
-        Some(_) => printing::bounding_box(rt, dimensions.bounding_box),
-    }
-    printing::text(rt, b"\n");
+    let _ = match align {
+        None => println!(rt; "ok {}", Dimensions(dimensions)),
+        Some(_) => println!(rt; "ok {}", BoxOrNone(dimensions.bounding_box)),
+    };
 }
 
 // The picture as text, or as an image in the file draw.pgm.
@@ -51,11 +51,10 @@ fn show_drawn<R: Files + Print + Eprint + Alloc>(
 }
 
 fn show_too_large<R: Print>(rt: &R, size: Size) {
-    printing::text(rt, b"the text takes");
-    printing::unsigned(rt, size.width);
-    printing::text(rt, b" by");
-    printing::unsigned(rt, size.height);
-    printing::text(rt, b" pixels, and a framebuffer has at most 256 by 256\n");
+    let Size { width, height } = size;
+    let _ = println!(rt;
+        "the text takes {width} by {height} pixels, and a framebuffer has at most 256 by 256"
+    );
 }
 
 fn show<R: Files + Print + Eprint + Alloc>(

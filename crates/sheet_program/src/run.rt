@@ -6,8 +6,8 @@ use crate::values::Sheet;
 use faulty_step::Trial;
 use readings::step::step;
 use sheet_ground::texts::COUNT;
-use sheet_report::{Refusals, print_difference, print_refusals, with_answer};
-use sheet_totals::{counted, no_totals};
+use sheet_report::{print_difference, print_refusals, with_answer};
+use sheet_totals::Totals;
 use sight::sight_of;
 use std::io::{Result, Write};
 
@@ -27,14 +27,14 @@ pub fn run<R: Print, W: Write + Drop>(
 {
     let place = trial.place;
     let framebuffer = place.framebuffer;
-    let mut totals = no_totals();
-    let mut refusals = Refusals::Not;
+    let mut totals = Totals::default();
+    let mut refusals = None;
     let mut old = COUNT;
     for k in 0..COUNT {
         let found = step(font, old, k, trial, ground, &mut screen[..], &mut alone[..]);
         let answer = found.answer;
         let sight = sight_of(answer, framebuffer);
-        totals = counted(totals, sight, found.differing);
+        totals = totals.counted(sight, found.differing);
         refusals = with_answer(rt, refusals, k, answer);
         print_difference(rt, k, found.differing);
         cells = cells.and_then(|file| with_cell(file, sight, found.differing, &screen[..]));

@@ -33,17 +33,7 @@ refused_one Part = 0
 refused_one Unseen = 0
 refused_one Refused = 1
 
--- one reading more, by what is seen of it ..
-abbrev pub seen_one : Totals → Sight → Totals
-seen_one t s = record {
-  whole = t.whole + whole_one s;
-  part = t.part + part_one s;
-  unseen = t.unseen + unseen_one s;
-  refused = t.refused + refused_one s;
-  differing = t.differing;
-}
-
--- .. and by how many pixels differ
+-- one reading more, by what is seen of it and by how many pixels differ
 abbrev pub tallied : Totals → Sight → ℕ → Totals
 tallied t s n = record {
   whole = t.whole + whole_one s;

@@ -1,17 +1,19 @@
 -- The screen and the totals are those of the first k readings, and SheetLaws has what holds of all.
-use Rattle.std.proofs.Common.{◌≡◌, refl, sym, ap, subst, ◌∙◌, arith}
+use Rattle.std.proofs.Common.{rules, ◌≡◌, refl, sym, ap, subst, ◌∙◌, arith}
 use Rattle.readings.specs.Sheet.{SheetState, screen_of, screen_at, totals_to, Sound}
 use Rattle.readings.proofs.SheetLaws.{start_screen, start_totals, few, next_screen, next_totals, sound}
+use Rattle.sheet_totals.specs.Totals.{no_totals}
 use Rattle.sheet_program.proofs.run.run.Goals as goal
 
 pub loop-k-init : goal.loop-k-init
 loop-k-init g c =
     let a = c.args in
+    let none : c.default-totals.result ≡ no_totals = search rules in
     record {
       screen-length = refl;
       alone-length = refl;
       here = ap (screen_of 901) c.requires.begins ∙ start_screen a.trial.narrow a.font.now a.trial.place a.ground.now;
-      counts = c.no_totals-totals.ensures ∙ start_totals a.trial.narrow a.font.now a.trial.place a.ground.now;
+      counts = none ∙ start_totals a.trial.narrow a.font.now a.trial.place a.ground.now;
     }
 
 pub counted-totals-requires : goal.counted-totals-requires
