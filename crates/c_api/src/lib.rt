@@ -18,7 +18,7 @@ ghost use Rattle.c_api.specs.Places.{place_by};
 
 use c_codes::known_codes;
 use c_values::header::store_header;
-use c_values::reply::{of_bounding_box, of_dimensions, of_rectangle, store};
+use c_values::reply::{Reply, store};
 use font_reader::new_from_raw_data;
 use lookup_sums::no_steps;
 use measuring::font_bounding_box::get_font_bounding_box;
@@ -61,9 +61,8 @@ pub extern "C" fn papayahelm_font_box(font: &[u8], anchor: u32, out: &mut [i64])
     let Some(m) = known_codes(anchor, 0, 0, 0, out.len()) else {
         return BAD_ARGUMENT;
     };
-    let vertical_pos = m.vertical_pos;
-    let result = get_font_bounding_box(font, vertical_pos);
-    store(out, of_rectangle(result), no_steps())
+    let result = get_font_bounding_box(font, m.vertical_pos);
+    store(out, Reply::of(result), no_steps())
 }
 
 // The dimensions that a text has when it is drawn.
@@ -89,9 +88,7 @@ pub extern "C" fn papayahelm_measure(
     let vertical_pos = m.vertical_pos;
     let placement = m.placement(x, y, line_height);
     let report = get_rendered_dimensions(font, text, placement, vertical_pos);
-    let result = report.result;
-    let steps = report.steps;
-    store(out, of_dimensions(result), steps)
+    store(out, Reply::of(report.result), report.steps)
 }
 
 // The bounding box of a text whose lines are aligned.
@@ -125,9 +122,7 @@ pub extern "C" fn papayahelm_measure_aligned(
         vertical_pos,
         horizontal_align,
     );
-    let result = report.result;
-    let steps = report.steps;
-    store(out, of_bounding_box(result), steps)
+    store(out, Reply::of(report.result), report.steps)
 }
 
 // Draws a text into the buffer, one byte a pixel.
@@ -163,9 +158,7 @@ pub extern "C" fn papayahelm_draw(
     let placement = m.placement(x, y, line_height);
     let framebuffer = Framebuffer { width, height };
     let report = render(font, text, placement, style, framebuffer, buffer);
-    let result = report.result;
-    let steps = report.steps;
-    store(out, of_dimensions(result), steps)
+    store(out, Reply::of(report.result), report.steps)
 }
 
 // Draws a text whose lines are aligned.
@@ -212,9 +205,7 @@ pub extern "C" fn papayahelm_draw_aligned(
         framebuffer,
         buffer,
     );
-    let result = report.result;
-    let steps = report.steps;
-    store(out, of_bounding_box(result), steps)
+    store(out, Reply::of(report.result), report.steps)
 }
 
 // Clears the old text's reading with one colour and draws the new text's, whole or not at all.
@@ -263,7 +254,5 @@ pub extern "C" fn papayahelm_redraw(
         framebuffer: Framebuffer { width, height },
     };
     let report = redraw(font, old_text, new_text, place, buffer);
-    let result = report.result;
-    let steps = report.steps;
-    store(out, of_dimensions(result), steps)
+    store(out, Reply::of(report.result), report.steps)
 }

@@ -1,7 +1,7 @@
 -- How a call's outcome reaches a caller in C: a status, and ten numbers stored in the slice `out`.
-use Rattle.std.specs.Prelude.{◌≡◌, List, [], ◌∷◌, ◌++◌, Option, Some as Known, None as Unknown, ℕ, ℤ, pos}
+use Rattle.std.specs.Prelude.{◌≡◌, List, [], ◌∷◌, ◌++◌, Option, Some, None, ℕ, ℤ, pos}
 use lib.Seq.{sets}
-use Rattle.definitions.specs.Vocabulary.{Error, BoundingBox, None, Some, Point, Rectangle, RenderedDimensions, LookupSteps}
+use Rattle.definitions.specs.Vocabulary.{Error, BoundingBox, Point, Rectangle, RenderedDimensions, LookupSteps}
 use Rattle.definitions.specs.Refusals.{Outcome, success, refused, error_number, code_point}
 use Rattle.definitions.specs.Lookup.{no_steps}
 use Rattle.definitions.specs.Text.{point}
@@ -54,17 +54,28 @@ bounds_reply advance None = record {
   height = pos 0;
 }
 
+-- What succeeds with a value of its own shape, or is refused.
+abbrev pub reply_by : {A : Type 0} → (A → Reply) → Outcome A → Reply
+reply_by shape (success a) = shape a
+reply_by shape (refused n c) = refused_reply n c
+
+abbrev pub rectangle_reply : Rectangle → Reply
+rectangle_reply = boxed_reply (point (pos 0) (pos 0))
+
 abbrev pub box_reply : Outcome Rectangle → Reply
-box_reply (success r) = boxed_reply (point (pos 0) (pos 0)) r
-box_reply (refused n c) = refused_reply n c
+box_reply = reply_by rectangle_reply
+
+abbrev pub dimensions_reply : RenderedDimensions → Reply
+dimensions_reply d = bounds_reply d.advance d.bounding_box
 
 abbrev pub text_reply : Outcome RenderedDimensions → Reply
-text_reply (success d) = bounds_reply d.advance d.bounding_box
-text_reply (refused n c) = refused_reply n c
+text_reply = reply_by dimensions_reply
+
+abbrev pub bounding_box_reply : BoundingBox → Reply
+bounding_box_reply = bounds_reply (point (pos 0) (pos 0))
 
 abbrev pub aligned_reply : Outcome BoundingBox → Reply
-aligned_reply (success b) = bounds_reply (point (pos 0) (pos 0)) b
-aligned_reply (refused n c) = refused_reply n c
+aligned_reply = reply_by bounding_box_reply
 
 -- A reply, and the steps of the lookups that go with it ..
 pub record Counted : Type 0 where
@@ -96,17 +107,17 @@ stored a out = sets out 0 (values a.reply ++ step_values a.steps)
 
 -- What a call comes to by its codes: status 255 and nothing stored where one has no meaning.
 abbrev pub status : Option Meaning → (Meaning → Counted) → ℕ
-status Unknown answer = 255
-status (Known m) answer = (answer m).reply.status
+status None answer = 255
+status (Some m) answer = (answer m).reply.status
 
 abbrev pub stored_reply : Option Meaning → (Meaning → Counted) → List ℤ → List ℤ
-stored_reply Unknown answer out = out
-stored_reply (Known m) answer out = stored (answer m) out
+stored_reply None answer out = out
+stored_reply (Some m) answer out = stored (answer m) out
 
 abbrev pub Answers : Option Meaning → (Meaning → Counted) → ℕ → List ℤ → List ℤ → Type 0
 Answers codes answer r before after = (r ≡ status codes answer) × (after ≡ stored_reply codes answer before)
 
 -- What the framebuffer holds after drawing: as it was where a code has no meaning.
 abbrev pub drawn_by : Option Meaning → (Meaning → List ℕ) → List ℕ → List ℕ
-drawn_by Unknown drawn buffer = buffer
-drawn_by (Known m) drawn buffer = drawn m
+drawn_by None drawn buffer = buffer
+drawn_by (Some m) drawn buffer = drawn m

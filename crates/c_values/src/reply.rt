@@ -1,11 +1,9 @@
 // What a call answers, and how it is stored for the caller.
-ghost use Rattle.std.specs.Prelude.{◌≡◌, ◌≤◌, pos, length};
-ghost use Rattle.definitions.specs.Refusals.{outcome};
-ghost use Rattle.c_values.specs.Replies.{refused_reply, error_reply, boxed_reply, bounds_reply, box_reply, text_reply, aligned_reply};
-ghost use Rattle.c_values.specs.Replies.{counted, stored};
+ghost use Rattle.std.specs.Prelude.{◌≡◌, ◌≤◌, length, MatchResult};
+ghost use Rattle.c_values.specs.Replies.{error_reply, rectangle_reply, dimensions_reply, bounding_box_reply, counted, stored};
 
 use types::error::Error;
-use types::geometry::{Point, Rectangle, RenderedDimensions};
+use types::geometry::{Point, Rectangle, RenderedDimensions, Size};
 use types::steps::LookupSteps;
 use utils::error::{error_code_point, error_number};
 
@@ -17,7 +15,7 @@ pub struct Reply {
     // the advance
     pub x: i64,
     pub y: i64,
-    // 1 where there is a box
+    // 1 where there is a box: a flag beside its numbers, as C reads them
     pub boxed: i64,
     pub left: i64,
     pub top: i64,
@@ -25,91 +23,83 @@ pub struct Reply {
     pub height: i64,
 }
 
-fn refused(status: u32, code_point: u32) -> Reply
-    ensures { result ≡ refused_reply status code_point }
-{
-    Reply {
-        status,
-        code_point: i64::from(code_point),
-        x: 0,
-        y: 0,
-        boxed: 0,
-        left: 0,
-        top: 0,
-        width: 0,
-        height: 0,
-    }
-}
+impl From<Error> for Reply {
+    ghost from_gives = { λ e r. r ≡ error_reply e };
 
-fn of_error(error: Error) -> Reply
-    ensures { result ≡ error_reply error }
-{
-    refused(error_number(error), error_code_point(error))
-}
-
-fn boxed(advance: Point, area: Rectangle) -> Reply
-    ensures { result ≡ boxed_reply advance area }
-{
-    Reply {
-        status: 0,
-        code_point: 0,
-        x: i64::from(advance.x),
-        y: i64::from(advance.y),
-        boxed: 1,
-        left: i64::from(area.top_left.x),
-        top: i64::from(area.top_left.y),
-        width: i64::from(area.size.width),
-        height: i64::from(area.size.height),
-    }
-}
-
-fn of_bounds(advance: Point, bounding_box: Option<Rectangle>) -> Reply
-    ensures { result ≡ bounds_reply advance bounding_box }
-{
-    match bounding_box {
-        Some(area) => boxed(advance, area),
-        None => Reply {
-            status: 0,
-            code_point: 0,
-            x: i64::from(advance.x),
-            y: i64::from(advance.y),
+    fn from(error: Error) -> Reply {
+        Reply {
+            status: error_number(error),
+            code_point: i64::from(error_code_point(error)),
+            x: 0,
+            y: 0,
             boxed: 0,
             left: 0,
             top: 0,
             width: 0,
             height: 0,
-        },
-    }
-}
-
-pub fn of_rectangle(res: Result<Rectangle, Error>) -> Reply
-    ensures { result ≡ box_reply (outcome res) }
-{
-    match res {
-        Ok(area) => boxed(Point { x: 0, y: 0 }, area),
-        Err(error) => of_error(error),
-    }
-}
-
-pub fn of_dimensions(res: Result<RenderedDimensions, Error>) -> Reply
-    ensures { result ≡ text_reply (outcome res) }
-{
-    match res {
-        Ok(dimensions) => {
-            let advance = dimensions.advance;
-            let bounding_box = dimensions.bounding_box;
-            of_bounds(advance, bounding_box)
         }
-        Err(error) => of_error(error),
     }
 }
 
-pub fn of_bounding_box(res: Result<Option<Rectangle>, Error>) -> Reply
-    ensures { result ≡ aligned_reply (outcome res) }
-{
-    match res {
-        Ok(bounding_box) => of_bounds(Point { x: 0, y: 0 }, bounding_box),
-        Err(error) => of_error(error),
+impl From<RenderedDimensions> for Reply {
+    ghost from_gives = { λ d r. r ≡ dimensions_reply d };
+
+    fn from(dimensions: RenderedDimensions) -> Reply {
+        let RenderedDimensions {
+            advance,
+            bounding_box,
+        } = dimensions;
+        // C has no Option: zeros stand where there is no box
+        let area = bounding_box.unwrap_or(Rectangle {
+            top_left: Point { x: 0, y: 0 },
+            size: Size {
+                width: 0,
+                height: 0,
+            },
+        });
+        Reply {
+            status: 0,
+            code_point: 0,
+            x: i64::from(advance.x),
+            y: i64::from(advance.y),
+            boxed: i64::from(bounding_box.is_some()),
+            left: i64::from(area.top_left.x),
+            top: i64::from(area.top_left.y),
+            width: i64::from(area.size.width),
+            height: i64::from(area.size.height),
+        }
+    }
+}
+
+// A call without an advance stores zeros for it.
+impl From<Option<Rectangle>> for Reply {
+    ghost from_gives = { λ b r. r ≡ bounding_box_reply b };
+
+    fn from(bounding_box: Option<Rectangle>) -> Reply {
+        Reply::from(RenderedDimensions {
+            advance: Point { x: 0, y: 0 },
+            bounding_box,
+        })
+    }
+}
+
+impl From<Rectangle> for Reply {
+    ghost from_gives = { λ a r. r ≡ rectangle_reply a };
+
+    fn from(area: Rectangle) -> Reply {
+        Reply::from(Some(area))
+    }
+}
+
+impl Reply {
+    // What a call answers, or why it is refused.
+    pub fn of<T: Into<Reply>>(answer: Result<T, Error>) -> Reply
+        ensures { MatchResult answer (λ a. T.converts a result) (λ e. result ≡ error_reply e) }
+    {
+        match answer {
+            Ok(value) => value.into(),
+            Err(error) => Reply::from(error),
+        }
     }
 }
 

@@ -1,8 +1,8 @@
 -- The answer is what drawing ensures once the codes have a meaning.
 use Rattle.integers.proofs.Prelude.{refl, ap, ◌∙◌, to_z-of_z}
-use Rattle.c_values.specs.Replies.{aligned_reply}
+use Rattle.c_values.specs.Replies.{aligned_reply, bounding_box_reply}
 use Rattle.c_codes.proofs.CodesLaws.{has_room}
-use Rattle.c_values.proofs.RepliesLaws.{not_drawn, drawn}
+use Rattle.c_values.proofs.RepliesLaws.{as_outcome, not_drawn, drawn}
 use Rattle.c_api.proofs.papayahelm_draw_aligned.Goals as goal
 
 pub returns-in_default : goal.returns-in_default
@@ -22,6 +22,6 @@ returns c =
     let shown = rw (placement, style) at call.shown in
     let summed = rw (placement, style) at call.summed in
     let d =
-    drawn c.in-Some.ensures _ _ _ _ refl (c.of_bounding_box.ensures ∙ ap aligned_reply answered) summed c.store.ensures shown
+    drawn c.in-Some.ensures _ _ _ _ refl (as_outcome bounding_box_reply _ c.of.ensures ∙ ap aligned_reply answered) summed c.store.ensures shown
     in
     record { answered = d.0; shown = d.1 }

@@ -1,8 +1,8 @@
 -- The answer is what the call ensures once the codes have a meaning.
 use Rattle.integers.proofs.Prelude.{refl, ap, ◌∙◌}
-use Rattle.c_values.specs.Replies.{box_reply}
+use Rattle.c_values.specs.Replies.{box_reply, rectangle_reply}
 use Rattle.c_codes.proofs.CodesLaws.{has_room}
-use Rattle.c_values.proofs.RepliesLaws.{bad_argument, answers}
+use Rattle.c_values.proofs.RepliesLaws.{as_outcome, bad_argument, answers}
 use Rattle.c_api.proofs.papayahelm_font_box.Goals as goal
 
 pub returns-in_default : goal.returns-in_default
@@ -14,6 +14,6 @@ store-requires c = has_room _ _ _ _ _ c.in-Some.ensures refl
 pub returns : goal.returns
 returns c =
     answers c.in-Some.ensures _ _ refl
-    (c.of_rectangle.ensures ∙ ap box_reply c.get_font_bounding_box-result.ensures)
+    (as_outcome rectangle_reply _ c.of.ensures ∙ ap box_reply c.get_font_bounding_box-result.ensures)
     c.no_steps.ensures
     c.store.ensures
