@@ -14,11 +14,7 @@ use types::geometry::{RenderedDimensions, Size};
 use types::style::HorizontalAlignment;
 
 // The call's answer: an aligned one has no advance.
-fn answer<R: Print>(
-    rt: &R,
-    dimensions: RenderedDimensions,
-    align: Option<HorizontalAlignment>,
-) {
+fn answer<R: Print>(rt: &R, dimensions: RenderedDimensions, align: Option<HorizontalAlignment>) {
     let _ = match align {
         None => println!(rt; "ok {}", Dimensions(dimensions)),
         Some(_) => println!(rt; "ok {}", BoxOrNone(dimensions.bounding_box)),
