@@ -1,3 +1,2 @@
 pub mod CopyLaws
 pub mod WriteLaws
-pub mod DifferenceLaws

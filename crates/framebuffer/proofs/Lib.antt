@@ -1,4 +1,3 @@
-pub mod ColumnLaws
 pub mod RowLaws
 pub mod PartLaws
 pub mod ClampLaws

@@ -5,7 +5,6 @@ ghost use Rattle.definitions.specs.Framebuffer.{shown};
 ghost use Rattle.framebuffer.specs.Areas.{BufferFits, clamped, area, AreaFits, fill_picture};
 
 use crate::clamp;
-use buffers::fill;
 use types::framebuffer::Framebuffer;
 use types::geometry::Rectangle;
 
@@ -13,13 +12,13 @@ use types::geometry::Rectangle;
 pub fn clamp_start(start: i32, limit: usize) -> usize
     ensures { result ≡ clamped start limit }
 {
-    clamp(start as i64, limit)
+    clamp(i64::from(start), limit)
 }
 
 fn clamp_end(start: i32, len: u32, limit: usize) -> usize
     ensures { result ≡ clamped (start +ℤ pos len) limit }
 {
-    clamp((start as i64) + (len as i64), limit)
+    clamp(i64::from(start) + i64::from(len), limit)
 }
 
 // Fills the rows of an area of which every pixel is on the framebuffer.
@@ -36,12 +35,10 @@ fn fill_rows(
     ensures { buffer.new ≡ shown framebuffer.width (fill_picture color (Some (area left right top bottom)))
         buffer.old }
 {
-    let mut row = top;
-    while row < bottom {
+    for row in top..bottom {
         let start = row * framebuffer.width + left;
         let end = start + (right - left);
-        fill(&mut buffer[start..end], color);
-        row += 1;
+        buffer[start..end].fill(color);
     }
 }
 

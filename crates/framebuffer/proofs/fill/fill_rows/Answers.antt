@@ -29,7 +29,7 @@ loop-row-preserved c =
       within = omega arith;
       long = search rules;
       filled = λ some. next_row some a.color a.left a.right a.top a.buffer.now l.row c.requires.columns l.invariant.begun c.requires.within row_in _ n
-          (l.invariant.filled some) c.fill.ensures;
+          (l.invariant.filled some) (c.fill.ensures.after (λ y e. e));
     }
 
 pub returns : goal.returns
