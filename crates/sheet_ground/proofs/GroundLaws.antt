@@ -143,7 +143,6 @@ module _ (font : List ℕ) (place : Place) where
 
   -- The boxes of the first k readings are cleared.
   pub record LaidTo (before after : List ℕ) (k : ℕ) : Type 0 where
-    pub within : k ≤ 901
     pub long : length after ≡ length before
     pub is : after ≡ cleared_to font place k (rubbish (length before))
 

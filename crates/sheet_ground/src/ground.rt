@@ -14,10 +14,8 @@ use types::style::Placement;
 fn fill_with_rubbish(buffer: &mut [u8])
     ensures { buffer.new ≡ rubbish (length buffer.old) }
 {
-    let mut i: usize = 0;
-    while i < buffer.len() {
-        buffer[i] = (96 + i % 101) as u8;
-        i += 1;
+    for (i, pixel) in buffer.iter_mut().enumerate() {
+        *pixel = (96 + i % 101) as u8;
     }
 }
 
@@ -51,9 +49,7 @@ pub fn lay_ground(font: &[u8], place: Place, buffer: &mut [u8])
     ensures { GroundLaid font.now place buffer.new }
 {
     fill_with_rubbish(&mut buffer[..]);
-    let mut k: usize = 0;
-    while k < COUNT {
+    for k in 0..COUNT {
         clear_reading(font, k, place, &mut buffer[..]);
-        k += 1;
     }
 }

@@ -7,14 +7,13 @@ use Rattle.sheet_ground.proofs.ground.lay_ground.Goals as goal
 pub loop-k-init : goal.loop-k-init
 loop-k-init c =
     let a = c.args in
-    record { within = omega arith; long = refl; is = laid_start a.font.now a.place (length a.buffer.now) _ c.fill_with_rubbish.ensures }
+    record { long = refl; is = laid_start a.font.now a.place (length a.buffer.now) _ c.fill_with_rubbish.ensures }
 
 pub loop-k-preserved : goal.loop-k-preserved
 loop-k-preserved c =
     let a = c.args in
     let l = c.loop-k in
     record {
-      within = omega arith;
       long = omega (arith, c.clear_reading.auto.buffer, l.invariant.long);
       is = laid_next a.font.now a.place _ l.k l.invariant.is c.clear_reading.ensures;
     }
