@@ -1,25 +1,20 @@
 -- The text of an angle, piece by piece from its start. Assumes nothing.
-use Rattle.integers.proofs.Prelude.{◌≡◌, refl, Bool, true, false, List, [], ◌∷◌, ◌++◌, ℕ, ◌/◌, ◌%◌, ◌≤◌, ◌<◌, ltb, lt-ltb, le-ltb, ℤ, pos, lt_z, nat_abs, append_assoc}
+use Rattle.integers.proofs.Prelude.{◌≡◌, refl, Bool, true, false, List, [], ◌∷◌, ◌++◌, append_assoc, ℕ, ◌/◌, ◌%◌, ◌≤◌, ◌<◌, ◌*◌, ◌+◌, arith, dec_lt, mod-eq_of_lt}
+use Rattle.integers.proofs.Prelude.{length, length-append, ltb, lt-ltb, le-ltb, ℤ, pos, lt_z, nat_abs}
 use Rattle.integers.specs.Integers.{pick}
-use Rattle.angles.specs.AngleText.{digit, degrees_then, sign_then, angle_text}
+use Rattle.numbers.specs.Decimal.{decimal}
+use Rattle.numbers.proofs.DecimalLaws.{decimal_small, decimal_more}
+use Rattle.numbers.proofs.DigitsLaws.{few_digits}
+use Rattle.angles.specs.AngleText.{degrees_then, sign_then, angle_text}
 
-module _ (n : ℕ) (rest : List ℕ) where
-  pub one_digit : n < 10 → degrees_then n rest ≡ digit n ∷ rest
-  unfolding degrees_then
-  one_digit h = rw (lt-ltb n 10 h)
-
-  pub two_digits : 10 ≤ n → degrees_then n rest ≡ digit (n / 10) ∷ digit (n % 10) ∷ rest
-  unfolding degrees_then
-  two_digits h = rw (le-ltb n 10 h)
-
-  degrees_first : degrees_then n [] ++ rest ≡ degrees_then n rest
-  unfolding degrees_then
-  degrees_first = by_test (ltb n 10)
-    where
-      by_test : (t : Bool)
-          → pick t (digit n ∷ []) (digit (n / 10) ∷ digit (n % 10) ∷ []) ++ rest ≡ pick t (digit n ∷ rest) (digit (n / 10) ∷ digit (n % 10) ∷ rest)
-      by_test true = refl
-      by_test false = refl
+-- degrees below 100 are a number in decimal
+degrees_decimal : (n : ℕ) (rest : List ℕ) → n < 100 → degrees_then n rest ≡ decimal n ++ rest
+unfolding degrees_then
+degrees_decimal n rest h = by_size (dec_lt n 10)
+  where
+    by_size : Dec (n < 10) → pick (ltb n 10) ((48 + n) ∷ rest) ((48 + n / 10) ∷ (48 + n % 10) ∷ rest) ≡ decimal n ++ rest
+    by_size (yes p) = rw (lt-ltb n 10 p, decimal_small n p) refl
+    by_size (no p) = rw (le-ltb n 10 (omega arith), decimal_more n (omega arith), decimal_small (n / 10) (omega arith)) refl
 
 sign_first : (z : ℤ) (rest : List ℕ) → sign_then z [] ++ rest ≡ sign_then z rest
 sign_first z rest = by_tests (lt_z z (pos 0)) (lt_z (pos 0) z)
@@ -30,10 +25,18 @@ sign_first z rest = by_tests (lt_z z (pos 0)) (lt_z (pos 0) z)
     by_tests false false = refl
 
 -- the sign, the degrees, the point and the tenth
-pub in_pieces : (z : ℤ)
-    → ((sign_then z [] ++ degrees_then (nat_abs z / 10) []) ++ 46 ∷ []) ++ digit (nat_abs z % 10) ∷ [] ≡ angle_text z
+pub in_pieces : (z : ℤ) → nat_abs z ≤ 999
+    → ((sign_then z [] ++ decimal (nat_abs z / 10)) ++ 46 ∷ []) ++ decimal (nat_abs z % 10) ≡ angle_text z
 unfolding angle_text
-in_pieces z =
+in_pieces z h =
     let d = nat_abs z / 10 in
-    let t = 46 ∷ digit (nat_abs z % 10) ∷ [] in
-    simp append_assoc (rw (degrees_first d t, sign_first z (degrees_then d t)))
+    let t = (48 + nat_abs z % 10) ∷ [] in
+    rw (decimal_small (nat_abs z % 10) (omega arith), ← sign_first z (degrees_then d (46 ∷ t)), degrees_decimal d (46 ∷ t) (omega arith)) (simp append_assoc)
+
+pub two_digits : (n : ℕ) → n < 100 → length (decimal n) ≤ 2
+two_digits n h = few_digits 1 n (omega arith)
+
+pub one_digit : (n : ℕ) → n < 10 → length (decimal n) ≤ 1
+one_digit n h = few_digits 0 n (omega arith)
+
+pub ruleset angle_pieces = (in_pieces, two_digits, one_digit, length-append)

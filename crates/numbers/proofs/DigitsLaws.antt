@@ -1,6 +1,6 @@
 -- The digits that `io::decimal` writes, the fewest that hold the number, are the definition's.
 use Rattle.integers.proofs.Prelude.{◌≡◌, ℕ, zero, suc, ◌+◌, ◌-◌, ◌/◌, ◌%◌, ◌^◌, ◌≤◌, ◌<◌, mod-eq_of_lt, pow-suc, pow-le-pow_right, dec_lt, arith}
-use Rattle.integers.proofs.Prelude.{lt-ltb}
+use Rattle.integers.proofs.Prelude.{lt-ltb, length, length-append}
 use Rattle.io.specs.Digits.{hex_digit_ascii, last_digits, IsDigitCount}
 use Rattle.numbers.specs.Decimal.{decimal}
 use Rattle.numbers.proofs.DecimalLaws.{decimal_small, decimal_more}
@@ -24,10 +24,18 @@ spelled (suc (suc k)) n f =
     let e : last_digits 10 (suc k) (n / 10) ≡ decimal (n / 10) = spelled (suc k) (n / 10) (omega arith, omega arith, λ h. rw j (omega arith)) in
     rw (decimal_more n ten, e, code (n % 10) (omega arith))
 
--- .. and a u32 has at most ten.
-pub at_most_ten : (k n : ℕ) → n < 2 ^ 32 → IsDigitCount 10 1 n k → k ≤ 10
-at_most_ten k n h f = split (dec_lt 10 k)
+-- As many digits as it takes, ..
+pub few_digits : (k n : ℕ) → n < 10 ^ suc k → length (decimal n) ≤ suc k
+few_digits zero n h = rw (decimal_small n (omega arith)) (omega arith)
+few_digits (suc k) n h = by_size (dec_lt n 10) (few_digits k (n / 10) (omega (arith, pow-suc 10 (suc k))))
   where
-    split : Dec (10 < k) → k ≤ 10
-    split (yes p) = absurd (omega (arith, f.2 (omega arith), pow-le-pow_right {n = 10} (omega arith) {i = 10} {j = k - 1} (omega arith)))
-    split (no p) = omega arith
+    by_size : Dec (n < 10) → length (decimal (n / 10)) ≤ suc k → length (decimal n) ≤ suc (suc k)
+    by_size (yes p) fewer = rw (decimal_small n p) (omega arith)
+    by_size (no p) fewer = rw (decimal_more n (omega arith), length-append) (omega arith)
+
+-- .. of a u32 at most ten.
+pub ten_digits : (n : ℕ) → n < 2 ^ 32 → length (decimal n) ≤ 10
+ten_digits n h = few_digits 9 n (omega arith)
+
+-- .. for the length of a text with a number behind it.
+pub ruleset number_fits = (ten_digits, length-append)

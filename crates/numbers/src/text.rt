@@ -55,19 +55,18 @@ impl<const N: usize> Text<N> {
         self.len = end;
     }
 
-    // The digits of a number, of which a u32 has at most ten.
     #[tactic(auto, using(crate::proofs::DigitsLaws::spelled))]
-    fn push_digits(&mut self, n: u32)
-        requires { length self.old + 10 ≤ N }
-        ensures digits { self.new ≡ self.old ++ decimal n }
-        ensures few { length self.new ≤ length self.old + 10 }
+    pub fn push_digits(&mut self, n: u32)
+        requires { length self.old + length (decimal n) ≤ N }
+        ensures { self.new ≡ self.old ++ decimal n }
     {
         let mut digits = [0u8; 20];
         let count = io::decimal(u64::from(n), &mut digits);
         self.push_bytes(&digits[..count]);
     }
 
-    /// A number after a space.
+    /// A number after a space. A u32 has at most ten digits.
+    #[tactic(auto, using(crate::proofs::DigitsLaws::number_fits))]
     pub fn push_unsigned(&mut self, n: u32)
         requires { length self.old + 11 ≤ N }
         ensures number { self.new ≡ self.old ++ 32 ∷ decimal n }
@@ -77,6 +76,7 @@ impl<const N: usize> Text<N> {
         self.push_digits(n);
     }
 
+    #[tactic(auto, using(crate::proofs::DigitsLaws::number_fits))]
     pub fn push_signed(&mut self, n: i32)
         requires { length self.old + 12 ≤ N }
         ensures number { self.new ≡ self.old ++ 32 ∷ signed_decimal n }
