@@ -2,37 +2,28 @@
 ghost use Rattle.std.specs.Prelude.{◌≡◌, true, ◌≤◌, length};
 ghost use Rattle.definitions.specs.Utf8.{decode, is_utf8, code_points, newlines};
 
-use utf8::next_char;
-use utf8_sequences::NextChar;
+use utf8::split_first_char;
 
 // Whether the whole text is UTF-8: any other is refused before its first letter (SPECIFICATION, Refusals).
+#[tactic(auto, using(crate::proofs::TextLaws::texts))]
 pub fn is_utf8(text: &[u8]) -> bool
-    requires { length text.now ≤ 4096 }
     ensures { result ≡ is_utf8 (decode text.now) }
 {
-    let mut at: usize = 0;
-    while at < text.len() {
-        let next = next_char(text, at);
-        let NextChar::Char(_, len) = next else {
+    let mut rest = text;
+    while !rest.is_empty() {
+        let Some((_, tail)) = split_first_char(rest) else {
             return false;
         };
-        at += len;
+        rest = tail;
     }
     true
 }
 
 // The number of newlines. The byte 10 is no part of a longer sequence, so the bytes are counted.
+#[tactic(auto, using(crate::proofs::TextLaws::texts))]
 pub fn get_newline_count(text: &[u8]) -> u32
     requires { (length text.now ≤ 4096) × (is_utf8 (decode text.now) ≡ true) }
     ensures { result ≡ newlines (code_points (decode text.now)) }
 {
-    let mut count: u32 = 0;
-    let mut i: usize = 0;
-    while i < text.len() {
-        if text[i] == b'\n' {
-            count += 1;
-        }
-        i += 1;
-    }
-    count
+    text.iter().filter(|byte| **byte == b'\n').count() as u32
 }

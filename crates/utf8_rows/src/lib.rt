@@ -12,23 +12,23 @@ pub enum Row {
     Two(u8, u8),
     Three(u8, u8),
     Four(u8, u8),
-    None,
 }
 
-// The row of a first byte.
-pub fn row_of(lead: u8) -> Row
+// The row of a first byte, where a sequence begins so.
+#[tactic(auto, using(crate::proofs::TableRows::table_rows))]
+pub fn row_of(lead: u8) -> Option<Row>
     ensures { as_row result ≡ row_of lead }
 {
     match lead {
-        0x00..=0x7F => Row::One,
-        0xC2..=0xDF => Row::Two(0x80, 0xBF),
-        0xE0 => Row::Three(0xA0, 0xBF),
-        0xE1..=0xEC => Row::Three(0x80, 0xBF),
-        0xED => Row::Three(0x80, 0x9F),
-        0xEE..=0xEF => Row::Three(0x80, 0xBF),
-        0xF0 => Row::Four(0x90, 0xBF),
-        0xF1..=0xF3 => Row::Four(0x80, 0xBF),
-        0xF4 => Row::Four(0x80, 0x8F),
-        _ => Row::None,
+        0x00..=0x7F => Some(Row::One),
+        0xC2..=0xDF => Some(Row::Two(0x80, 0xBF)),
+        0xE0 => Some(Row::Three(0xA0, 0xBF)),
+        0xE1..=0xEC => Some(Row::Three(0x80, 0xBF)),
+        0xED => Some(Row::Three(0x80, 0x9F)),
+        0xEE..=0xEF => Some(Row::Three(0x80, 0xBF)),
+        0xF0 => Some(Row::Four(0x90, 0xBF)),
+        0xF1..=0xF3 => Some(Row::Four(0x80, 0xBF)),
+        0xF4 => Some(Row::Four(0x80, 0x8F)),
+        _ => None,
     }
 }
