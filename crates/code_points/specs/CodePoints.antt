@@ -24,3 +24,7 @@ pub cases : map (λ (c : ℕ). hex_digits (hex_places c) c) (176 ∷ 65535 ∷ 1
     ≡ (48 ∷ 48 ∷ 66 ∷ 48 ∷ []) ∷ (70 ∷ 70 ∷ 70 ∷ 70 ∷ []) ∷ (49 ∷ 70 ∷ 54 ∷ 48 ∷ 48 ∷ []) ∷ []
 unfolding hex_digits
 cases = refl
+
+-- 'U' (85), '+' (43), and the digits
+abbrev pub code_point_text : ℕ → List ℕ
+code_point_text c = 85 ∷ 43 ∷ hex_digits (hex_places c) c

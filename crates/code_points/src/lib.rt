@@ -1,50 +1,21 @@
-// The digits of a code point.
+// How a code point is written.
 #![tactic(auto)]
 
-ghost use Rattle.std.specs.Prelude.{◌≡◌, ◌≤◌, ◌<◌, length, drop};
-ghost use Rattle.code_points.specs.CodePoints.{hex_digit, hex_digits, hex_places};
+ghost use Rattle.std.specs.Prelude.{Some};
+ghost use Rattle.code_points.specs.CodePoints.{code_point_text};
 
-fn hex_digit(d: u32) -> u8
-    requires { d < 16 }
-    ensures { result ≡ hex_digit d }
-{
-    if d < 10 {
-        return 48 + (d as u8);
-    }
-    55 + (d as u8)
-}
+use std::fmt::{self, Display, Formatter, Write};
 
-fn digit_count(c: u32) -> usize
-    ensures { (result ≡ hex_places c) × (result ≤ 8) }
-{
-    if c < 0x1_0000 {
-        return 4;
-    }
-    if c < 0x10_0000 {
-        return 5;
-    }
-    if c < 0x100_0000 {
-        return 6;
-    }
-    if c < 0x1000_0000 {
-        return 7;
-    }
-    8
-}
+// A code point, written as in U+00B0: at least four hexadecimal digits, in upper case.
+#[derive(Clone, Copy)]
+pub struct CodePoint(pub u32);
 
-// Writes the digits at the end of `out` and answers where they begin.
-pub fn write_digits(c: u32, out: &mut [u8]) -> usize
-    requires { length out.old ≡ 8 }
-    ensures { (result ≤ 8) × (drop result out.new ≡ hex_digits (hex_places c) c) }
-{
-    let mut rest = c;
-    let mut left = digit_count(c);
-    let mut start: usize = 8;
-    while 0 < left {
-        left -= 1;
-        start -= 1;
-        out[start] = hex_digit(rest % 16);
-        rest /= 16;
+impl Display for CodePoint {
+    ghost output = { λ c. Some (code_point_text c.0) };
+
+    #[tactic(auto, using(crate::proofs::DigitLaws::written))]
+    fn fmt<W: Write>(&self, f: &mut Formatter<W>) -> fmt::Result {
+        let CodePoint(code) = *self;
+        write!(f, "U+{code:04X}")
     }
-    start
 }
