@@ -1,9 +1,8 @@
 // What the programs print: answers in the measuring program's words (`ok` or `no`, then numbers), and why a call is refused.
 #![tactic(auto)]
 
-use code_points::write_digits;
+use code_points::CodePoint;
 use std::fmt;
-use std::fmt::Write;
 use types::error::Error;
 use types::geometry::{Rectangle, RenderedDimensions};
 use utils::error::{error_code_point, error_number};
@@ -80,21 +79,6 @@ impl fmt::Display for Dimensions {
             bounding_box,
         } = self.0;
         write!(f, "{} {} {}", advance.x, advance.y, BoxOrNone(bounding_box))
-    }
-}
-
-#[derive(Clone, Copy)]
-struct CodePoint(u32);
-
-impl fmt::Display for CodePoint {
-    fn fmt<W: fmt::Write>(&self, f: &mut fmt::Formatter<W>) -> fmt::Result {
-        let mut out = [0u8; 8];
-        let start = write_digits(self.0, &mut out);
-        f.write_str("U+")?;
-        for digit in &out[start..] {
-            f.write_char(char::from(*digit))?;
-        }
-        Ok(())
     }
 }
 
