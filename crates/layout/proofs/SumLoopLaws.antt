@@ -1,20 +1,21 @@
--- A loop over the characters of a text that adds up the steps of their lookups: what holds after `at` bytes, and one turn of it.
--- Assumes nothing.
+-- A loop over the characters of a text that adds up the steps of their lookups: what holds where `left` is left of the
+-- text, and one turn of it. Assumes nothing.
 use Rattle.integers.proofs.Prelude.{◌≡◌, refl, sym, ap, subst, ◌∙◌, Bool, true, false, List, [], ◌∷◌, ◌++◌, append_assoc, append-nil, ℕ, ◌+◌, ◌≤◌, arith, eqb}
-use Rattle.integers.proofs.Prelude.{length, drop, length-append}
+use Rattle.integers.proofs.Prelude.{length, length-append}
 use Rattle.integers.proofs.Choices.{impossible}
 use Rattle.integers.specs.Integers.{pick}
 use Rattle.definitions.specs.Vocabulary.{Point, RenderedDimensions, GlyphReader, LookupSteps, HorizontalAlignment}
 use Rattle.definitions.specs.Refusals.{Outcome, success, refused}
 use Rattle.definitions.specs.Lookup.{no_steps}
-use Rattle.definitions.specs.Utf8.{character, first_character, characters, decode, code_points}
+use Rattle.definitions.specs.Utf8.{malformed, first_character, characters, decode, code_points}
 use Rattle.definitions.specs.Text.{Answer, shows, nothing, stops}
 use Rattle.definitions.specs.TextSteps.{newline_step, answer_step, step, LineState, next_line, answer_of_line, line_step}
 use Rattle.definitions.specs.Font.{u8g2}
 use Rattle.definitions.specs.Sums.{plus_steps, brings, total, up_to, sums, Fits32}
 use Rattle.definitions.proofs.SumsLaws.{total_next, up_to_first, total_fits}
 use Rattle.definitions.proofs.TextLaws.{Each, each_append}
-use Rattle.definitions.proofs.Utf8Laws.{position, next}
+use Rattle.utf8.specs.Splits.{FirstAndRest}
+use Rattle.utf8.proofs.SplitLaws.{split_length, split_next}
 use Rattle.layout.proofs.LoopLaws.{Reached, reached_start, reached_end, reached_next}
 
 -- ---- a letter that stops a text, and one that does not
@@ -76,41 +77,41 @@ module _ (answers : ℕ → Answer) (a : HorizontalAlignment) (line_height : ℕ
 -- ---- the loop
 
 -- The code points that were read, of which none stopped the text, and their sum.
-pub record Summed (font : List ℕ) (answers : ℕ → Answer) (text : List ℕ) (sum : LookupSteps) (at : ℕ) : Type 0 where
+pub record Summed (font : List ℕ) (answers : ℕ → Answer) (text : List ℕ) (sum : LookupSteps) (left : List ℕ) : Type 0 where
   pub read : List ℕ
-  pub reached : Reached ◌++◌ (λ at rest cs. (length cs ≤ at) × Each (GoesOn answers) cs) [] text read at
+  pub reached : Reached ◌++◌ (λ read rest cs. (length cs ≤ read) × Each (GoesOn answers) cs) [] text read left
   pub is : sum ≡ total (u8g2 font).steps read
 
 module _ {font : List ℕ} {answers : ℕ → Answer} {text : List ℕ} where
-  unfoldable pub summed_start : decode text ≡ characters (code_points (decode text)) → Summed font answers text no_steps 0
+  unfoldable pub summed_start : decode text ≡ characters (code_points (decode text)) → Summed font answers text no_steps text
   unfolding total
   summed_start e = record { read = []; reached = reached_start e (omega arith, tt); is = refl }
 
-  module _ {sum : LookupSteps} {at : ℕ} (s : Summed font answers text sum at) where
+  module _ {sum : LookupSteps} {left : List ℕ} (s : Summed font answers text sum left) where
     -- the sums of a success
-    pub summed_end : length text ≤ at → sum ≡ total (u8g2 font).steps (code_points (decode text))
+    pub summed_end : first_character left ≡ malformed → sum ≡ total (u8g2 font).steps (code_points (decode text))
     summed_end h = s.is ∙ ap (total (u8g2 font).steps) (sym (append-nil s.read) ∙ sym (reached_end s.reached h))
 
-    -- At a character of n bytes that brings q.
-    module _ {c n : ℕ} (first : first_character (drop at text) ≡ character c n) {q : LookupSteps} (brought : q ≡ brings (u8g2 font).steps c) where
+    -- At a character that brings q.
+    module _ {c : ℕ} {tail : List ℕ} (first : FirstAndRest left c tail) {q : LookupSteps} (brought : q ≡ brings (u8g2 font).steps c) where
       -- With it the sum is that of the code points and this one.
       with_next : plus_steps sum q ≡ total (u8g2 font).steps (s.read ++ c ∷ [])
       with_next = rw (s.is, brought) (sym (total_next (u8g2 font).steps s.read c))
 
       pub summed_fits : 23 ≤ length font → length font ≤ 1048576 → length text ≤ 4096 → Fits32 (plus_steps sum q)
       summed_fits least most short =
-          let p = position text at first in
+          let l = split_length first in
           subst Fits32 (sym with_next)
-          (total_fits font least most (s.read ++ c ∷ []) (omega (arith, length-append s.read (c ∷ []), s.reached.within.0)))
+          (total_fits font least most (s.read ++ c ∷ []) (omega (arith, length-append s.read (c ∷ []), s.reached.within.0, s.reached.inside, l.0, l.1)))
 
       module _ {sum' : LookupSteps} (sums_up : sum' ≡ plus_steps sum q) where
-        pub summed_next : GoesOn answers c → Summed font answers text sum' (at + n)
+        pub summed_next : GoesOn answers c → Summed font answers text sum' tail
         summed_next on =
-            let p = position text at first in
+            let l = split_length first in
             record {
               read = s.read ++ c ∷ [];
               reached = reached_next s.reached first (λ cs. sym (append_assoc s.read (c ∷ []) cs)) (λ cs w.
-                  (omega (arith, length-append s.read (c ∷ []), w.0), each_append (GoesOn answers) s.read (c ∷ []) w.1 (on, tt)));
+                  (omega (arith, length-append s.read (c ∷ []), w.0, l.0), each_append (GoesOn answers) s.read (c ∷ []) w.1 (on, tt)));
               is = sums_up ∙ with_next;
             }
 
@@ -126,7 +127,7 @@ module _ {font : List ℕ} {answers : ℕ → Answer} {text : List ℕ} where
 
             by : (t : Bool) → pick t sum' no_steps ≡ total (u8g2 font).steps (pick t (up_to k (code_points (decode text))) [])
             by true =
-                let q = next text at first s.reached.decoded in
+                let q = split_next first s.reached.decoded in
                 let whole : code_points (decode text) ≡ s.read ++ c ∷ q.rest = s.reached.same ∙ ap (λ (cs : List ℕ). s.read ++ cs) q.is in
                 let same : up_to k (code_points (decode text)) ≡ s.read ++ c ∷ [] = rw (whole, blamed)
                 (up_to_first s.read c q.rest (new s.read s.reached.within.1)) in

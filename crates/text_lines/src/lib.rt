@@ -21,8 +21,7 @@ use types::glyph_reader::GlyphReader;
 use types::results::Report;
 use types::steps::LookupSteps;
 use types::style::HorizontalAlignment;
-use utf8::next_char;
-use utf8_sequences::NextChar;
+use utf8::split_first_char;
 use utils::combine_bounding_boxes;
 
 // The text so far: the line from its own start, how far below the origin it lies, and the box of the lines that have ended.
@@ -168,15 +167,8 @@ pub fn measure_lines(
         bounding_box: None,
     };
     let mut steps = no_steps();
-    let mut at: usize = 0;
-    while at < text.len() {
-        let next = next_char(text, at);
-        let NextChar::Char(ch, len) = next else {
-            return Report {
-                result: Err(Error::TextEncoding),
-                steps,
-            };
-        };
+    let mut rest = text;
+    while let Some((ch, tail)) = split_first_char(rest) {
         let added = add_char(font, ch, state, horizontal_align, pen);
         match added.result {
             Err(error) => {
@@ -191,7 +183,7 @@ pub fn measure_lines(
                 steps = add_steps(steps, added.steps);
             }
         }
-        at += len;
+        rest = tail;
     }
     let origin = pen.origin;
     Report {
