@@ -1,6 +1,6 @@
 -- The letters of a text, and a loop that counts them as plain measuring does (drawing's): what holds where `left` is
 -- left of the text, and one turn of it. Assumes nothing.
-use Rattle.integers.proofs.Prelude.{◌≡◌, Bool, List, ℕ, ◌+◌, ◌≤◌, arith, length, drop}
+use Rattle.integers.proofs.Prelude.{◌≡◌, Bool, List, ℕ, arith}
 use Rattle.definitions.specs.Vocabulary.{FontReader, Point, RenderedDimensions, GlyphReader}
 use Rattle.definitions.specs.Refusals.{success, refused}
 use Rattle.definitions.specs.Header.{Opened}

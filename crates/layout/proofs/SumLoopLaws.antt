@@ -1,6 +1,6 @@
 -- A loop over the characters of a text that adds up the steps of their lookups: what holds where `left` is left of the
 -- text, and one turn of it. Assumes nothing.
-use Rattle.integers.proofs.Prelude.{◌≡◌, refl, sym, ap, subst, ◌∙◌, Bool, true, false, List, [], ◌∷◌, ◌++◌, append_assoc, append-nil, ℕ, ◌+◌, ◌≤◌, arith, eqb}
+use Rattle.integers.proofs.Prelude.{◌≡◌, refl, sym, ap, subst, ◌∙◌, Bool, true, false, List, [], ◌∷◌, ◌++◌, append_assoc, append-nil, ℕ, ◌≤◌, arith, eqb}
 use Rattle.integers.proofs.Prelude.{length, length-append}
 use Rattle.integers.proofs.Choices.{impossible}
 use Rattle.integers.specs.Integers.{pick}

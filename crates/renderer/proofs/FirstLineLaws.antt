@@ -1,6 +1,9 @@
 -- The first line of a text, in bytes and in code points. Assumes nothing.
-use Rattle.integers.proofs.Prelude.{◌≡◌, refl, ap, ◌∙◌, Bool, true, false, List, [], ◌∷◌, ◌++◌, ℕ, suc, ◌+◌, ◌≤◌, ◌<◌, arith, eqb, length, get_or, take, drop}
-use Rattle.integers.proofs.Prelude.{add-one, drop-cons, drop_of_length-le, eq-eqb, ne_eqb, eqb-true}
+use Rattle.integers.proofs.Prelude.{◌≡◌, refl, ap, ◌∙◌, Bool, true, false, List, [], ◌∷◌, ◌++◌, ℕ, suc, ◌+◌, ◌-◌, ◌≤◌, ◌<◌, arith, eqb, length, take, drop}
+use Rattle.integers.proofs.Prelude.{length-append, length-drop, take_all, eqb-true, ltb, ltb-true, ltb-false}
+use Rattle.std.specs.List.{position_or_len, position}
+use Rattle.std.proofs.Common.{cond, not, Some, None}
+use Rattle.integers.proofs.Choices.{impossible}
 use Rattle.integers.specs.Integers.{pick}
 use Rattle.definitions.specs.Utf8.{encode, encode_all, Scalars, nil, cons, characters, decode, newlines}
 use Rattle.definitions.specs.Text.{first, lines}
@@ -44,6 +47,9 @@ split (c ∷ cs) h = by (eqb c 10) refl h (split cs)
     by false k h rest =
         let s = rest (omega arith) in
         record { parts = rw k (ap (λ (l : List ℕ). c ∷ l) s.parts); lines_are = rw (k, s.lines_are); fewer = rw k (omega (arith, s.fewer)) }
+
+pub rest_shorter : (s : List ℕ) → 1 ≤ newlines s → length (rest_of s) < length s
+rest_shorter s h = omega (arith, ap length (split s h).parts, length-append (line_of s) (10 ∷ rest_of s))
 
 pub line_short : (s : List ℕ) → length (line_of s) ≤ length s
 unfolding line_of
@@ -92,22 +98,54 @@ more_lines (b ∷ s) h = by (eqb b 10) h (more_lines s)
     by true h rest = omega arith
     by false h rest = omega (arith, rest (omega arith))
 
--- ---- byte by byte, as its end is looked for
+-- ---- as its end is looked for
 
-module _ (s : List ℕ) (i : ℕ) where
-  line_next : i < length s → line_of (drop i s) ≡ pick (eqb (get_or s i 0) 10) [] (get_or s i 0 ∷ line_of (drop (i + 1) s))
-  unfolding line_of
-  line_next h = rw (add-one, drop-cons s i 0)
+newline_there : (s : List ℕ) → position_or_len (λ b. eqb b 10) s ≡ length (line_of s)
+unfolding line_of
+newline_there [] = refl
+newline_there (b ∷ s) = by (eqb b 10) (newline_there s)
+  where
+    by : (t : Bool) → position_or_len (λ b. eqb b 10) s ≡ length (line_of s)
+        → cond (not t) (1 + position_or_len (λ b. eqb b 10) s) 0 ≡ length (pick t [] (b ∷ line_of s))
+    by true e = refl
+    by false e = omega (arith, e)
 
-  pub line_ends : i < length s → get_or s i 0 ≡ 10 → length (line_of (drop i s)) ≡ 0
-  line_ends h e = ap length (line_next h) ∙ simp (eq-eqb (get_or s i 0) 10 e)
+module _ (s : List ℕ) where
+  found : {end : ℕ} → Some end ≡ position (λ b. eqb b 10) s → (end ≡ length (line_of s)) × (end < length s)
+  found {end} e = by (ltb (position_or_len (λ b. eqb b 10) s) (length s)) refl e
+    where
+      by : (t : Bool) → ltb (position_or_len (λ b. eqb b 10) s) (length s) ≡ t → Some end ≡ cond t (Some (position_or_len (λ b. eqb b 10) s)) None
+          → (end ≡ length (line_of s)) × (end < length s)
+      by true k e =
+          let same : end ≡ position_or_len (λ b. eqb b 10) s = cc in
+          (same ∙ newline_there s, omega (arith, same, ltb-true _ _ k))
+      by false k e = impossible cc
 
-  pub line_goes_on : i < length s → (get_or s i 0 ≡ 10 → ⊥) → length (line_of (drop i s)) ≡ 1 + length (line_of (drop (i + 1) s))
-  line_goes_on h e = ap length (line_next h) ∙ simp (ne_eqb (get_or s i 0) 10 e) (omega arith)
+  none_found : None ≡ position (λ b. eqb b 10) s → length s ≤ length (line_of s)
+  none_found e = by (ltb (position_or_len (λ b. eqb b 10) s) (length s)) refl e
+    where
+      by : (t : Bool) → ltb (position_or_len (λ b. eqb b 10) s) (length s) ≡ t → None ≡ cond t (Some (position_or_len (λ b. eqb b 10) s)) None
+          → length s ≤ length (line_of s)
+      by true k e = impossible cc
+      by false k e = omega (arith, newline_there s, ltb-false _ _ k)
 
-  pub line_over : length s ≤ i → length (line_of (drop i s)) ≡ 0
-  unfolding line_of
-  line_over h = rw (drop_of_length-le s h)
+  pub found_line : {end : ℕ} → Some end ≡ position (λ b. eqb b 10) s → (take end s ≡ line_of s) × (end < length s)
+  found_line e = let f = found e in (rw f.0 (line_taken s), f.1)
+
+  -- as it is lent
+  pub found_rest : {end : ℕ} → Some end ≡ position (λ b. eqb b 10) s
+      → (1 ≤ newlines s) × (take (length s - (end + 1)) (drop (end + 1) s) ≡ rest_of s)
+  found_rest {end} e =
+      let f = found e in
+      (more_lines s (omega arith), take_all _ _ (omega (arith, length-drop (end + 1) s)) ∙ rw f.0 (rest_dropped s))
+
+  pub no_newline : None ≡ position (λ b. eqb b 10) s → newlines s ≡ 0
+  no_newline e = last_line s (none_found e)
+
+  pub whole_line : None ≡ position (λ b. eqb b 10) s → line_of s ≡ s
+  whole_line e = line_whole s (no_newline e)
+
+pub ruleset first_lines = (found_line, found_rest, no_newline, whole_line)
 
 -- ---- bytes and code points have the same first line
 

@@ -1,6 +1,6 @@
 -- The loop over a text's lines: what holds where a line begins, and what the line makes of it. Assumes nothing.
-use Rattle.integers.proofs.Prelude.{◌≡◌, refl, sym, ap, subst, ◌∙◌, Bool, true, false, List, [], ◌∷◌, ◌++◌, append_assoc, ℕ, ◌+◌, ◌-◌, ◌*◌, ◌≤◌, ◌<◌, arith, eqb, pos, ◌+ℤ◌, ◌≤ℤ◌}
-use Rattle.integers.proofs.Prelude.{zero, suc, length, take, drop, length-append, length-drop, drop-drop, take-append-drop}
+use Rattle.integers.proofs.Prelude.{◌≡◌, refl, sym, ap, subst, ◌∙◌, Bool, true, false, List, [], ◌∷◌, ◌++◌, append_assoc, ℕ, ◌+◌, ◌*◌, ◌≤◌, arith, eqb, pos, ◌+ℤ◌, ◌≤ℤ◌}
+use Rattle.integers.proofs.Prelude.{zero, suc, length, drop, length-append, take-append-drop}
 use Rattle.integers.proofs.Laws.{zarith, plus}
 use Rattle.integers.specs.Integers.{pick}
 use Rattle.integers.proofs.Choices.{impossible}
@@ -35,7 +35,7 @@ use Rattle.renderer.specs.declared.lines.LineSetting.{LineSetting}
 use Rattle.renderer.specs.CharAnswers.{Fits}
 use Rattle.renderer.specs.Lines.{line_of, rest_of}
 use Rattle.renderer.specs.Texts.{measured_by, line_laid, DrawableLine, LineDrawn, Moves, laid_with, TextDrawn}
-use Rattle.renderer.proofs.FirstLineLaws.{line_level, line_whole, Split, split, line_short, line_taken, rest_dropped, last_line, more_lines, line_decoded, rest_decoded}
+use Rattle.renderer.proofs.FirstLineLaws.{line_level, line_whole, Split, split, line_short, line_taken, line_decoded, rest_decoded}
 
 go_on : (answers : ℕ → Answer) (cs : List ℕ) → Each (Passes answers) cs → Each (GoesOn answers) cs
 go_on answers [] h = tt
@@ -81,9 +81,9 @@ module _ (font text before : List ℕ) (s : LineSetting) (context : Context) whe
   abbrev shows : Layout → List ℕ → List ℕ
   shows l buffer = painted context.framebuffer.width context.color (pixels_of (u8g2 font)) l.glyphs buffer
 
-  -- The rest of the text leads from here to where the whole text leads from its start.
-  pub record LinesTo (buffer : List ℕ) (d : RenderedDimensions) (sum : LookupSteps) (at : ℕ) : Type 0 where
-    pub summed : Summed font (measured_by font s.pen) text sum at
+  -- What is left of the text leads from here to where the whole text leads from its start.
+  pub record LinesTo (buffer : List ℕ) (d : RenderedDimensions) (sum : LookupSteps) (here : List ℕ) : Type 0 where
+    pub summed : Summed font (measured_by font s.pen) text sum here
     pub room : Within line_height 0 summed.reached.rest d
     pub kept : length buffer ≡ length before
     pub counted : counts start (code_points_of text) ≡ counts d summed.reached.rest
@@ -106,7 +106,7 @@ module _ (font text before : List ℕ) (s : LineSetting) (context : Context) whe
         shown = p ∙ ap (λ (l : Layout). shows l before) (sym is);
       }
 
-  pub lines_begin : Checked text s.pen.origin line_height → LinesTo before start no_steps 0
+  pub lines_begin : Checked text s.pen.origin line_height → LinesTo before start no_steps text
   unfolding summed_start reached_start
   lines_begin k = record {
     summed = summed_start (checked_characters (as_line k));
@@ -116,13 +116,10 @@ module _ (font text before : List ℕ) (s : LineSetting) (context : Context) whe
     shown = refl;
   }
 
-  module _ {buffer : List ℕ} {d : RenderedDimensions} {sum : LookupSteps} {at : ℕ} (i : LinesTo buffer d sum at) where
+  module _ {buffer : List ℕ} {d : RenderedDimensions} {sum : LookupSteps} {here : List ℕ} (i : LinesTo buffer d sum here) where
     -- the code points to come, those of the line, and its bytes
     abbrev rest : List ℕ
     rest = i.summed.reached.rest
-
-    abbrev here : List ℕ
-    here = drop at text
 
     abbrev bytes : List ℕ
     bytes = line_of here
@@ -136,18 +133,11 @@ module _ (font text before : List ℕ) (s : LineSetting) (context : Context) whe
     few : length (line_of rest) ≤ length bytes
     few = character_count bytes (line_decoded here decoded)
 
-    inside : at + length bytes ≤ length text
-    inside = omega (arith, line_short here, length-drop at text, i.summed.reached.inside)
-
-    pub next_inside : length bytes < length here → at + length bytes + 1 ≤ length text
-    next_inside h = omega (arith, length-drop at text, i.summed.reached.inside)
+    inside : i.summed.reached.read + length bytes ≤ length text
+    inside = omega (arith, line_short here, i.summed.reached.inside)
 
     same_newlines : newlines here ≡ newlines rest
     same_newlines = newlines_decoded here decoded
-
-    -- the bytes of the line, as they are lent
-    pub line_lent : {end : ℕ} → end ≡ at + length bytes → take (end - at) here ≡ bytes
-    line_lent {end} e = let n : end - at ≡ length bytes = omega arith in ap (λ (m : ℕ). take m here) n ∙ line_taken here
 
     pub line_drawable : {p : Framebuffer} → Checked text s.pen.origin line_height → Fits (length before) p
         → {lent : List ℕ} → lent ≡ bytes → DrawableLine lent s d p (length buffer)
@@ -228,9 +218,9 @@ module _ (font text before : List ℕ) (s : LineSetting) (context : Context) whe
         all_brought : q ≡ total (u8g2 font).steps (line_of rest)
         all_brought = sym brought ∙ steps ∙ ap (λ (o : Outcome RenderedDimensions). total (u8g2 font).steps (counted o (line_of rest))) goes
 
-        module _ (over : length here ≤ length bytes) where
+        module _ (over : newlines here ≡ 0) where
           no_more : newlines rest ≡ 0
-          no_more = sym same_newlines ∙ last_line here over
+          no_more = sym same_newlines ∙ over
 
           all : line_of rest ≡ rest
           all = line_whole rest no_more
@@ -249,9 +239,9 @@ module _ (font text before : List ℕ) (s : LineSetting) (context : Context) whe
               sums_up ∙ with_line_lem (line_of rest) all_brought
               ∙ ap (total (u8g2 font).steps) (ap (λ (cs : List ℕ). i.summed.read ++ cs) all ∙ sym i.summed.reached.same)
 
-        module _ (more : length bytes < length here) where
+        module _ (more : 1 ≤ newlines here) where
           parted : Split rest
-          parted = split rest (omega (arith, more_lines here more, same_newlines))
+          parted = split rest (omega (arith, more, same_newlines))
 
           passes : Each (Passes (measured_by font s.pen)) (line_of rest)
           passes = moved_passes (u8g2 font) s.pen.ignore_unknown_chars s.horizontal_align s.pen.origin d.advance (line_of rest) longer.advance ends.0
@@ -259,18 +249,17 @@ module _ (font text before : List ℕ) (s : LineSetting) (context : Context) whe
           level : longer.advance.y ≡ d.advance.y
           level = moved_level (u8g2 font) s.pen.ignore_unknown_chars s.horizontal_align s.pen.origin d.advance (line_of rest) longer.advance ends.0
 
-          after : drop (at + length bytes + 1) text ≡ rest_of here
-          after =
-              let n : at + length bytes + 1 ≡ at + (length bytes + 1) = omega arith in
-              rw n (sym (drop-drop (length bytes + 1) at text) ∙ rest_dropped here)
+          after : i.summed.reached.read + length bytes + 1 + length (rest_of here) ≡ length text
+          after = omega (arith, i.summed.reached.inside, ap length (split here more).parts, length-append bytes (10 ∷ rest_of here))
 
-          next_summed : Summed font (measured_by font s.pen) text sum' (at + length bytes + 1)
+          next_summed : Summed font (measured_by font s.pen) text sum' (rest_of here)
           next_summed = record {
             read = i.summed.read ++ (line_of rest ++ 10 ∷ []);
             reached = record {
+              read = i.summed.reached.read + length bytes + 1;
               rest = rest_of rest;
-              inside = next_inside more;
-              decoded = ap decode after ∙ rest_decoded here decoded;
+              inside = after;
+              decoded = rest_decoded here decoded;
               within = (
                 omega (arith, length-append i.summed.read (line_of rest ++ 10 ∷ []), length-append (line_of rest) (10 ∷ []), few, i.summed.reached.within.0),
                 each_append (GoesOn (measured_by font s.pen)) i.summed.read (line_of rest ++ 10 ∷ []) i.summed.reached.within.1
@@ -312,7 +301,7 @@ module _ (font text before : List ℕ) (s : LineSetting) (context : Context) whe
           }
 
           -- the next line begins behind the newline
-          next_line_lem : LinesTo buffer' (newline_step line_height longer) sum' (at + length bytes + 1)
+          next_line_lem : LinesTo buffer' (newline_step line_height longer) sum' (rest_of here)
           unfolding next_summed
           next_line_lem =
               let lay = line_by_line line line_height in
@@ -330,9 +319,10 @@ module _ (font text before : List ℕ) (s : LineSetting) (context : Context) whe
                     ∙ ap (λ (b : List ℕ). shows (lay (newline line_height longer.advance) (lines (rest_of rest))) b) (sym left);
               }
 
-          pub next_turn : {next : RenderedDimensions} → next ≡ newline_step line_height longer → {end : ℕ} → end ≡ at + length bytes → LinesTo buffer' next sum' (end + 1)
-          next_turn e {end} k =
-              subst (λ (x : RenderedDimensions). LinesTo buffer' x sum' (end + 1)) (sym e) (subst (λ (n : ℕ). LinesTo buffer' (newline_step line_height longer) sum' (n + 1)) (sym k) next_line_lem)
+          pub next_turn : {next : RenderedDimensions} → next ≡ newline_step line_height longer → {tail : List ℕ} → tail ≡ rest_of here → LinesTo buffer' next sum' tail
+          next_turn e {tail} k =
+              subst (λ (x : RenderedDimensions). LinesTo buffer' x sum' tail) (sym e)
+              (subst (λ (l : List ℕ). LinesTo buffer' (newline_step line_height longer) sum' l) (sym k) next_line_lem)
 
           -- .. and there is room to go there
           pub next_near : Near longer.advance.y

@@ -11,15 +11,14 @@ use checks::origin::Pen;
 use font_reader::opened::OpenedFont;
 use glyph_renderer::render_glyph;
 use layout::steps::{NEWLINE, add_answer, add_newline, get_next_bounding_box};
-use lookup_sums::{add_steps, no_steps, refused, sum_with};
+use lookup_sums::{add_steps, no_steps, sum_with};
 use types::error::Error;
 use types::framebuffer::Framebuffer;
 use types::geometry::{Point, RenderedDimensions};
 use types::glyph_reader::GlyphReader;
 use types::results::Report;
 use types::style::FontColor;
-use utf8::next_char;
-use utf8_sequences::NextChar;
+use utf8::split_first_char;
 
 // What is drawn with, and on what.
 #[derive(Clone, Copy)]
@@ -98,12 +97,8 @@ pub fn draw_text(
 {
     let mut dimensions = before;
     let mut steps = no_steps();
-    let mut at: usize = 0;
-    while at < text.len() {
-        let next = next_char(text, at);
-        let NextChar::Char(ch, len) = next else {
-            return refused(Error::TextEncoding);
-        };
+    let mut rest = text;
+    while let Some((ch, tail)) = split_first_char(rest) {
         let drawn = draw_char(font, ch, dimensions, pen, context, &mut buffer[..]);
         match drawn.result {
             Err(error) => {
@@ -118,7 +113,7 @@ pub fn draw_text(
                 steps = add_steps(steps, drawn.steps);
             }
         }
-        at += len;
+        rest = tail;
     }
     Report {
         result: Ok(dimensions),

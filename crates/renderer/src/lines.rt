@@ -1,8 +1,9 @@
 // Drawing a text line by line, each line where its alignment puts it.
-ghost use Rattle.std.specs.Prelude.{◌≡◌, ◌+◌, ◌≤◌, length, drop};
+ghost use Rattle.std.specs.Prelude.{◌≡◌, ◌==◌, ◌≤◌, length, position, MatchOption};
+ghost use Rattle.definitions.specs.Utf8.{newlines};
 ghost use Rattle.definitions.specs.TextSteps.{start};
 ghost use Rattle.checks.specs.Origins.{Checked};
-ghost use Rattle.renderer.specs.Lines.{line_of};
+ghost use Rattle.renderer.specs.Lines.{line_of, rest_of};
 ghost use Rattle.renderer.specs.Texts.{DrawableText, DrawableLine, LineDrawn, Moves, TextCounted, TextDrawn};
 
 use crate::letters::{Context, draw_text};
@@ -32,19 +33,23 @@ fn no_dimensions() -> RenderedDimensions
     }
 }
 
-// Where the line that begins at `at` ends: at the next newline, or with the text. No longer sequence of UTF-8 has a newline's byte.
-fn line_end(text: &[u8], at: usize) -> usize
-    requires { at ≤ length text.now }
-    ensures { result ≡ at + length (line_of (drop at text.now)) }
+// Where a text's first newline is. No longer sequence of UTF-8 has its byte.
+fn first_newline(text: &[u8]) -> Option<usize>
+    ensures { result ≡ position (λ byte. byte == 10) text.now }
 {
-    let mut end = at;
-    while end < text.len() {
-        if text[end] == 10 {
-            return end;
-        }
-        end += 1;
+    text.iter().position(|byte| *byte == b'\n')
+}
+
+// The first line of a text, and what comes after its newline where it has one.
+#[tactic(auto, using(crate::proofs::FirstLineLaws::first_lines))]
+fn split_line(text: &[u8]) -> (&[u8], Option<&[u8]>)
+    ensures line { result.0.now ≡ line_of text.now }
+    ensures after { MatchOption result.1 (newlines text.now ≡ 0) (λ rest. (1 ≤ newlines text.now) × (rest.now ≡ rest_of text.now)) }
+{
+    match first_newline(text) {
+        Some(end) => (&text[..end], Some(&text[end + 1..])),
+        None => (text, None),
     }
-    end
 }
 
 // One line. All of it is measured before its first letter is drawn: what stops it in measuring leaves the framebuffer as it was.
@@ -99,12 +104,12 @@ fn draw_lines(
     let pen = setting.pen;
     let mut dimensions = no_dimensions();
     let mut steps = no_steps();
-    let mut at: usize = 0;
+    let mut rest = text;
     loop {
-        let end = line_end(text, at);
+        let (line, after) = split_line(rest);
         let drawn = draw_line(
             font,
-            &text[at..end],
+            line,
             setting,
             dimensions,
             context,
@@ -120,16 +125,16 @@ fn draw_lines(
             }
             Ok(longer) => {
                 steps = add_steps(steps, drawn.steps);
-                if end == text.len() {
+                let Some(next) = after else {
                     return Report {
                         result: Ok(longer),
                         steps,
                     };
-                }
+                };
                 dimensions = add_newline(longer, pen.line_height);
+                rest = next;
             }
         }
-        at = end + 1;
     }
 }
 

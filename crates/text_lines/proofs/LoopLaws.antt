@@ -1,5 +1,5 @@
 -- The loop that measures a text line by line, and adds up the steps of its lookups. Assumes nothing.
-use Rattle.integers.proofs.Prelude.{◌≡◌, refl, Bool, List, ℕ, ◌+◌, ◌≤◌, arith, eqb, length, drop}
+use Rattle.integers.proofs.Prelude.{◌≡◌, refl, Bool, List, ℕ, ◌≤◌, arith, eqb}
 use Rattle.integers.specs.Integers.{pick}
 use Rattle.definitions.specs.Vocabulary.{FontReader, Point, RenderedDimensions, GlyphReader, LookupSteps, HorizontalAlignment}
 use Rattle.definitions.specs.Refusals.{Outcome, success, refused}

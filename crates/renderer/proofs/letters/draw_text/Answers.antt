@@ -4,11 +4,10 @@ use Rattle.integers.proofs.Choices.{impossible}
 use Rattle.definitions.specs.Vocabulary.{RenderedDimensions}
 use Rattle.definitions.specs.Refusals.{outcome}
 use Rattle.definitions.specs.Geometry.{InReach}
-use Rattle.utf8_sequences.specs.Sequences.{as_character}
-use Rattle.definitions.specs.Utf8.{character, first_character}
+use Rattle.utf8.specs.Splits.{FirstAndRest}
+use Rattle.utf8.proofs.SplitLaws.{split_shorter}
 use Rattle.definitions.specs.Font.{u8g2}
 use Rattle.definitions.specs.Sums.{plus_steps, brings, Fits32}
-use Rattle.definitions.proofs.Utf8Laws.{Position, position, none_malformed}
 use Rattle.renderer.specs.CharAnswers.{Fits}
 use Rattle.layout.proofs.MeasureLaws.{checked_characters, measured_room, measured_end, measured_stops}
 use Rattle.layout.proofs.SumLoopLaws.{summed_start, summed_end, summed_fits}
@@ -16,21 +15,14 @@ use Rattle.renderer.proofs.LetterLaws.{drawn_small, drawn_start, drawn_end, draw
 use Rattle.renderer.proofs.letters.draw_text.Goals as goal
 use Rattle.renderer.proofs.letters.draw_text.Goals.{After-draw_char-drawn}
 
-pub loop-at-init : goal.loop-at-init
-loop-at-init c =
+pub loop-ch-init : goal.loop-ch-init
+loop-ch-init c =
     let k = c.requires.checked in
     record { drawn = drawn_start _ _ _ _ _ _ _ _ _ k c.requires.room; summed = simp c.no_steps-steps.ensures (summed_start (checked_characters k)) }
 
--- the text was checked, so this is never reached
-pub returns-in_default : goal.returns-in_default
-returns-in_default c =
-    let l = c.loop-at in
-    absurd (none_malformed _ l.at c.loop-at-test.true l.invariant.drawn.reached.reached.decoded
-    (sym c.next_char-next.ensures ∙ ap as_character c.in_default.is))
-
 pub draw_char-drawn-requires : goal.draw_char-drawn-requires
 draw_char-drawn-requires c =
-    let i = c.loop-at.invariant.drawn in
+    let i = c.loop-ch.invariant.drawn in
     record {
       room = measured_room c.requires.checked i.reached;
       line = c.requires.checked.line;
@@ -39,20 +31,17 @@ draw_char-drawn-requires c =
 
 -- the character that was read, and drawn
 module _ (c : After-draw_char-drawn) where
-  first : first_character (drop c.loop-at.at c.args.text.now) ≡ character c.in-Char.ch c.in-Char.len
-  first = sym c.next_char-next.ensures ∙ ap as_character c.in-Char.is
+  first : FirstAndRest c.loop-ch.rest.now c.in-Some.ch c.in-Some.tail.now
+  first = c.in-Some.ensures
 
-  here : Position c.args.text.now c.loop-at.at c.in-Char.ch c.in-Char.len
-  here = position _ _ first
-
-  brings_it : c.draw_char-drawn.result.steps ≡ brings (u8g2 c.args.font.now.bytes.now).steps c.in-Char.ch
+  brings_it : c.draw_char-drawn.result.steps ≡ brings (u8g2 c.args.font.now.bytes.now).steps c.in-Some.ch
   brings_it = c.draw_char-drawn.ensures.brought
 
-  sum_fits : Fits32 (plus_steps c.loop-at.steps c.draw_char-drawn.result.steps)
+  sum_fits : Fits32 (plus_steps c.loop-ch.steps c.draw_char-drawn.result.steps)
   sum_fits =
       let s = c.requires in
       let o = c.args.font.now.opened in
-      summed_fits c.loop-at.invariant.summed first brings_it o.least o.most s.checked.short
+      summed_fits c.loop-ch.invariant.summed first brings_it o.least o.most s.checked.short
 
 pub add_steps-sum-requires : goal.add_steps-sum-requires
 add_steps-sum-requires c = sum_fits (goal.at.add_steps-sum-requires c).After-draw_char-drawn
@@ -64,47 +53,44 @@ pub returns-in-Err : goal.returns-in-Err
 returns-in-Err c =
     let k = (goal.at.returns-in-Err c).After-draw_char-drawn in
     let is = c.in-Err.is in
-    let i = c.loop-at.invariant in
+    let i = c.loop-ch.invariant in
     let d = c.draw_char-drawn.ensures in
     let stops = sym d.counted ∙ ap outcome is in
     record {
       counted = sym (measured_stops c.requires.checked i.drawn.reached (first k) stops);
       summed = c.sum_with.ensures
           ∙ sum_stops _ i.summed (first k) (brings_it k) c.add_steps-sum.ensures c.args.pen.line_height
-          c.args.pen.origin c.loop-at.dimensions stops refl;
+          c.args.pen.origin c.loop-ch.dimensions stops refl;
       shown = drawn_stops _ _ _ _ _ _ _ _ _ c.requires.checked i.drawn (first k) stops d.shown;
       reach = λ e h. impossible cc;
     }
 
-pub overflow_add-at : goal.overflow_add-at
-overflow_add-at c = let p = here (goal.at.overflow_add-at c).After-draw_char-drawn in omega (arith, c.requires.checked.short)
+pub loop-ch-smaller : goal.loop-ch-smaller
+loop-ch-smaller c = split_shorter (first (goal.at.loop-ch-smaller c).After-draw_char-drawn)
 
-pub loop-at-smaller : goal.loop-at-smaller
-loop-at-smaller c = let p = here (goal.at.loop-at-smaller c).After-draw_char-drawn in omega arith
-
-pub loop-at-preserved : goal.loop-at-preserved
-loop-at-preserved c =
-    let k = (goal.at.loop-at-preserved c).After-draw_char-drawn in
+pub loop-ch-preserved : goal.loop-ch-preserved
+loop-ch-preserved c =
+    let k = (goal.at.loop-ch-preserved c).After-draw_char-drawn in
     let is = c.in-Ok.is in
-    let i = c.loop-at.invariant in
+    let i = c.loop-ch.invariant in
     let d = c.draw_char-drawn.ensures in
     let goes = sym d.counted ∙ ap outcome is in
     record {
       drawn = drawn_next _ _ _ _ _ _ _ _ _ c.requires.checked i.drawn (first k) (drawn_small c.args.font.now.opened _) goes d.shown
           c.draw_char-drawn.auto.buffer;
       summed = sum_next _ i.summed (first k) (brings_it k) c.add_steps-steps.ensures c.args.pen.line_height
-          c.args.pen.origin c.loop-at.dimensions goes;
+          c.args.pen.origin c.loop-ch.dimensions goes;
     }
 
 pub returns : goal.returns
 returns c =
-    let i = c.loop-at.invariant in
+    let i = c.loop-ch.invariant in
     let k = c.requires.checked in
-    let over = c.loop-at-test.false in
+    let over = c.in_default.ensures in
     record {
       counted = sym (measured_end k i.drawn.reached over);
       summed = summed_end i.summed over;
       shown = drawn_end _ _ _ _ _ _ _ _ _ k i.drawn over;
-      reach = λ e k. let same : c.loop-at.dimensions ≡ e = cc in
+      reach = λ e k. let same : c.loop-ch.dimensions ≡ e = cc in
           subst (λ (x : RenderedDimensions). InReach x.bounding_box) same i.drawn.reached.reached.within.box;
     }
