@@ -4,10 +4,9 @@ use Rattle.integers.proofs.Prelude.{zero, suc, length, drop, length-append, take
 use Rattle.integers.proofs.Laws.{zarith, plus}
 use Rattle.integers.specs.Integers.{pick}
 use Rattle.integers.proofs.Choices.{impossible}
-use Rattle.definitions.specs.Vocabulary.{FontReader, Framebuffer, Point, RenderedDimensions, LookupSteps, HorizontalAlignment, Report}
+use Rattle.definitions.specs.Vocabulary.{Framebuffer, Point, RenderedDimensions, LookupSteps, HorizontalAlignment, Report}
 use Rattle.types.specs.declared.style.HorizontalAlignment.TheVariants.{Left, Center, Right}
 use Rattle.definitions.specs.Refusals.{Outcome, success, refused, outcome}
-use Rattle.definitions.specs.Header.{Opened}
 use Rattle.definitions.specs.Lookup.{no_steps}
 use Rattle.definitions.specs.Geometry.{join}
 use Rattle.definitions.specs.Utf8.{characters, decode, code_points, is_utf8, newlines}

@@ -107,14 +107,7 @@ fn draw_lines(
     let mut rest = text;
     loop {
         let (line, after) = split_line(rest);
-        let drawn = draw_line(
-            font,
-            line,
-            setting,
-            dimensions,
-            context,
-            &mut buffer[..],
-        );
+        let drawn = draw_line(font, line, setting, dimensions, context, &mut buffer[..]);
         match drawn.result {
             Err(error) => {
                 let sum = add_steps(steps, drawn.steps);

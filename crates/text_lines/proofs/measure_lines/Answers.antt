@@ -1,6 +1,6 @@
 -- `measure_lines` meets its contract: each character that is added leads on (`measured_next`) or stops the text (`aligned_stops`,
 -- `sum_stops`). At the end the last line is still to be moved.
-use Rattle.std.proofs.Common.{◌≡◌, refl, sym, ap, ◌∙◌}
+use Rattle.std.proofs.Common.{refl, sym, ap, ◌∙◌}
 use Rattle.definitions.specs.Refusals.{success}
 use Rattle.utf8.proofs.SplitLaws.{split_shorter}
 use Rattle.checks.proofs.OriginLaws.{as_line}

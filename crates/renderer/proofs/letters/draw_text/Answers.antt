@@ -1,5 +1,5 @@
 -- LetterLaws and SumLoopLaws have the loop's steps and its ends; here they are applied to the character that was read.
-use Rattle.integers.proofs.Prelude.{◌≡◌, refl, sym, ap, subst, ◌∙◌, ℕ, arith, drop}
+use Rattle.integers.proofs.Prelude.{◌≡◌, refl, sym, ap, subst, ◌∙◌, ℕ}
 use Rattle.integers.proofs.Choices.{impossible}
 use Rattle.definitions.specs.Vocabulary.{RenderedDimensions}
 use Rattle.definitions.specs.Refusals.{outcome}

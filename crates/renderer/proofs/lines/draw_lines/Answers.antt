@@ -1,5 +1,5 @@
 -- LineLoopLaws has the loop's step and its ends; here they are applied to the line that was found.
-use Rattle.integers.proofs.Prelude.{◌≡◌, refl, ap, ◌∙◌, ◌-◌, ◌≤◌, ◌<◌, arith, List, ℕ, length, take, drop, length-drop}
+use Rattle.integers.proofs.Prelude.{◌≡◌, refl, ap, ◌∙◌, ◌≤◌, arith, length}
 use Rattle.definitions.specs.Refusals.{outcome}
 use Rattle.definitions.specs.Utf8.{newlines}
 use Rattle.renderer.specs.Lines.{rest_of}
