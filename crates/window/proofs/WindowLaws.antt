@@ -1,7 +1,8 @@
 -- The law of a window: a shift and a remainder of it are the number of some of its bits. Assumes nothing.
 use Rattle.integers.proofs.Prelude.{◌≡◌, refl, sym, ◌∙◌, List, [], ◌∷◌, ℕ, zero, suc, ◌+◌, ◌*◌, ◌/◌, ◌%◌, ◌^◌, ◌≤◌, ◌<◌, add-zero, div-one}
-use Rattle.integers.proofs.Prelude.{one-add, arith, take, drop, get_or, take-nil, drop-nil, get_or-drop, drop-drop}
-use lib.Pow.{shr-shr}
+use Rattle.integers.proofs.Prelude.{ap, mul_comm, pow-suc, w8, Fits, one-add, arith, take, drop, get_or, take-nil, drop-nil, get_or-drop, drop-drop}
+use Rattle.std.specs.Int.{sum_through, byte_worth}
+use lib.Pow.{shr-shr, pow-add}
 use Rattle.definitions.specs.Bits.{bits, number}
 use Rattle.definitions.proofs.BitsLaws.{Small, double, power_suc, number_low_bits, number_small, drop_bytes}
 use Rattle.window.specs.Window.{window}
@@ -46,10 +47,6 @@ window_small n font i = number_small font (8 * i) n
 
 -- ---- a window in terms of bytes
 
-pub window_none : (font : List ℕ) (i : ℕ) → window 0 font i ≡ 0
-unfolding window number
-window_none font i = refl
-
 number_add : (n k : ℕ) (s : List ℕ) → number (take (n + k) s) ≡ number (take n s) + 2 ^ n * number (take k (drop n s))
 unfolding number
 number_add zero k s = let e : 0 + k ≡ k = omega arith in rw e (omega arith)
@@ -76,16 +73,24 @@ window_byte font i h =
     let a : get_or (drop i font) 0 0 ≡ get_or font i 0 = simp add-zero at (get_or-drop i font 0 0) in
     rw (drop_bytes i font) (number_byte (drop i font) (omega arith) ∙ a)
 
-pub window_bytes : (k : ℕ) (font : List ℕ) (i : ℕ) → get_or font i 0 < 256 → get_or font (i + 1) 0 < 256 → get_or font (i + 2) 0 < 256
-    → window (24 + k) font i ≡ get_or font i 0 + 256 * get_or font (i + 1) 0 + 65536 * get_or font (i + 2) 0 + 16777216 * window k font (i + 3)
-window_bytes k font i x y z =
-    let e : 24 + k ≡ 8 + (8 + (8 + k)) = omega arith in
-    rw e (omega (
-      arith,
-      window_add 1 (8 + (8 + k)) font i (i + 1) (omega arith),
-      window_add 1 (8 + k) font (i + 1) (i + 2) (omega arith),
-      window_add 1 k font (i + 2) (i + 3) (omega arith),
-      window_byte font i x,
-      window_byte font (i + 1) y,
-      window_byte font (i + 2) z,
-    ))
+power : (k : ℕ) → 2 ^ (8 * k) ≡ 256 ^ k
+power zero = refl
+power (suc k) =
+    let e : 8 * suc k ≡ 8 * k + 8 = omega arith in
+    rw e (pow-add 2 (8 * k) 8 ∙ ap (λ (p : ℕ). p * 256) (power k) ∙ sym (pow-suc 256 k))
+
+-- Whole bytes, each by what it is worth, as std reads a number of them.
+pub window_bytes : (k : ℕ) (font : List ℕ) (i : ℕ) → ((j : ℕ) → Fits w8 (get_or font j 0))
+    → window (8 * suc k) font i ≡ sum_through (λ j. byte_worth j (get_or font (i + j) 0)) k
+window_bytes zero font i h = simp add-zero (window_byte font i (h i).fits)
+window_bytes (suc k) font i h =
+    let e : 8 * suc (suc k) ≡ 8 * suc k + 8 = omega arith in
+    rw (
+      e,
+      window_add (suc k) 8 font i (i + suc k) refl,
+      window_bytes k font i h,
+      window_byte font (i + suc k) (h _).fits,
+      power (suc k),
+      mul_comm (256 ^ suc k) (get_or font (i + suc k) 0),
+    )
+    refl

@@ -5,19 +5,10 @@ ghost use Rattle.std.specs.Prelude.{◌≡◌, ◌+◌, ◌%◌, ◌≤◌, leng
 ghost use Rattle.window.specs.Window.{window};
 
 // The byte at i, or 0 past the font's end.
-fn byte_or_zero(font: &[u8], i: usize) -> u32
-    ensures { (result ≡ get_or font.now i 0) × (result ≤ 255) }
+fn byte_or_zero(font: &[u8], i: usize) -> u8
+    ensures { result ≡ get_or font.now i 0 }
 {
-    if i < font.len() {
-        return font[i] as u32;
-    }
-    0
-}
-
-fn widen(byte: u8) -> u32
-    ensures { (result ≡ byte) × (result ≤ 255) }
-{
-    byte as u32
+    font.get(i).copied().unwrap_or(0)
 }
 
 // The four bytes from i on. The compiler makes one load of it.
@@ -25,10 +16,7 @@ fn word_at(font: &[u8], i: usize) -> u32
     requires { (i + 4 ≤ length font.now) × (length font.now ≤ 1048576) }
     ensures { result ≡ window 32 font.now i }
 {
-    widen(font[i])
-        + 256 * widen(font[i + 1])
-        + 65536 * widen(font[i + 2])
-        + 16777216 * widen(font[i + 3])
+    u32::from_le_bytes([font[i], font[i + 1], font[i + 2], font[i + 3]])
 }
 
 // The three bytes from i on. Bytes past the font's end are 0.
@@ -36,7 +24,13 @@ fn three_bytes_at(font: &[u8], i: usize) -> u32
     requires { i ≤ 16777216 }
     ensures { result ≡ window 24 font.now i }
 {
-    byte_or_zero(font, i) + 256 * byte_or_zero(font, i + 1) + 65536 * byte_or_zero(font, i + 2)
+    let bytes = [
+        byte_or_zero(font, i),
+        byte_or_zero(font, i + 1),
+        byte_or_zero(font, i + 2),
+        0,
+    ];
+    u32::from_le_bytes(bytes)
 }
 
 // The bytes from i on: four of them, or three near the font's end.
@@ -56,7 +50,16 @@ pub fn long_at(font: &[u8], i: usize) -> u64
     ensures { result % 281474976710656 ≡ window 48 font.now i }
 {
     if i + 8 <= font.len() {
-        return (word_at(font, i) as u64) + 4294967296 * (word_at(font, i + 4) as u64);
+        return u64::from_le_bytes([
+            font[i],
+            font[i + 1],
+            font[i + 2],
+            font[i + 3],
+            font[i + 4],
+            font[i + 5],
+            font[i + 6],
+            font[i + 7],
+        ]);
     }
-    (three_bytes_at(font, i) as u64) + 16777216 * (three_bytes_at(font, i + 3) as u64)
+    u64::from(three_bytes_at(font, i)) + (u64::from(three_bytes_at(font, i + 3)) << 24)
 }
