@@ -6,7 +6,5 @@ pub fn u16_at(font: &[u8], i: usize) -> u16
     requires { i + 2 ≤ length font.now }
     ensures { result ≡ big_endian16 font.now i }
 {
-    let high = font[i] as u16;
-    let low = font[i + 1] as u16;
-    high * 256 + low
+    u16::from_be_bytes([font[i], font[i + 1]])
 }

@@ -7,23 +7,10 @@ pub mod error;
 pub mod number;
 
 ghost use Rattle.std.specs.Prelude.{◌≡◌};
-ghost use Rattle.integers.specs.Integers.{min_z, max_z};
 ghost use Rattle.definitions.specs.Geometry.{span_length, join_rectangles, join, RectangleInReach, InReach};
 ghost use Rattle.utils.specs.Spans.{SpansInReach};
 
 use types::geometry::{Point, Rectangle, Size};
-
-pub fn min(a: i32, b: i32) -> i32
-    ensures { result ≡ min_z a b }
-{
-    if a < b { a } else { b }
-}
-
-pub fn max(a: i32, b: i32) -> i32
-    ensures { result ≡ max_z a b }
-{
-    if a < b { b } else { a }
-}
 
 // The length of the smallest span over two, each a start and a length: the columns of two
 // rectangles, or their rows.
@@ -31,8 +18,9 @@ fn span_length(start1: i32, start2: i32, length1: u32, length2: u32) -> u32
     requires { SpansInReach start1 start2 length1 length2 }
     ensures { result ≡ span_length start1 start2 length1 length2 }
 {
-    let end = max(start1 + (length1 as i32), start2 + (length2 as i32));
-    (end - min(start1, start2)) as u32
+    let end1 = start1 + (length1 as i32);
+    let end2 = start2 + (length2 as i32);
+    (end1.max(end2) - start1.min(start2)) as u32
 }
 
 fn combine_rectangles(r1: Rectangle, r2: Rectangle) -> Rectangle
@@ -45,8 +33,8 @@ fn combine_rectangles(r1: Rectangle, r2: Rectangle) -> Rectangle
     let s2 = r2.size;
     Rectangle {
         top_left: Point {
-            x: min(p1.x, p2.x),
-            y: min(p1.y, p2.y),
+            x: p1.x.min(p2.x),
+            y: p1.y.min(p2.y),
         },
         size: Size {
             width: span_length(p1.x, p2.x, s1.width, s2.width),
