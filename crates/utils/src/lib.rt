@@ -1,10 +1,9 @@
 // Joining the bounding boxes of a text's glyphs (SPECIFICATION, Texts); and, in modules of their own,
-// what is printed of refusals and of numbers, and the 16-bit numbers of a font.
+// what is answered with a refusal, and the 16-bit numbers of a font.
 #![tactic(auto)]
 
 pub mod big_endian;
 pub mod error;
-pub mod number;
 
 ghost use Rattle.std.specs.Prelude.{◌≡◌};
 ghost use Rattle.definitions.specs.Geometry.{span_length, join_rectangles, join, RectangleInReach, InReach};
