@@ -111,18 +111,18 @@ fn search_unicode(font: &[u8], table: usize, encoding: u16) -> Report<usize>
     if font.len() < table {
         return font_ends(encoding);
     }
-    match calculate_jump_offset(font, table, encoding) {
-        JumpOffset::None(entries) => {
-            let records = 0;
-            not_found(encoding, LookupSteps { records, entries })
-        }
-        JumpOffset::Some(jump_offset, entries) => {
-            if font.len() - table < jump_offset {
-                return font_ends(encoding);
-            }
-            search_chain(font, table + jump_offset, encoding, 2, entries)
-        }
+    let JumpOffset {
+        jump_offset,
+        entries,
+    } = calculate_jump_offset(font, table, encoding);
+    let Some(jump_offset) = jump_offset else {
+        let records = 0;
+        return not_found(encoding, LookupSteps { records, entries });
+    };
+    if font.len() - table < jump_offset {
+        return font_ends(encoding);
     }
+    search_chain(font, table + jump_offset, encoding, 2, entries)
 }
 
 // Where the glyph of a code point begins. Above 65535 no byte is looked at.
