@@ -1,1 +1,2 @@
+pub mod Record16Laws
 pub mod Record8Laws

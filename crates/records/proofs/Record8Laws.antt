@@ -2,7 +2,7 @@
 use Rattle.integers.proofs.Prelude.{◌≡◌, ◌∙◌, List, ℕ, ◌+◌, ◌<◌, length, drop, get_or, eq-eqb, ne_eqb}
 use Rattle.std.proofs.Common.{◌≢◌}
 use Rattle.definitions.specs.Lookup.{next, end, here, record8}
-use Rattle.definitions.proofs.LookupLaws.{record8_at}
+use Rattle.definitions.proofs.LookupLaws.{record8_at, record8_cut}
 
 module _ (c : ℕ) (font : List ℕ) (at : ℕ) (h : at + 1 < length font) where
   pub record8_ends : get_or font (at + 1) 0 ≡ 0 → record8 c (drop at font) ≡ end
@@ -14,3 +14,6 @@ module _ (c : ℕ) (font : List ℕ) (at : ℕ) (h : at + 1 < length font) where
 
     pub record8_passed : get_or font at 0 ≢ c → record8 c (drop at font) ≡ next (get_or font (at + 1) 0)
     record8_passed n = record8_at c font at h ∙ simp (ne_eqb _ _ more, ne_eqb _ _ n)
+
+-- .. by one name, as the proof of `read_record` takes them.
+pub ruleset record8_says = (record8_cut, record8_ends, record8_found, record8_passed)

@@ -1,7 +1,5 @@
 -- How the code's answer to a record is read as that of the definitions.
-use Rattle.std.specs.Prelude.{List, ℕ, eqb}
-use Rattle.integers.specs.Integers.{pick}
-use Rattle.definitions.specs.Lookup.{Record, here, next, last, end, cut, record8, record16}
+use Rattle.definitions.specs.Lookup.{Record, here, next, last, end, cut}
 use Rattle.records.specs.declared.Record.{Record as Code-as-Record}
 use Rattle.records.specs.declared.Record.TheVariants.{Here, Next, Last, End, Cut}
 
@@ -11,7 +9,3 @@ as_record (Next jump) = next jump
 as_record Last = last
 as_record End = end
 as_record Cut = cut
-
--- A record of c by the width of its code.
-abbrev pub record_of : ℕ → ℕ → List ℕ → Record
-record_of width c = pick (eqb width 1) (record8 c) (record16 c)

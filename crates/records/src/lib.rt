@@ -2,10 +2,11 @@
 // with a byte after it, so that a loop over records has the end at hand.
 #![tactic(auto)]
 
-ghost use Rattle.std.specs.Prelude.{◌≡◌, ◌≤◌, eqb, length, drop};
+ghost use Rattle.std.specs.Prelude.{◌≡◌, ℕ, ◌≤◌, List, eqb, length, drop};
 ghost use Rattle.integers.specs.Integers.{pick};
-ghost use Rattle.definitions.specs.Lookup.{next, last, record8, record16};
-ghost use Rattle.records.specs.Records.{as_record, record_of};
+ghost use Rattle.definitions.specs.Lookup.{Record as LookupRecord, next, last, record8, record16};
+ghost use Rattle.definitions.proofs.LookupLaws.{Looks, looks8, looks16};
+ghost use Rattle.records.specs.Records.{as_record};
 
 use utils::big_endian::u16_at;
 
@@ -33,56 +34,67 @@ fn jump_to_next(jump: u8) -> Record
     Record::Next(jump)
 }
 
-// A record with a code of one byte. Its jump counts before its code, as in
-// `u8g2_font.c` and not as in the Rust (amended by A3; SPECIFICATION, Lookup).
-#[tactic(auto, using(crate::proofs::Record8Laws::record8_ends, crate::proofs::Record8Laws::record8_found, crate::proofs::Record8Laws::record8_passed, definitions::proofs::LookupLaws::record8_cut))]
-fn read_record8(font: &[u8], at: usize, ch: u16) -> Record
-    requires { 23 ≤ length font.now }
-    ensures { as_record result ≡ record8 ch (drop at font.now) }
-{
-    if font.len() - 1 <= at {
-        return Record::Cut;
-    }
-    let jump = font[at + 1];
-    let ends = jump == 0;
-    let matches = font[at] as u16 == ch;
-    if ends {
-        return Record::End;
-    }
-    if matches {
-        return Record::Here(2);
-    }
-    Record::Next(jump)
+// How many bytes the code of a record has.
+pub trait CharWidth {
+    // what the bytes of a record say of a code point
+    ghost says: { ℕ → List ℕ → LookupRecord };
+
+    fn read_record(font: &[u8], at: usize, ch: u16) -> Record
+        requires { 23 ≤ length font.now }
+        ensures { as_record result ≡ says ch (drop at font.now) };
+
+    ghost looks: { (c : ℕ) → Looks (says c) };
 }
 
-// A record with a code of two bytes. Code 0 ends the chain, also where its jump is missing.
-fn read_record16(font: &[u8], at: usize, ch: u16) -> Record
-    requires { 23 ≤ length font.now }
-    ensures { as_record result ≡ record16 ch (drop at font.now) }
-{
-    if font.len() - 2 < at {
-        return Record::Cut;
+// Up to 255. The jump counts before the code, as in `u8g2_font.c` and not as in the Rust (amended by A3; SPECIFICATION, Lookup).
+pub struct OneByte;
+
+impl CharWidth for OneByte {
+    ghost says = { record8 };
+
+    ghost looks = { looks8 };
+
+    #[tactic(auto, using(crate::proofs::Record8Laws::record8_says))]
+    fn read_record(font: &[u8], at: usize, ch: u16) -> Record {
+        if font.len() - 1 <= at {
+            return Record::Cut;
+        }
+        let jump = font[at + 1];
+        let ends = jump == 0;
+        let matches = u16::from(font[at]) == ch;
+        if ends {
+            return Record::End;
+        }
+        if matches {
+            return Record::Here(2);
+        }
+        Record::Next(jump)
     }
-    let code = u16_at(font, at);
-    if code == 0 {
-        return Record::Last;
-    }
-    if font.len() - 2 == at {
-        return Record::Cut;
-    }
-    if code == ch {
-        return Record::Here(3);
-    }
-    jump_to_next(font[at + 2])
 }
 
-// A record whose code has char_width bytes, 1 or 2.
-pub fn read_record(font: &[u8], at: usize, ch: u16, char_width: usize) -> Record
-    requires { 23 ≤ length font.now }
-    ensures { as_record result ≡ record_of char_width ch (drop at font.now) }
-{
-    if char_width == 1 {
-        return read_record8(font, at, ch);
+// From 256 on. Code 0 ends the chain, also where its jump is missing.
+pub struct TwoBytes;
+
+impl CharWidth for TwoBytes {
+    ghost says = { record16 };
+
+    ghost looks = { looks16 };
+
+    #[tactic(auto, using(crate::proofs::Record16Laws::record16_says))]
+    fn read_record(font: &[u8], at: usize, ch: u16) -> Record {
+        if font.len() - 2 < at {
+            return Record::Cut;
+        }
+        let code = u16_at(font, at);
+        if code == 0 {
+            return Record::Last;
+        }
+        if font.len() - 2 == at {
+            return Record::Cut;
+        }
+        if code == ch {
+            return Record::Here(3);
+        }
+        jump_to_next(font[at + 2])
     }
-    read_record16(font, at, ch)
 }
