@@ -4,10 +4,9 @@
 ghost use Rattle.std.specs.Prelude.{◌≡◌, ◌≤◌, Ok, length};
 ghost use Rattle.definitions.specs.Header.{Opened};
 ghost use Rattle.definitions.specs.Lookup.{missing, short, chain, chain_start, after_entries, search_table, search as lookup};
-ghost use Rattle.records.specs.Records.{record_of};
 ghost use Rattle.glyph_searcher.specs.Answers.{search_report, InLimits};
 
-use records::{Record, read_record};
+use records::{CharWidth, OneByte, Record, TwoBytes};
 use types::error::Error;
 use types::font_reader::FontReader;
 use types::results::Report;
@@ -52,25 +51,17 @@ fn font_ends(ch: u16) -> Report<usize>
     }
 }
 
-// The chain from the record at `start` on, of records whose codes have char_width bytes, after so many entries of the jump
-// table. A record counts where its code was looked at: one that ends the chain by its jump does from 256 on, and does not up to
-// 255 (amended by A3).
-#[tactic(auto, using(crate::proofs::RecordLaws::records_come))]
-fn search_chain(
-    font: &[u8],
-    start: usize,
-    ch: u16,
-    char_width: usize,
-    entries: u32,
-) -> Report<usize>
+// The chain from the record at `start` on, of records whose codes are so wide, after so many entries of the jump table. A record
+// counts where its code was looked at: one that ends the chain by its jump does from 256 on, and does not up to 255 (amended by
+// A3).
+fn search_chain<W: CharWidth>(font: &[u8], start: usize, ch: u16, entries: u32) -> Report<usize>
     requires { InLimits (length font.now) start }
-    ensures { result ≡ search_report ch (chain (record_of char_width ch) (after_entries entries) 0 start
-        font.now) }
+    ensures { result ≡ search_report ch (chain (W.says ch) (after_entries entries) 0 start font.now) }
 {
     let mut at = start;
     let mut records: u32 = 0;
     loop {
-        let says = read_record(font, at, ch, char_width);
+        let says = W::read_record(font, at, ch);
         let looked = LookupSteps {
             records: records + 1,
             entries,
@@ -122,7 +113,7 @@ fn search_unicode(font: &[u8], table: usize, encoding: u16) -> Report<usize>
     if font.len() - table < jump_offset {
         return font_ends(encoding);
     }
-    search_chain(font, table + jump_offset, encoding, 2, entries)
+    search_chain::<TwoBytes>(font, table + jump_offset, encoding, entries)
 }
 
 // Where the glyph of a code point begins. Above 65535 no byte is looked at.
@@ -141,5 +132,5 @@ pub fn search(font: &[u8], head: FontReader, ch: u32) -> Report<usize>
         let table = U8G2_FONT_DATA_STRUCT_SIZE + (head.array_offset_0x0100 as usize);
         return search_unicode(font, table, ch as u16);
     }
-    search_chain(font, chain_start(head, ch), ch as u16, 1, 0)
+    search_chain::<OneByte>(font, chain_start(head, ch), ch as u16, 0)
 }

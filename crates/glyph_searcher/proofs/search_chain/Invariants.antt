@@ -2,20 +2,19 @@
 -- what is left of the font, since a jump that is not 0 moves on; so there are no more records than bytes passed.
 use Rattle.integers.proofs.Prelude.{◌≡◌, List, ℕ, ◌-◌, ◌≤◌, length}
 use Rattle.definitions.specs.Vocabulary.{LookupSteps}
-use Rattle.definitions.specs.Lookup.{after_entries, chain}
-use Rattle.records.specs.Records.{record_of}
+use Rattle.definitions.specs.Lookup.{Record, after_entries, chain}
 use Rattle.glyph_searcher.proofs.search_chain.Given as goal
 
 abbrev pub steps_so : ℕ → ℕ → LookupSteps
 steps_so records entries = record { records = records; entries = entries }
 
-pub record FollowedTo (font : List ℕ) (start ch char_width entries at passed : ℕ) : Type 0 where
+pub record FollowedTo (look : List ℕ → Record) (font : List ℕ) (start entries at passed : ℕ) : Type 0 where
   pub small : at ≤ 1048831
   pub few : passed ≤ at
-  pub same : chain (record_of char_width ch) (after_entries entries) 0 start font ≡ chain (record_of char_width ch) (steps_so passed entries) 0 at font
+  pub same : chain look (after_entries entries) 0 start font ≡ chain look (steps_so passed entries) 0 at font
 
 abbrev pub invariant-loop-n : goal.invariant-loop-n
-invariant-loop-n l = FollowedTo l.font l.start l.ch l.char_width l.entries l.at l.records
+invariant-loop-n g l = FollowedTo (g.W.CharWidth.says l.ch) l.font l.start l.entries l.at l.records
 
 abbrev pub decreases-loop-n : goal.decreases-loop-n
-decreases-loop-n l = length l.font - l.at
+decreases-loop-n g l = length l.font - l.at
