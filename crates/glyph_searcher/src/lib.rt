@@ -67,10 +67,10 @@ fn search_chain<W: CharWidth>(font: &[u8], start: usize, ch: u16, entries: u32) 
             entries,
         };
         match says {
-            Record::Here(n) => return found(at + (n as usize), looked),
+            Record::Here(n) => return found(at + usize::from(n), looked),
             Record::Next(jump) => {
                 records = looked.records;
-                at += jump as usize;
+                at += usize::from(jump);
             }
             Record::Last => return not_found(ch, looked),
             Record::End => return not_found(ch, LookupSteps { records, entries }),
@@ -80,21 +80,19 @@ fn search_chain<W: CharWidth>(font: &[u8], start: usize, ch: u16, entries: u32) 
 }
 
 // Where the chain of a code point up to 255 begins.
-fn chain_start(head: FontReader, ch: u32) -> usize
-    ensures { (result ≡ chain_start head ch) × (result ≤ 65558) }
+fn chain_start(head: FontReader, encoding: u16) -> usize
+    ensures { (result ≡ chain_start head encoding) × (result ≤ 65558) }
 {
-    if 97 <= ch {
-        return U8G2_FONT_DATA_STRUCT_SIZE + (head.array_offset_lower_a as usize);
+    match encoding {
+        97.. => U8G2_FONT_DATA_STRUCT_SIZE + usize::from(head.array_offset_lower_a),
+        65..97 => U8G2_FONT_DATA_STRUCT_SIZE + usize::from(head.array_offset_upper_a),
+        _ => U8G2_FONT_DATA_STRUCT_SIZE,
     }
-    if 65 <= ch {
-        return U8G2_FONT_DATA_STRUCT_SIZE + (head.array_offset_upper_a as usize);
-    }
-    U8G2_FONT_DATA_STRUCT_SIZE
 }
 
 // Code points from 256 to 65535: the jump table begins at `table`, and leads to the chain. Each may
 // begin exactly at the font's end, but not past it.
-#[tactic(auto, using(crate::proofs::TableRules::table_leads))]
+#[tactic(auto, using(crate::proofs::SearchRules::table_leads))]
 fn search_unicode(font: &[u8], table: usize, encoding: u16) -> Report<usize>
     requires { (23 ≤ length font.now) × (length font.now ≤ 1048576) }
     ensures { result ≡ search_report encoding (search_table font.now table encoding) }
@@ -117,20 +115,20 @@ fn search_unicode(font: &[u8], table: usize, encoding: u16) -> Report<usize>
 }
 
 // Where the glyph of a code point begins. Above 65535 no byte is looked at.
-#[tactic(auto, using(definitions::proofs::LookupLaws::search_above, definitions::proofs::LookupLaws::search_chain, definitions::proofs::LookupLaws::search_table_lem))]
+#[tactic(auto, using(crate::proofs::SearchRules::searches))]
 pub fn search(font: &[u8], head: FontReader, ch: u32) -> Report<usize>
     requires { Opened font.now head }
     ensures { result ≡ search_report ch (lookup font.now ch) }
 {
-    if 65535 < ch {
+    let Ok(encoding) = u16::try_from(ch) else {
         return Report {
             result: Err(Error::GlyphNotFound(ch)),
             steps: NO_STEPS,
         };
+    };
+    if 255 < encoding {
+        let table = U8G2_FONT_DATA_STRUCT_SIZE + usize::from(head.array_offset_0x0100);
+        return search_unicode(font, table, encoding);
     }
-    if 255 < ch {
-        let table = U8G2_FONT_DATA_STRUCT_SIZE + (head.array_offset_0x0100 as usize);
-        return search_unicode(font, table, ch as u16);
-    }
-    search_chain::<OneByte>(font, chain_start(head, ch), ch as u16, 0)
+    search_chain::<OneByte>(font, chain_start(head, encoding), encoding, 0)
 }
