@@ -7,10 +7,9 @@ use Rattle.definitions.specs.Lookup.{sum, none, jump_table}
 use Rattle.definitions.proofs.LookupLaws.{table_at, table_ends}
 
 -- The rest of the table from the entry k on, with the sum so far, answers as the whole table does.
-pub record SummedTo (table : List ℕ) (c total n k : ℕ) : Type 0 where
-  pub few : n ≡ k
+pub record SummedTo (table : List ℕ) (c total k : ℕ) : Type 0 where
   pub small : total ≤ 65535 * k
-  pub same : jump_table c 0 0 table ≡ jump_table c total n (drop (4 * k) table)
+  pub same : jump_table c 0 0 table ≡ jump_table c total k (drop (4 * k) table)
 
 -- The bytes of a font from `start` on.
 pub tail_is : (font : List ℕ) (start : ℕ) → take (length font - start) (drop start font) ≡ drop start font

@@ -22,19 +22,17 @@ pub fn calculate_jump_offset(font: &[u8], start: usize, encoding: u16) -> JumpOf
 {
     let (table, _) = font[start..].as_chunks::<4>();
     let mut jump_offset: usize = 0;
-    let mut entries: u32 = 0;
-    for entry in table {
+    for (before, entry) in table.iter().enumerate() {
         jump_offset += usize::from(u16_at(entry, 0));
-        entries += 1;
         if encoding <= u16_at(entry, 2) {
             return JumpOffset {
                 jump_offset: Some(jump_offset),
-                entries,
+                entries: before as u32 + 1,
             };
         }
     }
     JumpOffset {
         jump_offset: None,
-        entries,
+        entries: table.len() as u32,
     }
 }

@@ -17,25 +17,25 @@ entries c =
 pub returns-then-encoding-u16_at : goal.returns-then-encoding-u16_at
 returns-then-encoding-u16_at c =
     let e = entries (goal.at.returns-then-encoding-u16_at c).After-as_chunks in
-    let l = c.loop-entry in
-    let within = rw c.u16_at-in-loop-entry.ensures at c.if-encoding-u16_at.true in
+    let l = c.loop-before in
+    let within = rw c.u16_at-in-loop-before.ensures at c.if-encoding-u16_at.true in
     rw (c.from-jump_offset.ensures, c.u16_at.ensures)
-    (sym (l.invariant.same ∙ table_found _ c.args.encoding l.jump_offset l.entries l.entry-index _ e.0 (omega (arith, e.1)) within))
+    (sym (l.invariant.same ∙ table_found _ c.args.encoding l.jump_offset l.before l.before _ e.0 (omega (arith, e.1)) within))
 
-pub loop-entry-preserved : goal.loop-entry-preserved
-loop-entry-preserved c =
-    let e = entries (goal.at.loop-entry-preserved c).After-as_chunks in
-    let l = c.loop-entry in
-    let more = rw c.u16_at-in-loop-entry.ensures at c.if-encoding-u16_at.false in
+pub loop-before-preserved : goal.loop-before-preserved
+loop-before-preserved c =
+    let e = entries (goal.at.loop-before-preserved c).After-as_chunks in
+    let l = c.loop-before in
+    let more = rw c.u16_at-in-loop-before.ensures at c.if-encoding-u16_at.false in
     record {
-      few = omega (arith, l.invariant.few);
       small = omega (arith, l.invariant.small, c.from-jump_offset.ensures, c.u16_at.type_inv);
       same = rw (c.from-jump_offset.ensures, c.u16_at.ensures)
-          (l.invariant.same ∙ table_next _ c.args.encoding l.jump_offset l.entries l.entry-index _ e.0 (omega (arith, e.1)) more);
+          (l.invariant.same ∙ table_next _ c.args.encoding l.jump_offset l.before l.before _ e.0 (omega (arith, e.1)) more);
     }
 
 pub returns : goal.returns
 returns c =
     let e = entries (goal.at.returns c).After-as_chunks in
-    let l = c.loop-entry in
-    sym (l.invariant.same ∙ table_end _ c.args.encoding l.jump_offset l.entries l.entry-index (omega (arith, e.1)))
+    let l = c.loop-before in
+    let all : length c.as_chunks.result.0.now ≡ l.before = omega arith in
+    rw all (sym (l.invariant.same ∙ table_end _ c.args.encoding l.jump_offset l.before l.before (omega (arith, e.1))))

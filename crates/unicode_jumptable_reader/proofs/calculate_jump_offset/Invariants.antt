@@ -4,5 +4,5 @@ use Rattle.integers.proofs.Prelude.{drop}
 use Rattle.unicode_jumptable_reader.proofs.TableLaws.{SummedTo}
 use Rattle.unicode_jumptable_reader.proofs.calculate_jump_offset.Given as goal
 
-abbrev pub invariant-loop-entry : goal.invariant-loop-entry
-invariant-loop-entry l = SummedTo (drop l.start l.font) l.encoding l.jump_offset l.entries l.entry-index
+abbrev pub invariant-loop-before : goal.invariant-loop-before
+invariant-loop-before l = SummedTo (drop l.start l.font) l.encoding l.jump_offset l.before
