@@ -6,8 +6,9 @@ use Rattle.definitions.specs.Header.{Opened}
 use Rattle.definitions.specs.Utf8.{decode, is_utf8, newlines}
 use Rattle.definitions.specs.VerticalOffset.{vertical_offset}
 use Rattle.definitions.specs.Text.{point}
+use Rattle.definitions.specs.Font.{u8g2}
 use Rattle.definitions.specs.Limits.{text_cause, position_cause}
-use Rattle.definitions.specs.Calls.{Request, code_points_of}
+use Rattle.definitions.specs.Calls.{Request, code_points_of, origin}
 use Rattle.checks.specs.declared.origin.Pen.{Pen}
 
 -- `origin` of Calls.antt, of these two instead of the font
@@ -21,6 +22,10 @@ origin_by ascent descent r =
 abbrev pub checked_origin : ℤ → ℤ → Request → Outcome Point
 checked_origin ascent descent r =
     unless_refused (text_cause r.text ∷ position_cause r.position r.line_height ∷ []) (success (origin_by ascent descent r))
+
+-- the pen of a request
+abbrev pub pen_of : List ℕ → Request → Pen
+pen_of font r = record { origin = origin (u8g2 font) r; line_height = r.line_height; ignore_unknown_chars = r.skip }
 
 -- What the checks of a call leave of a text and its place: the text is UTF-8 of at most 4,096 bytes, the line height at most
 -- 65,535, and the place within its limits, moved by the anchor.

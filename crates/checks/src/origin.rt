@@ -7,6 +7,7 @@ ghost use Rattle.checks.specs.Origins.{origin_by, checked_origin};
 
 use crate::limits::{has_bad_position, has_bad_text};
 use content::text::get_newline_count;
+use font_reader::opened::OpenedFont;
 use types::error::Error;
 use types::geometry::Point;
 use types::style::{Placement, VerticalPosition};
@@ -19,6 +20,13 @@ pub struct Pen {
     pub origin: Point,
     pub line_height: u32,
     pub ignore_unknown_chars: bool,
+}
+
+// What a text that passed its tests is set with: its font, opened, and its pen.
+#[derive(Clone, Copy)]
+pub struct Setup<'a> {
+    pub font: OpenedFont<'a>,
+    pub pen: Pen,
 }
 
 pub fn text_origin(

@@ -45,6 +45,17 @@ module _ {A : Type 0} (rest : Outcome A) where
   passed [] ds e = refl
   passed (c ∷ cs) ds e = let h = or_false c.applies (any_applies cs) e in rw h.0 (passed cs ds h.1)
 
+-- Causes that refuse one call refuse any.
+pub stopped : {A B : Type 0} (a : A) (rest : Outcome B) (cs : List Cause) {n m : ℕ} → unless_refused cs (success a) ≡ refused n m
+    → (any_applies cs ≡ true) × (unless_refused cs rest ≡ refused n m)
+stopped a rest [] e = impossible cc
+stopped a rest (c ∷ cs) {n} {m} e = by c.applies refl (stopped a rest cs)
+  where
+    by : (t : Bool) → c.applies ≡ t → (unless_refused cs (success a) ≡ refused n m → (any_applies cs ≡ true) × (unless_refused cs rest ≡ refused n m))
+        → (any_applies (c ∷ cs) ≡ true) × (unless_refused (c ∷ cs) rest ≡ refused n m)
+    by true k next = let h = rw k at e in (rw k refl, rw k cc)
+    by false k next = let h = next (rw k at e) in (rw k h.0, rw k h.1)
+
 -- both parts of a list of causes
 pub any_parts : (cs ds : List Cause) → any_applies (cs ++ ds) ≡ false → (any_applies cs ≡ false) × (any_applies ds ≡ false)
 any_parts [] ds e = (refl, e)

@@ -1,38 +1,43 @@
--- What the checks leave of a call. Assumes nothing.
-use Rattle.integers.proofs.Prelude.{◌≡◌, sym, ap, ◌∙◌, false, List, ℕ, eqb}
-use Rattle.definitions.specs.Vocabulary.{FontReader, Point, Error, Report, RenderedDimensions}
-use Rattle.definitions.specs.Refusals.{success, refused, error_number, refusal, outcome}
-use Rattle.definitions.specs.TextSteps.{measure_lines}
+-- What the tests leave of a call. Assumes nothing.
+use Rattle.integers.proofs.Prelude.{◌≡◌, refl, sym, ap, subst, ◌∙◌, List, ℕ}
+use Rattle.definitions.specs.Vocabulary.{Error, Report, RenderedDimensions, HorizontalAlignment, VerticalPosition, Placement}
+use Rattle.definitions.specs.Refusals.{success, refusal, unless_refused, outcome}
+use Rattle.definitions.specs.Text.{dimensions}
 use Rattle.definitions.specs.Font.{u8g2, measured_answer}
-use Rattle.definitions.specs.Calls.{open_font, Request, code_points_of, origin, measure}
+use Rattle.definitions.specs.Calls.{Request, request, plain, code_points_of, origin, measure_causes, measured_text, measure}
 use Rattle.definitions.specs.Sums.{sums}
-use Rattle.definitions.proofs.SumsLaws.{no_sums}
+use Rattle.definitions.proofs.RefusalLaws.{none_applies, stopped}
+use Rattle.definitions.proofs.SumsLaws.{no_sums, refused_early}
 use Rattle.definitions.proofs.TextLaws.{measure_lines_lem}
-use Rattle.checks.proofs.OriginLaws.{tested, origin_is, call_refused, call_goes_on}
+use Rattle.checks.specs.declared.origin.Pen.{Pen}
+use Rattle.checks.specs.declared.origin.Setup.{Setup}
 use Rattle.lookup_sums.specs.Reports.{refused_report}
+use Rattle.text_lines.specs.Lines.{TextMeasured}
 use Rattle.measuring.specs.Aligned.{AlignedMeasured}
+use Rattle.measuring.specs.Checks.{Passes}
 
--- ---- what the calls share
+module _ (font text : List ℕ) (p : Placement) (v : VerticalPosition) (a : HorizontalAlignment) where
+  abbrev r : Request
+  r = request text p v a
 
-module _ (font : List ℕ) {head : FontReader} (opens : open_font font ≡ success head) (r : Request) where
-  pub aligned_is : {o : Point} → tested font opens r ≡ success o
-      → measure_lines (measured_answer (u8g2 font) r.skip) r.align r.line_height o (code_points_of r.text) ≡ measure (u8g2 font) r
+  -- refused by a cause, and so before its first character
+  pub refused_by : {report : Report RenderedDimensions} {e : Error} → report ≡ refused_report e
+      → unless_refused (measure_causes (u8g2 font) (plain text p v)) (success (origin (u8g2 font) (plain text p v))) ≡ refusal e → AlignedMeasured font r report
   unfolding measure
-  aligned_is {o} e =
-      ap (λ (p : Point). measure_lines (measured_answer (u8g2 font) r.skip) r.align r.line_height p (code_points_of r.text)) (sym (origin_is font opens r e))
+  refused_by is off =
+      let causes = measure_causes (u8g2 font) r in
+      let h = stopped (origin (u8g2 font) r) (dimensions (measured_text (u8g2 font) r)) causes off in
+      let early = refused_early (origin (u8g2 font) r) causes (refl, (refl, (refl, (refl, tt)))) off in
+      rw is record { answered = sym h.1; summed = no_sums (u8g2 font) r.text (sym h.1) early }
+
+  -- measured with the font's bytes and the request's pen
+  pub measured_as : {report : Report RenderedDimensions} {s : Setup} → Passes font (plain text p v) s → TextMeasured s.font.bytes.now r.text r.align s.pen report → AlignedMeasured font r report
+  unfolding measure
+  measured_as {report} {s} k m =
+      let here = subst (λ (b : List ℕ). TextMeasured b r.text r.align s.pen report) k.bytes m in
+      let there = subst (λ (q : Pen). TextMeasured font r.text r.align q report) k.pen here in
+      let causes = measure_causes (u8g2 font) r in
+      let answered = there.measured
       ∙ measure_lines_lem (measured_answer (u8g2 font) r.skip) r.align r.line_height (origin (u8g2 font) r) (code_points_of r.text)
-      ∙ sym (call_goes_on font opens r _ e)
-
-  pub aligned_refused : {n c : ℕ} → tested font opens r ≡ refused n c → refused n c ≡ measure (u8g2 font) r
-  unfolding measure
-  aligned_refused e = sym (call_refused font opens r _ e)
-
--- ---- the report: an answer, and the sums that go with it
-
-module _ (font : List ℕ) (r : Request) {report : Report RenderedDimensions} where
-  pub reported : outcome report.result ≡ measure (u8g2 font) r → report.steps ≡ sums (u8g2 font) r.text (outcome report.result)
-      → AlignedMeasured font r report
-  reported a s = record { answered = a; summed = s ∙ ap (sums (u8g2 font) r.text) a }
-
-  pub refused_there : {e : Error} → report ≡ refused_report e → refusal e ≡ measure (u8g2 font) r → eqb (error_number e) 7 ≡ false → AlignedMeasured font r report
-  refused_there is a h = rw is record { answered = a; summed = no_sums (u8g2 font) r.text a h }
+      ∙ sym (none_applies (dimensions (measured_text (u8g2 font) r)) causes k.unrefused) in
+      record { answered = answered; summed = there.summed ∙ ap (sums (u8g2 font) r.text) answered }

@@ -1,14 +1,36 @@
 // The dimensions of an aligned text, which the public calls read their answers off.
-ghost use Rattle.definitions.specs.Calls.{request};
+ghost use Rattle.definitions.specs.Calls.{plain, request};
 ghost use Rattle.measuring.specs.Aligned.{AlignedMeasured};
+ghost use Rattle.measuring.specs.Checks.{Checks};
 
-use checks::origin::{Pen, checked_origin};
+use checks::origin::{Pen, Setup, checked_origin};
 use font_reader::opened::OpenedFont;
 use lookup_sums::refused;
 use text_lines::measure_lines;
+use types::error::Error;
 use types::geometry::RenderedDimensions;
 use types::results::Report;
 use types::style::{HorizontalAlignment, Placement, VerticalPosition};
+
+// Causes 1, 2, 4 and 5, in this order (SPECIFICATION, Refusals).
+fn check<'a>(
+    font: &'a [u8],
+    text: &[u8],
+    placement: Placement,
+    vertical_pos: VerticalPosition,
+) -> Result<Setup<'a>, Error>
+    ensures { Checks font.now (plain text.now placement vertical_pos) result }
+{
+    let font = OpenedFont::open(font)?;
+    let head = font.head;
+    let origin = checked_origin(head.ascent, head.descent, text, placement, vertical_pos)?;
+    let pen = Pen {
+        origin,
+        line_height: placement.line_height,
+        ignore_unknown_chars: placement.ignore_unknown_chars,
+    };
+    Ok(Setup { font, pen })
+}
 
 // The dimensions of the aligned text, or the refusal, and the steps of its lookups.
 pub fn aligned_dimensions(
@@ -21,21 +43,8 @@ pub fn aligned_dimensions(
     ensures { AlignedMeasured font.now
         (request text.now placement vertical_pos horizontal_align) result }
 {
-    match OpenedFont::open(font) {
+    match check(font, text, placement, vertical_pos) {
         Err(error) => refused(error),
-        Ok(opened) => {
-            let head = opened.head;
-            match checked_origin(head.ascent, head.descent, text, placement, vertical_pos) {
-                Err(error) => refused(error),
-                Ok(origin) => {
-                    let pen = Pen {
-                        origin,
-                        line_height: placement.line_height,
-                        ignore_unknown_chars: placement.ignore_unknown_chars,
-                    };
-                    measure_lines(&opened, text, horizontal_align, pen)
-                }
-            }
-        }
+        Ok(setup) => measure_lines(&setup.font, text, horizontal_align, setup.pen),
     }
 }

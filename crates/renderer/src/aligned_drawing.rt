@@ -2,13 +2,14 @@
 ghost use Rattle.std.specs.Prelude.{◌≡◌};
 ghost use Rattle.definitions.specs.Refusals.{outcome};
 ghost use Rattle.definitions.specs.Font.{u8g2};
-ghost use Rattle.definitions.specs.Calls.{request, draw, draw_buffer};
+ghost use Rattle.definitions.specs.Calls.{plain, request, draw, draw_buffer};
 ghost use Rattle.definitions.specs.Sums.{sums};
+ghost use Rattle.renderer.specs.Checks.{Checks};
 
 use crate::letters::Context;
 use crate::lines::draw_aligned;
 use checks::limits::{has_bad_color, has_bad_size};
-use checks::origin::{Pen, checked_origin};
+use checks::origin::{Pen, Setup, checked_origin};
 use font_reader::opened::OpenedFont;
 use lookup_sums::refused;
 use types::error::Error;
@@ -16,6 +17,36 @@ use types::framebuffer::Framebuffer;
 use types::geometry::RenderedDimensions;
 use types::results::Report;
 use types::style::{FontStyle, HorizontalAlignment, Placement};
+
+// Causes 1 to 6, in this order (SPECIFICATION, Refusals).
+fn check<'a>(
+    font: &'a [u8],
+    text: &[u8],
+    placement: Placement,
+    style: FontStyle,
+    framebuffer: Framebuffer,
+    buffer: &[u8],
+) -> Result<Setup<'a>, Error>
+    ensures { Checks font.now (plain text.now placement style.vertical_pos) style.color framebuffer
+        buffer.now result }
+{
+    let font = OpenedFont::open(font)?;
+    if has_bad_size(framebuffer, buffer) {
+        return Err(Error::FramebufferSize);
+    }
+    let head = font.head;
+    let vertical_pos = style.vertical_pos;
+    let origin = checked_origin(head.ascent, head.descent, text, placement, vertical_pos)?;
+    if has_bad_color(style.color, head.supports_background_color) {
+        return Err(Error::BackgroundColorNotSupported);
+    }
+    let pen = Pen {
+        origin,
+        line_height: placement.line_height,
+        ignore_unknown_chars: placement.ignore_unknown_chars,
+    };
+    Ok(Setup { font, pen })
+}
 
 // Draws the aligned text where it is placed on a framebuffer of that size, or refuses to; the steps of its lookups come with
 // either. A call that is refused before the first letter leaves the framebuffer as it was.
@@ -35,30 +66,15 @@ pub fn aligned_drawing(
     ensures summed { result.steps ≡ sums (u8g2 font.now) text.now (draw (u8g2 font.now)
         (request text.now placement style.vertical_pos horizontal_align) style.color framebuffer buffer.old) }
 {
-    match OpenedFont::open(font) {
+    match check(font, text, placement, style, framebuffer, &buffer[..]) {
         Err(error) => refused(error),
-        Ok(opened) => {
-            let head = opened.head;
-            if has_bad_size(framebuffer, &buffer[..]) {
-                return refused(Error::FramebufferSize);
-            }
-            let vertical_pos = style.vertical_pos;
-            match checked_origin(head.ascent, head.descent, text, placement, vertical_pos) {
-                Err(error) => refused(error),
-                Ok(origin) => {
-                    let color = style.color;
-                    if has_bad_color(color, head.supports_background_color) {
-                        return refused(Error::BackgroundColorNotSupported);
-                    }
-                    let pen = Pen {
-                        origin,
-                        line_height: placement.line_height,
-                        ignore_unknown_chars: placement.ignore_unknown_chars,
-                    };
-                    let context = Context { color, framebuffer };
-                    draw_aligned(&opened, text, pen, horizontal_align, context, buffer)
-                }
-            }
+        Ok(setup) => {
+            let context = Context {
+                color: style.color,
+                framebuffer,
+            };
+            let pen = setup.pen;
+            draw_aligned(&setup.font, text, pen, horizontal_align, context, buffer)
         }
     }
 }
