@@ -1,28 +1,71 @@
-// Agreement of aligned drawing and measuring, for every alignment.
+// Aligned calls, and their agreement for every alignment.
 ghost use Rattle.std.specs.Prelude.{◌≡◌};
 ghost use Rattle.definitions.specs.Font.{u8g2};
-ghost use Rattle.definitions.specs.Calls.{request};
+ghost use Rattle.definitions.specs.Calls.{request, draw_aligned, measure_aligned};
 ghost use Rattle.definitions.specs.Agreement.{on, aligned_results, aligned_box, MeasuredAsDrawn};
-ghost use Rattle.agreement.specs.Calls.{as_aligned_results};
+ghost use Rattle.definitions.proofs.AlignedLaws.{aligned_agreement};
+ghost use Rattle.agreement.specs.Calls.{as_results};
 
+use crate::calls::Calls;
+use crate::twice::{Answers, draw_twice_and_measure_by};
 use measuring::rendered_dimensions_aligned::get_rendered_dimensions_aligned;
 use renderer::render_aligned::render_aligned;
 use types::framebuffer::Framebuffer;
 use types::geometry::Rectangle;
 use types::results::Report;
-use types::style::{FontStyle, HorizontalAlignment, Placement};
+use types::style::{FontStyle, HorizontalAlignment, Placement, VerticalPosition};
 
-// What each of the four calls answered.
+// `render_aligned` and `get_rendered_dimensions_aligned`, with one alignment.
 #[derive(Clone, Copy)]
-pub struct AlignedAnswers {
-    pub first: Report<Option<Rectangle>>,
-    pub second: Report<Option<Rectangle>>,
-    pub first_measured: Report<Option<Rectangle>>,
-    pub second_measured: Report<Option<Rectangle>>,
+pub struct Aligned {
+    pub horizontal_align: HorizontalAlignment,
 }
 
-// Draws one text, aligned, on two framebuffers, on each with a font of its own, and measures it so aligned with both fonts. Whatever
-// the input, the four answers and the two framebuffers are those of the calls, and so the claim is about the calls.
+impl Calls for Aligned {
+    type Answer = Option<Rectangle>;
+
+    ghost box_in = { aligned_box };
+
+    ghost align = { λ calls. calls.horizontal_align };
+
+    ghost draws = { λ font r color p. draw_aligned font r color p.framebuffer p.before };
+
+    ghost measures = { measure_aligned };
+
+    ghost agrees = { aligned_agreement };
+
+    fn draw(
+        &self,
+        font: &[u8],
+        text: &[u8],
+        placement: Placement,
+        style: FontStyle,
+        framebuffer: Framebuffer,
+        buffer: &mut [u8],
+    ) -> Report<Option<Rectangle>> {
+        render_aligned(
+            font,
+            text,
+            placement,
+            style,
+            self.horizontal_align,
+            framebuffer,
+            buffer,
+        )
+    }
+
+    fn measure(
+        &self,
+        font: &[u8],
+        text: &[u8],
+        placement: Placement,
+        vertical_pos: VerticalPosition,
+    ) -> Report<Option<Rectangle>> {
+        get_rendered_dimensions_aligned(font, text, placement, vertical_pos, self.horizontal_align)
+    }
+}
+
+// Draws one text, aligned, on two framebuffers, on each with a font of its own, and measures it so aligned with both fonts.
 pub fn draw_aligned_twice_and_measure(
     first_font: &[u8],
     second_font: &[u8],
@@ -34,53 +77,26 @@ pub fn draw_aligned_twice_and_measure(
     first_buffer: &mut [u8],
     second_framebuffer: Framebuffer,
     second_buffer: &mut [u8],
-) -> AlignedAnswers
-    ensures called { as_aligned_results result first_buffer.new second_buffer.new ≡ aligned_results
+) -> Answers<Option<Rectangle>>
+    ensures called { as_results result first_buffer.new second_buffer.new ≡ aligned_results
         (u8g2 first_font.now) (u8g2 second_font.now)
         (request text.now placement style.vertical_pos horizontal_align) style.color
         (on first_framebuffer first_buffer.old) (on second_framebuffer second_buffer.old) }
     ensures agree { MeasuredAsDrawn aligned_box first_font.now second_font.now
         (request text.now placement style.vertical_pos horizontal_align) (on first_framebuffer first_buffer.old)
-        (on second_framebuffer second_buffer.old) (as_aligned_results result first_buffer.new
+        (on second_framebuffer second_buffer.old) (as_results result first_buffer.new
         second_buffer.new) }
 {
-    let first = render_aligned(
+    draw_twice_and_measure_by(
+        &Aligned { horizontal_align },
         first_font,
+        second_font,
         text,
         placement,
         style,
-        horizontal_align,
         first_framebuffer,
-        &mut first_buffer[..],
-    );
-    let second = render_aligned(
-        second_font,
-        text,
-        placement,
-        style,
-        horizontal_align,
+        first_buffer,
         second_framebuffer,
-        &mut second_buffer[..],
-    );
-    let vertical_pos = style.vertical_pos;
-    let first_measured = get_rendered_dimensions_aligned(
-        first_font,
-        text,
-        placement,
-        vertical_pos,
-        horizontal_align,
-    );
-    let second_measured = get_rendered_dimensions_aligned(
-        second_font,
-        text,
-        placement,
-        vertical_pos,
-        horizontal_align,
-    );
-    AlignedAnswers {
-        first,
-        second,
-        first_measured,
-        second_measured,
-    }
+        second_buffer,
+    )
 }

@@ -2,4 +2,6 @@
 #![tactic(auto)]
 
 pub mod aligned;
+pub mod calls;
 pub mod plain;
+pub mod twice;

@@ -1,28 +1,62 @@
-// Agreement of plain drawing and measuring.
+// Plain calls, and their agreement.
 ghost use Rattle.std.specs.Prelude.{◌≡◌};
+ghost use Rattle.types.specs.declared.style.HorizontalAlignment.TheVariants.{Left};
 ghost use Rattle.definitions.specs.Font.{u8g2};
-ghost use Rattle.definitions.specs.Calls.{plain};
-ghost use Rattle.definitions.specs.Agreement.{on, results, plain_box, MeasuredAsDrawn};
+ghost use Rattle.definitions.specs.Calls.{plain, measure};
+ghost use Rattle.definitions.specs.Agreement.{drawn, on, results, plain_box, MeasuredAsDrawn};
+ghost use Rattle.definitions.proofs.Agreement.{agreement};
 ghost use Rattle.agreement.specs.Calls.{as_results};
 
+use crate::calls::Calls;
+use crate::twice::{Answers, draw_twice_and_measure_by};
 use measuring::rendered_dimensions::get_rendered_dimensions;
 use renderer::render::render;
 use types::framebuffer::Framebuffer;
 use types::geometry::RenderedDimensions;
 use types::results::Report;
-use types::style::{FontStyle, Placement};
+use types::style::{FontStyle, Placement, VerticalPosition};
 
-// What each of the four calls answered.
+// `render` and `get_rendered_dimensions`, which ask for Left.
 #[derive(Clone, Copy)]
-pub struct Answers {
-    pub first: Report<RenderedDimensions>,
-    pub second: Report<RenderedDimensions>,
-    pub first_measured: Report<RenderedDimensions>,
-    pub second_measured: Report<RenderedDimensions>,
+pub struct Plain;
+
+impl Calls for Plain {
+    type Answer = RenderedDimensions;
+
+    ghost box_in = { plain_box };
+
+    ghost align = { λ _. Left };
+
+    ghost draws = { drawn };
+
+    ghost measures = { measure };
+
+    ghost agrees = { agreement };
+
+    fn draw(
+        &self,
+        font: &[u8],
+        text: &[u8],
+        placement: Placement,
+        style: FontStyle,
+        framebuffer: Framebuffer,
+        buffer: &mut [u8],
+    ) -> Report<RenderedDimensions> {
+        render(font, text, placement, style, framebuffer, buffer)
+    }
+
+    fn measure(
+        &self,
+        font: &[u8],
+        text: &[u8],
+        placement: Placement,
+        vertical_pos: VerticalPosition,
+    ) -> Report<RenderedDimensions> {
+        get_rendered_dimensions(font, text, placement, vertical_pos)
+    }
 }
 
-// Draws one text on two framebuffers, on each with a font of its own, and measures it with both fonts. Whatever the input, the four
-// answers and the two framebuffers are those of the calls, and so the claim is about the calls.
+// Draws one text on two framebuffers, on each with a font of its own, and measures it with both fonts, by plain calls.
 pub fn draw_twice_and_measure(
     first_font: &[u8],
     second_font: &[u8],
@@ -33,7 +67,7 @@ pub fn draw_twice_and_measure(
     first_buffer: &mut [u8],
     second_framebuffer: Framebuffer,
     second_buffer: &mut [u8],
-) -> Answers
+) -> Answers<RenderedDimensions>
     ensures called { as_results result first_buffer.new second_buffer.new ≡ results
         (u8g2 first_font.now) (u8g2 second_font.now)
         (plain text.now placement style.vertical_pos) style.color
@@ -43,29 +77,16 @@ pub fn draw_twice_and_measure(
         (on second_framebuffer second_buffer.old) (as_results result first_buffer.new
         second_buffer.new) }
 {
-    let first = render(
+    draw_twice_and_measure_by(
+        &Plain,
         first_font,
-        text,
-        placement,
-        style,
-        first_framebuffer,
-        &mut first_buffer[..],
-    );
-    let second = render(
         second_font,
         text,
         placement,
         style,
+        first_framebuffer,
+        first_buffer,
         second_framebuffer,
-        &mut second_buffer[..],
-    );
-    let vertical_pos = style.vertical_pos;
-    let first_measured = get_rendered_dimensions(first_font, text, placement, vertical_pos);
-    let second_measured = get_rendered_dimensions(second_font, text, placement, vertical_pos);
-    Answers {
-        first,
-        second,
-        first_measured,
-        second_measured,
-    }
+        second_buffer,
+    )
 }
