@@ -51,7 +51,11 @@ pub fn buffer() -> [u8; 1_048_577]
 }
 
 // Reads the file of that name into the buffer, and answers the font's bytes.
-pub fn read<'a, R: Files>(rt: &R, path: &str, buffer: &'a mut [u8]) -> Result<&'a [u8], FontFileError>
+pub fn read<'a, R: Files>(
+    rt: &R,
+    path: &str,
+    buffer: &'a mut [u8],
+) -> Result<&'a [u8], FontFileError>
     ensures { IfOk result (λ font. length font.now < length buffer.old) }
 {
     let room = buffer.len();

@@ -1,8 +1,10 @@
 -- The edges of all readings: each reading lies between them, and so on the framebuffer that is made for them. Assumes nothing.
-use Rattle.integers.proofs.Prelude.{◌≡◌, refl, sym, ap, subst, ◌∙◌, true, false, List, ℕ, zero, suc, ◌+◌, ◌-◌, ◌≤◌, ◌<◌, ◌^◌, min, max, dec_lt, arith}
+use Rattle.integers.proofs.Prelude.{◌≡◌, refl, sym, ap, subst, ◌∙◌, Bool, true, false, List, ℕ, zero, suc, ◌+◌, ◌-◌, ◌≤◌, ◌<◌, ◌^◌, min, max, dec_lt, arith}
 use Rattle.integers.proofs.Prelude.{ℤ, pos, negsuc, nat_abs, ◌+ℤ◌, ◌-ℤ◌, mag, lt_z, ◌≤ℤ◌, ◌<ℤ◌, w32, w64, SFits, hbits, to_z, of_z, to_z-of_z}
 use Rattle.integers.proofs.Choices.{impossible}
-use Rattle.integers.specs.Integers.{min_z, max_z}
+use Rattle.std.specs.Prelude.{cond}
+use Rattle.std.specs.Int.{int_min, int_max}
+use Rattle.integers.specs.Integers.{pick, min_z, max_z}
 use Rattle.integers.proofs.Laws.{zarith, up, down, plus, minus, size, min_is, max_is, range, stored}
 use Rattle.definitions.specs.Vocabulary.{Framebuffer, BoundingBox, None, Some, Point, Rectangle, RenderedDimensions, Transparent, HorizontalAlignment, VerticalPosition, Place}
 use Rattle.definitions.specs.Refusals.{Outcome, success, refused}
@@ -10,8 +12,6 @@ use Rattle.definitions.specs.Geometry.{left, top, right, bottom, InsideBox}
 use Rattle.definitions.specs.TextSteps.{moved_box}
 use Rattle.sheet_extent.specs.declared.values.Extent.{Extent}
 use Rattle.sheet_extent.specs.declared.values.Options.{Options}
-use Rattle.sheet_extent.specs.declared.values.Wanted.{Wanted}
-use Rattle.sheet_extent.specs.declared.values.Wanted.TheVariants.{Seen}
 use Rattle.definitions.specs.Font.{u8g2}
 use Rattle.definitions.specs.Framebuffer.{sized}
 use Rattle.definitions.specs.Calls.{placed, request}
@@ -20,6 +20,26 @@ use Rattle.sheet_ground.specs.Readings.{reading_text, PlaceFits}
 use Rattle.sheet_extent.specs.Extent.{at_origin, widened, with_box, with_reading, extent_of, Within, HoldsReadings, NearEdge, NearExtent, AllMeasured}
 use Rattle.sight.specs.Sights.{OnFramebuffer}
 use Rattle.sheet_extent.specs.Extent.{before_zero, inside, position_for, side_of, side, place_at, place_for, Uncut, AllSeen}
+
+-- ---- the library's lesser and greater are the definitions'
+
+least : (a b : ℤ) → int_min a b ≡ min_z a b
+least a b = by (lt_z b a) (lt_z a b) refl refl
+  where
+    by : (s t : Bool) → lt_z b a ≡ s → lt_z a b ≡ t → cond s b a ≡ pick t a b
+    by true true e f = omega zarith
+    by true false e f = refl
+    by false true e f = refl
+    by false false e f = omega zarith
+
+most : (a b : ℤ) → int_max a b ≡ max_z a b
+most a b = by (lt_z b a) (lt_z a b) refl refl
+  where
+    by : (s t : Bool) → lt_z b a ≡ s → lt_z a b ≡ t → cond s a b ≡ pick t b a
+    by true true e f = omega zarith
+    by true false e f = refl
+    by false true e f = refl
+    by false false e f = omega zarith
 
 -- ---- between the edges
 
@@ -60,26 +80,15 @@ near_widened e r n f g w h = record {
 
 -- an edge as the code stores it: a choice between one of 64 bits and one that a call made of 32 bits
 module _ {chosen made e l : ℤ} (ok : mag chosen < 2 ^ hbits w64) (ok' : mag made < 2 ^ hbits w64) (f : SFits w64 e) where
-  pub least_stored : chosen ≡ min_z (to_z w64 (of_z w64 e)) (to_z w64 (of_z w64 made)) → made ≡ l → to_z w64 (of_z w64 chosen) ≡ min_z e l
-  least_stored h k = stored w64 ok (h ∙ rw (stored w64 ok' k, to_z-of_z f))
+  pub least_stored : chosen ≡ int_min (to_z w64 (of_z w64 e)) (to_z w64 (of_z w64 made)) → made ≡ l → to_z w64 (of_z w64 chosen) ≡ min_z e l
+  least_stored h k = stored w64 ok (h ∙ rw (stored w64 ok' k, to_z-of_z f) (least e l))
 
-  pub most_stored : chosen ≡ max_z (to_z w64 (of_z w64 e)) (to_z w64 (of_z w64 made)) → made ≡ l → to_z w64 (of_z w64 chosen) ≡ max_z e l
-  most_stored h k = stored w64 ok (h ∙ rw (stored w64 ok' k, to_z-of_z f))
+  pub most_stored : chosen ≡ int_max (to_z w64 (of_z w64 e)) (to_z w64 (of_z w64 made)) → made ≡ l → to_z w64 (of_z w64 chosen) ≡ max_z e l
+  most_stored h k = stored w64 ok (h ∙ rw (stored w64 ok' k, to_z-of_z f) (most e l))
 
 pub four_edges : (e : Extent) (r : Rectangle) {a b c d : ℤ} → a ≡ min_z e.left (left r) → b ≡ min_z e.top (top r) → c ≡ max_z e.right (right r) → d ≡ max_z e.bottom (bottom r)
     → record { left = a; top = b; right = c; bottom = d } ≡ widened e r
 four_edges e r h i j k = cc
-
--- by what the reading measures
-module _ (e : Extent) (o : Outcome RenderedDimensions) where
-  pub refused_reading : {n c : ℕ} → o ≡ refused n c → e ≡ with_reading e o
-  refused_reading h = rw h
-
-  pub boxless_reading : {d : RenderedDimensions} → o ≡ success d → d.bounding_box ≡ None → e ≡ with_reading e o
-  boxless_reading h b = rw (h, b)
-
-  pub measured_reading : {d : RenderedDimensions} {r : Rectangle} → o ≡ success d → d.bounding_box ≡ Some r → widened e r ≡ with_reading e o
-  measured_reading h b = rw (h, b)
 
 own_box : (e : Extent) (b : BoundingBox) (r : Rectangle) → b ≡ Some r → Within r (with_box e b)
 own_box e None r h = impossible cc
@@ -111,15 +120,14 @@ module _ (font : List ℕ) (v : VerticalPosition) (a : HorizontalAlignment) wher
 
   -- as the loop goes
   pub record MeasuredTo (k : ℕ) (e : Extent) : Type 0 where
-    pub within : k ≤ 901
     pub edges : e ≡ extent_of font v a k
     pub near : NearExtent e
 
-  pub no_readings : MeasuredTo 0 record { left = pos 0; top = pos 0; right = pos 0; bottom = pos 0 }
+  pub no_readings : {e : Extent} → e ≡ record { left = pos 0; top = pos 0; right = pos 0; bottom = pos 0 } → MeasuredTo 0 e
   unfolding extent_of
-  no_readings =
+  no_readings h =
       let zero : NearEdge (pos 0) = record { low = omega zarith; high = omega zarith } in
-      record { within = omega arith; edges = refl; near = record { left = zero; top = zero; right = zero; bottom = zero } }
+      record { edges = h; near = rw h record { left = zero; top = zero; right = zero; bottom = zero } }
 
   pub next_reading : (k : ℕ) {e next : Extent} → e ≡ extent_of font v a k → next ≡ with_reading e (at_origin font v a k) → next ≡ extent_of font v a (k + 1)
   unfolding extent_of
@@ -167,17 +175,7 @@ before_is : (z : ℤ) → before_zero z ≡ min 1000 (down z - up z)
 before_is (pos n) = omega arith
 before_is (negsuc n) = omega arith
 
--- The same by tests, as the code goes.
 module _ (z : ℤ) where
-  pub far_before : lt_z z (negsuc 999) ≡ true → 1000 ≡ before_zero z
-  far_before t = omega (zarith, before_is z)
-
-  pub not_before : lt_z (pos 0) z ≡ true → 0 ≡ before_zero z
-  not_before t = omega (zarith, before_is z)
-
-  pub before : negsuc 999 ≤ℤ z → z ≤ℤ pos 0 → nat_abs (pos 0 -ℤ z) ≡ before_zero z
-  before low high = omega (zarith, before_is z, minus (pos 0) z, size (pos 0 -ℤ z))
-
   side_is : side_of z ≡ max 1 (min 256 (up z - down z))
   side_is = by z
     where
@@ -185,17 +183,10 @@ module _ (z : ℤ) where
       by (pos n) = omega arith
       by (negsuc n) = omega arith
 
-  pub short_side : lt_z z (pos 1) ≡ true → 1 ≡ side_of z
-  short_side t = omega (zarith, side_is)
-
-  pub long_side : lt_z (pos 256) z ≡ true → 256 ≡ side_of z
-  long_side t = omega (zarith, side_is)
-
-  pub whole_side : pos 1 ≤ℤ z → z ≤ℤ pos 256 → nat_abs z ≡ side_of z
-  whole_side low high = omega (zarith, side_is, size z)
-
-pub before_most : (z : ℤ) → before_zero z ≤ 1000
-before_most z = omega (arith, before_is z)
+  pub clamped_side : nat_abs (int_max (pos 1) (int_min z (pos 256))) ≡ side_of z
+  clamped_side =
+      let low = min_z z (pos 256) in
+      rw (least z (pos 256), most (pos 1) low) (omega (zarith, side_is, min_is z (pos 256), max_is (pos 1) low, size (max_z (pos 1) low)))
 
 -- along one side: what lies between the edges, moved to the place, lies between 0 and the side's length
 module _ (first last at : ℤ) (from : first ≤ℤ at) (to : at <ℤ last) (past : pos 0 ≤ℤ last) (uncut : (inside first +ℤ last +ℤ pos 3) ≤ℤ pos 256) where
@@ -223,12 +214,12 @@ module _ (first last start : ℤ) (len : ℕ) (column : ℤ) (from : first ≤�
       let t : at <ℤ last = omega (zarith, minus column (inside first), plus (inside first) start, plus (inside first +ℤ start) (pos len), plus start (pos len)) in
       (subst (λ (z : ℤ). pos 0 ≤ℤ z) back (stands first last at f t past uncut), subst (λ (z : ℤ). z <ℤ pos (side (inside first) last)) back (ends first last at f t past uncut))
 
-module _ (font : List ℕ) (o : Options) (wanted : o.wanted ≡ Seen) where
+module _ (font : List ℕ) (o : Options) (nowhere : o.at ≡ None) where
   abbrev edges : Extent
   edges = extent_of font o.vertical_pos o.horizontal_align 901
 
   abbrev there : Place
-  there = place_at o.vertical_pos o.horizontal_align (position_for Seen edges) edges
+  there = place_at o.vertical_pos o.horizontal_align (position_for None edges) edges
 
   on_framebuffer : Uncut there edges → (b : BoundingBox) → ((r : Rectangle) → b ≡ Some r → Within r edges) → (column row : ℤ)
       → InsideBox column row (moved_box there.position.x there.position.y b) → OnFramebuffer there.framebuffer column row
@@ -242,7 +233,7 @@ module _ (font : List ℕ) (o : Options) (wanted : o.wanted ≡ Seen) where
 
   pub all_seen : Uncut (place_for font o) edges → AllSeen font (place_for font o)
   unfolding place_for
-  all_seen = rw wanted (λ uncut k h d m column row i.
+  all_seen = rw nowhere (λ uncut k h d m column row i.
       let q = measured_at_zero_lem (u8g2 font) (request (reading_text k) (placed there.position 0 false) o.vertical_pos o.horizontal_align) d m in
       on_framebuffer uncut q.0.bounding_box (λ r b. all_between font o.vertical_pos o.horizontal_align 901 k h q.0 q.1.0 r b) column row
       (subst (InsideBox column row) q.1.1 i))
@@ -251,10 +242,6 @@ module _ (font : List ℕ) (o : Options) (wanted : o.wanted ≡ Seen) where
 
 pub both : {A B C : Type 0} (f : A → B → C) {a b : A} {c d : B} → a ≡ b → c ≡ d → f a c ≡ f b d
 both f {a} {b} {c} {d} e h = ap (λ x. f x c) e ∙ ap (f b) h
-
-pub seen_position : {wanted : Wanted} (e : Extent) {x y : ℤ} → wanted ≡ Seen → x ≡ inside e.left → y ≡ inside e.top
-    → record { x = x; y = y } ≡ position_for wanted e
-seen_position e w h k = rw w (cc (h, k))
 
 -- a place with that framebuffer
 abbrev place_in : Framebuffer → Options → Point → Place
@@ -268,17 +255,17 @@ place_in framebuffer o p = record {
 }
 
 pub is_place : (font : List ℕ) (o : Options) {e : Extent} {p : Point} {width height : ℕ} → e ≡ extent_of font o.vertical_pos o.horizontal_align 901
-    → p ≡ position_for o.wanted e → width ≡ side p.x e.right → height ≡ side p.y e.bottom
+    → p ≡ position_for o.at e → width ≡ side p.x e.right → height ≡ side p.y e.bottom
     → place_in (sized width height) o p ≡ place_for font o
 unfolding place_for
 is_place font o {e} {p} {width} {height} h i j k =
     ap (λ (n : ℕ). place_in (sized n height) o p) j
     ∙ ap (λ (n : ℕ). place_in (sized (side p.x e.right) n) o p) k
     ∙ ap (λ (q : Point). place_at o.vertical_pos o.horizontal_align q e) i
-    ∙ ap (λ (x : Extent). place_at o.vertical_pos o.horizontal_align (position_for o.wanted x) x) h
+    ∙ ap (λ (x : Extent). place_at o.vertical_pos o.horizontal_align (position_for o.at x) x) h
 
 pub fits_for : (font : List ℕ) (o : Options) → PlaceFits (place_for font o).framebuffer.width (place_for font o).framebuffer.height
 unfolding place_for
 fits_for font o =
     let e = extent_of font o.vertical_pos o.horizontal_align 901 in
-    place_fits o.vertical_pos o.horizontal_align (position_for o.wanted e) e
+    place_fits o.vertical_pos o.horizontal_align (position_for o.at e) e

@@ -1,5 +1,5 @@
 -- The edges of all readings, and the framebuffer and the place that follow from them.
-use Rattle.std.specs.Prelude.{◌≡◌, false, List, ℕ, zero, suc, ◌+◌, ◌<◌, min, max, ℤ, pos, negsuc, ◌+ℤ◌, ◌≤ℤ◌}
+use Rattle.std.specs.Prelude.{◌≡◌, false, List, ℕ, zero, suc, ◌+◌, ◌<◌, min, max, ℤ, pos, negsuc, ◌+ℤ◌, ◌≤ℤ◌, Option}
 use Rattle.integers.specs.Integers.{min_z, max_z}
 use Rattle.definitions.specs.Vocabulary.{BoundingBox, None, Some, Point, Rectangle, RenderedDimensions, Transparent, HorizontalAlignment, VerticalPosition, Place}
 use Rattle.definitions.specs.Refusals.{Outcome, success, refused}
@@ -11,8 +11,6 @@ use Rattle.definitions.specs.Calls.{placed, request, measure}
 use Rattle.redraw_checks.specs.Drawing.{measured}
 use Rattle.sheet_extent.specs.declared.values.Extent.{Extent}
 use Rattle.sheet_extent.specs.declared.values.Options.{Options}
-use Rattle.sheet_extent.specs.declared.values.Wanted.{Wanted}
-use Rattle.sheet_extent.specs.declared.values.Wanted.TheVariants.{Seen, At}
 use Rattle.sheet_ground.specs.Readings.{reading_text, reading}
 use Rattle.sight.specs.Sights.{OnFramebuffer}
 
@@ -84,9 +82,9 @@ before_zero (negsuc n) = min 1000 (suc n)
 abbrev pub inside : ℤ → ℤ
 inside edge = pos (3 + before_zero edge)
 
-abbrev pub position_for : Wanted → Extent → Point
-position_for Seen e = point (inside e.left) (inside e.top)
-position_for (At p) e = p
+abbrev pub position_for : Option Point → Extent → Point
+position_for None e = point (inside e.left) (inside e.top)
+position_for (Some p) e = p
 
 -- A side of 1 to 256 pixels.
 abbrev pub side_of : ℤ → ℕ
@@ -111,7 +109,7 @@ place_at v a p e = record {
 unfoldable pub place_for : List ℕ → Options → Place
 place_for font o =
     let e = extent_of font o.vertical_pos o.horizontal_align 901 in
-    place_at o.vertical_pos o.horizontal_align (position_for o.wanted e) e
+    place_at o.vertical_pos o.horizontal_align (position_for o.at e) e
 
 -- ---- all of it is seen
 

@@ -1,44 +1,19 @@
 // The edges of all readings, and a place and a framebuffer that follow from them.
 ghost use Rattle.std.specs.Prelude.{◌≡◌, pos, ◌+ℤ◌};
-ghost use Rattle.integers.specs.Integers.{min_z, max_z};
 ghost use Rattle.sheet_extent.specs.Extent.{at_origin, widened, with_reading, NearEdge, NearExtent, AllMeasured};
 ghost use Rattle.sheet_extent.specs.Extent.{before_zero, inside, side};
 
 use crate::values::Extent;
 use sheet_ground::texts::{COUNT, measure_reading};
-use types::geometry::{Point, Rectangle};
+use types::geometry::{Point, Rectangle, RenderedDimensions};
 use types::style::{HorizontalAlignment, Placement, VerticalPosition};
 
 const MARGIN: usize = 3;
 
-fn lesser(a: i64, b: i64) -> i64
-    ensures { result ≡ min_z a b }
-{
-    if a < b {
-        return a;
-    }
-    b
-}
-
-fn greater(a: i64, b: i64) -> i64
-    ensures { result ≡ max_z a b }
-{
-    if a < b {
-        return b;
-    }
-    a
-}
-
-fn start_edge(start: i32) -> i64
-    ensures { result ≡ start }
-{
-    start as i64
-}
-
 fn end_edge(start: i32, len: u32) -> i64
     ensures { result ≡ start +ℤ pos len }
 {
-    (start as i64) + (len as i64)
+    i64::from(start) + i64::from(len)
 }
 
 fn widened(extent: Extent, r: Rectangle) -> Extent
@@ -46,10 +21,10 @@ fn widened(extent: Extent, r: Rectangle) -> Extent
     ensures { (result ≡ widened extent r) × NearExtent result }
 {
     Extent {
-        left: lesser(extent.left, start_edge(r.top_left.x)),
-        top: lesser(extent.top, start_edge(r.top_left.y)),
-        right: greater(extent.right, end_edge(r.top_left.x, r.size.width)),
-        bottom: greater(extent.bottom, end_edge(r.top_left.y, r.size.height)),
+        left: extent.left.min(i64::from(r.top_left.x)),
+        top: extent.top.min(i64::from(r.top_left.y)),
+        right: extent.right.max(end_edge(r.top_left.x, r.size.width)),
+        bottom: extent.bottom.max(end_edge(r.top_left.y, r.size.height)),
     }
 }
 
@@ -64,21 +39,20 @@ fn with_reading(
     ensures { (result ≡ with_reading extent (at_origin font.now vertical_pos horizontal_align k))
         × NearExtent result }
 {
-    let origin = Point { x: 0, y: 0 };
     let placement = Placement {
-        position: origin,
+        position: Point { x: 0, y: 0 },
         line_height: 0,
         ignore_unknown_chars: false,
     };
-    let measured = measure_reading(font, k, placement, vertical_pos, horizontal_align);
-    let Ok(d) = measured else {
-        return extent;
-    };
-    let bounding_box = d.bounding_box;
-    let Some(r) = bounding_box else {
-        return extent;
-    };
-    widened(extent, r)
+    match measure_reading(font, k, placement, vertical_pos, horizontal_align) {
+        Ok(
+            RenderedDimensions {
+                bounding_box: Some(r),
+                ..
+            },
+        ) => widened(extent, r),
+        _ => extent,
+    }
 }
 
 pub fn measure_all(
@@ -88,16 +62,9 @@ pub fn measure_all(
 ) -> Extent
     ensures { AllMeasured font.now vertical_pos horizontal_align result }
 {
-    let mut extent = Extent {
-        left: 0,
-        top: 0,
-        right: 0,
-        bottom: 0,
-    };
-    let mut k: usize = 0;
-    while k < COUNT {
+    let mut extent = Extent::default();
+    for k in 0..COUNT {
         extent = with_reading(extent, font, k, vertical_pos, horizontal_align);
-        k += 1;
     }
     extent
 }
@@ -106,13 +73,7 @@ pub fn measure_all(
 fn before_zero(edge: i64) -> usize
     ensures { result ≡ before_zero edge }
 {
-    if edge < -1000 {
-        return 1000;
-    }
-    if 0 < edge {
-        return 0;
-    }
-    (0 - edge) as usize
+    edge.clamp(-1000, 0).unsigned_abs() as usize
 }
 
 // Where the readings stand so that their first edge lies past the margin.
@@ -127,12 +88,6 @@ pub fn side(start: i32, end: i64) -> usize
     requires { NearEdge end }
     ensures { result ≡ side start end }
 {
-    let n = (start as i64) + end + (MARGIN as i64);
-    if n < 1 {
-        return 1;
-    }
-    if 256 < n {
-        return 256;
-    }
-    n as usize
+    let n = i64::from(start) + end + MARGIN as i64;
+    n.clamp(1, 256) as usize
 }

@@ -1,10 +1,9 @@
 // A place at which all readings are seen, or the one that is asked for, and a framebuffer for it.
 ghost use Rattle.std.specs.Prelude.{◌≡◌};
-ghost use Rattle.sheet_extent.specs.declared.values.Wanted.TheVariants.{Seen};
 ghost use Rattle.sheet_extent.specs.Extent.{extent_of, position_for, place_for, Uncut, AllSeen};
 
 use crate::extent::{inside, measure_all, side};
-use crate::values::{Extent, Options, Wanted};
+use crate::values::{Extent, Options};
 use types::framebuffer::Framebuffer;
 use types::geometry::Point;
 use types::place::Place;
@@ -14,31 +13,31 @@ const INK: u8 = 0;
 
 const BACKGROUND: u8 = 255;
 
-// Where the readings stand: where all of them are seen, or at the place that is asked for.
-fn position_for(wanted: Wanted, extent: Extent) -> Point
-    ensures { result ≡ position_for wanted extent }
+// Where the readings stand: at the place that is asked for, or where all of them are seen.
+fn position_for(at: Option<Point>, extent: Extent) -> Point
+    ensures { result ≡ position_for at extent }
 {
-    match wanted {
-        Wanted::At(position) => position,
-        Wanted::Seen => Point {
-            x: inside(extent.left),
-            y: inside(extent.top),
-        },
-    }
+    at.unwrap_or(Point {
+        x: inside(extent.left),
+        y: inside(extent.top),
+    })
 }
 
 // The framebuffer for it. Where all readings are to be seen and no side is cut off at 256 pixels, all are.
 pub fn place_for(font: &[u8], options: Options) -> Place
     ensures place { result ≡ place_for font.now options }
-    ensures seen { options.wanted ≡ Seen → Uncut result (extent_of font.now options.vertical_pos
+    ensures seen { options.at ≡ None → Uncut result (extent_of font.now options.vertical_pos
         options.horizontal_align 901)
         → AllSeen font.now result }
 {
-    let vertical_pos = options.vertical_pos;
-    let horizontal_align = options.horizontal_align;
-    let wanted = options.wanted;
+    let Options {
+        vertical_pos,
+        horizontal_align,
+        at,
+        narrow: _,
+    } = options;
     let extent = measure_all(font, vertical_pos, horizontal_align);
-    let position = position_for(wanted, extent);
+    let position = position_for(at, extent);
     let width = side(position.x, extent.right);
     let height = side(position.y, extent.bottom);
     Place {

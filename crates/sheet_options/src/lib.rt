@@ -2,17 +2,18 @@
 // `narrow`, and `at X Y`, in any order. A later word of a kind replaces an earlier one.
 #![tactic(auto)]
 
-ghost use Rattle.std.specs.Prelude.{◌≤ℤ◌, pos, negsuc, MatchOption, ⊤};
+ghost use Rattle.std.specs.Prelude.{IfOk};
+ghost use Rattle.sheet_options.specs.Limits.{Limited, WithinLimits};
 
 use draw_options::named_alignment;
-use sheet_extent::values::{Options, Wanted};
+use sheet_extent::values::Options;
 use std::env::Env;
 use system::{Word, arguments};
 use types::geometry::Point;
 use types::style::{HorizontalAlignment, VerticalPosition};
 
 // A word is not known where it stands, or one is missing behind it.
-#[derive(Clone, Copy)]
+#[derive(Clone, Copy, Debug, PartialEq, Eq)]
 pub struct WrongWord;
 
 // The largest coordinate of a place.
@@ -20,6 +21,7 @@ const MOST: u32 = 1_048_576;
 
 // A coordinate within the calls' limits: digits, or a minus sign and digits.
 fn coordinate(word: Option<Word>) -> Result<i32, WrongWord>
+    ensures { IfOk result Limited }
 {
     let word = word.ok_or(WrongWord)?;
     let text = word.as_str();
@@ -35,13 +37,10 @@ fn alignment(word: Option<Word>) -> Result<HorizontalAlignment, WrongWord> {
 }
 
 // The program's arguments.
-pub fn read<R: Env>(rt: &R) -> Result<Options, WrongWord> {
-    let mut options = Options {
-        vertical_pos: VerticalPosition::Baseline,
-        horizontal_align: HorizontalAlignment::Left,
-        wanted: Wanted::Seen,
-        narrow: false,
-    };
+pub fn read<R: Env>(rt: &R) -> Result<Options, WrongWord>
+    ensures { IfOk result WithinLimits }
+{
+    let mut options = Options::default();
     let mut words = arguments(rt);
     while let Some(word) = words.next() {
         match word.as_str() {
@@ -53,7 +52,7 @@ pub fn read<R: Env>(rt: &R) -> Result<Options, WrongWord> {
             "at" => {
                 let x = coordinate(words.next())?;
                 let y = coordinate(words.next())?;
-                options.wanted = Wanted::At(Point { x, y });
+                options.at = Some(Point { x, y });
             }
             "narrow" => options.narrow = true,
             _ => return Err(WrongWord),

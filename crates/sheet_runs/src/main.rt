@@ -6,73 +6,59 @@
 // shorter one.
 #![tactic(auto)]
 
-use sheet_extent::values::{Options, Wanted};
+use sheet_extent::values::Options;
 use sheet_program::program::start;
 use std::rt::Files;
 use types::geometry::Point;
 use types::style::{HorizontalAlignment, VerticalPosition};
 
-fn run_seen<R: Files + Print + Eprint + Alloc>(
-    rt: &R,
-    horizontal_align: HorizontalAlignment,
-    narrow: bool,
-) {
-    start(
-        rt,
-        "gauge.bin",
-        Options {
-            vertical_pos: VerticalPosition::Baseline,
-            horizontal_align,
-            wanted: Wanted::Seen,
-            narrow,
-        },
-    );
+// A reading's top at the place.
+fn top_at(x: i32, y: i32) -> Options {
+    Options {
+        vertical_pos: VerticalPosition::Top,
+        at: Some(Point { x, y }),
+        ..Options::default()
+    }
 }
 
-fn run_cut<R: Files + Print + Eprint + Alloc>(rt: &R) {
-    printing::text(rt, b"top at -9 -4, in a font that ends within its 5\n");
-    start(
-        rt,
-        "cut.bin",
-        Options {
-            vertical_pos: VerticalPosition::Top,
-            horizontal_align: HorizontalAlignment::Left,
-            wanted: Wanted::At(Point { x: -9, y: -4 }),
-            narrow: false,
-        },
-    );
-}
-
-fn run_at<R: Files + Print + Eprint + Alloc>(rt: &R, x: i32) {
-    start(
-        rt,
-        "gauge.bin",
-        Options {
-            vertical_pos: VerticalPosition::Top,
-            horizontal_align: HorizontalAlignment::Left,
-            wanted: Wanted::At(Point { x, y: 3 }),
-            narrow: false,
-        },
-    );
+fn run<R: Files + Print + Eprint + Alloc>(rt: &R, heading: &[u8], options: Options) {
+    printing::text(rt, heading);
+    start(rt, "gauge.bin", options);
 }
 
 fn main(rt: HostRuntime) {
     let rt = &rt;
-    printing::text(rt, b"narrow: one column too few is filled\n");
-    run_seen(rt, HorizontalAlignment::Left, true);
-    run_cut(rt);
-    printing::text(
+    run(
+        rt,
+        b"narrow: one column too few is filled\n",
+        Options {
+            narrow: true,
+            ..Options::default()
+        },
+    );
+    printing::text(rt, b"top at -9 -4, in a font that ends within its 5\n");
+    start(rt, "cut.bin", top_at(-9, -4));
+    run(
         rt,
         b"top at 232 3: long readings run off the framebuffer to the right\n",
+        top_at(232, 3),
     );
-    run_at(rt, 232);
-    printing::text(rt, b"top at 256 3: no reading is seen\n");
-    run_at(rt, 256);
-    printing::text(
+    run(rt, b"top at 256 3: no reading is seen\n", top_at(256, 3));
+    run(
         rt,
         b"align center: the middle of each reading stands at its place\n",
+        Options {
+            horizontal_align: HorizontalAlignment::Center,
+            ..Options::default()
+        },
     );
-    run_seen(rt, HorizontalAlignment::Center, false);
-    printing::text(rt, b"align right, narrow: one column too few is filled\n");
-    run_seen(rt, HorizontalAlignment::Right, true);
+    run(
+        rt,
+        b"align right, narrow: one column too few is filled\n",
+        Options {
+            horizontal_align: HorizontalAlignment::Right,
+            narrow: true,
+            ..Options::default()
+        },
+    );
 }

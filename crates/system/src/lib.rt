@@ -4,10 +4,9 @@
 mod command_line;
 mod reading;
 
-use std::io::Error;
-
 pub use command_line::{Args, Word, arguments};
 pub use reading::{Stopped, fill, read_full};
+use std::io::Error;
 
 // The words of an error: std puts errno's number behind the system's own.
 fn words_of(said: &str) -> &str {

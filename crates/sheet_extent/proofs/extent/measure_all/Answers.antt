@@ -4,14 +4,13 @@ use Rattle.sheet_extent.proofs.ExtentLaws.{no_readings, next_reading, all_readin
 use Rattle.sheet_extent.proofs.extent.measure_all.Goals as goal
 
 pub loop-k-init : goal.loop-k-init
-loop-k-init c = no_readings c.args.font.now c.args.vertical_pos c.args.horizontal_align
+loop-k-init c = no_readings c.args.font.now c.args.vertical_pos c.args.horizontal_align (grind arith)
 
 pub loop-k-preserved : goal.loop-k-preserved
 loop-k-preserved c =
     let a = c.args in
     let w = c.with_reading-extent.ensures in
     record {
-      within = omega arith;
       edges = next_reading a.font.now a.vertical_pos a.horizontal_align c.loop-k.k c.loop-k.invariant.edges w.0;
       near = w.1;
     }

@@ -1,10 +1,6 @@
 -- The extent is that of the first k readings. Assumes nothing.
-use Rattle.integers.proofs.Prelude.{◌-◌}
 use Rattle.sheet_extent.proofs.ExtentLaws.{MeasuredTo}
 use Rattle.sheet_extent.proofs.extent.measure_all.Given as goal
 
 abbrev pub invariant-loop-k : goal.invariant-loop-k
 invariant-loop-k l = MeasuredTo l.font l.vertical_pos l.horizontal_align l.k l.extent
-
-abbrev pub decreases-loop-k : goal.decreases-loop-k
-decreases-loop-k l = 901 - l.k

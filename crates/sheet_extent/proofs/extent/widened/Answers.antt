@@ -18,12 +18,12 @@ returns c =
     let fh : a.r.size.height < 2 ^ 32 = search rules in
     let x = stored w32 fx.sfits refl in
     let y = stored w32 fy.sfits refl in
-    let l = least_stored c.lesser.type_inv c.start_edge.type_inv fl c.lesser.ensures (c.start_edge.ensures ∙ x) in
-    let t = least_stored c.lesser-2.type_inv c.start_edge-2.type_inv ft c.lesser-2.ensures (c.start_edge-2.ensures ∙ y) in
+    let l = least_stored c.min.type_inv c.from.type_inv fl c.min.ensures.value (c.from.ensures ∙ x) in
+    let t = least_stored c.min-2.type_inv c.from-2.type_inv ft c.min-2.ensures.value (c.from-2.ensures ∙ y) in
     let width = ap (λ (z : ℤ). z +ℤ pos a.r.size.width) x in
-    let r = most_stored c.greater.type_inv c.end_edge.type_inv fr c.greater.ensures (c.end_edge.ensures ∙ width) in
+    let r = most_stored c.max.type_inv c.end_edge.type_inv fr c.max.ensures.value (c.end_edge.ensures ∙ width) in
     let height = ap (λ (z : ℤ). z +ℤ pos a.r.size.height) y in
-    let m = most_stored c.greater-2.type_inv c.end_edge-2.type_inv fb c.greater-2.ensures (c.end_edge-2.ensures ∙ height) in
+    let m = most_stored c.max-2.type_inv c.end_edge-2.type_inv fb c.max-2.ensures.value (c.end_edge-2.ensures ∙ height) in
     let e = four_edges a.extent a.r l t r m in
     let near = near_widened a.extent a.r c.requires fx fy fw fh in
     (e, subst NearExtent (sym e) near)

@@ -20,5 +20,5 @@ returns c =
     let edges = extent_of a.font.now a.options.vertical_pos a.options.horizontal_align 901 in
     record {
       place = e;
-      seen = λ wanted. subst (λ (q : Place). Uncut q edges → AllSeen a.font.now q) (sym e) (all_seen a.font.now a.options wanted);
+      seen = λ nowhere. subst (λ (q : Place). Uncut q edges → AllSeen a.font.now q) (sym e) (all_seen a.font.now a.options nowhere);
     }
