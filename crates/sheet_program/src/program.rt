@@ -48,8 +48,7 @@ pub fn make_sheet<R: Files + Print>(
     ensures { SheetOf options.narrow font.now (place_for font.now options) result }
 {
     let place = place_for(font, options);
-    let framebuffer = place.framebuffer;
-    let cell = framebuffer.width * framebuffer.height;
+    let cell = place.framebuffer.width * place.framebuffer.height;
     fill_sheet(
         rt,
         font,
@@ -67,9 +66,8 @@ fn show_sheet<R: Files + Print>(rt: &R, font: &[u8], options: Options) {
     let mut screen = [0u8; 65536];
     let mut alone = [0u8; 65536];
     let sheet = make_sheet(rt, font, options, &mut ground, &mut screen, &mut alone);
-    let totals = sheet.totals;
-    print_totals(rt, totals);
-    print_verdict(rt, totals, sheet.written.is_ok());
+    print_totals(rt, sheet.totals);
+    print_verdict(rt, sheet.totals, sheet.written.is_ok());
 }
 
 // The program, for the font in that file.

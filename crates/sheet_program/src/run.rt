@@ -25,17 +25,14 @@ pub fn run<R: Print, W: Write + Drop>(
     requires { Begins trial.place.framebuffer ground.now screen.old alone.old }
     ensures { Runs trial.narrow font.now trial.place ground.now screen.new result }
 {
-    let place = trial.place;
-    let framebuffer = place.framebuffer;
     let mut totals = Totals::default();
     let mut refusals = None;
     let mut old = COUNT;
     for k in 0..COUNT {
         let found = step(font, old, k, trial, ground, &mut screen[..], &mut alone[..]);
-        let answer = found.answer;
-        let sight = sight_of(answer, framebuffer);
+        let sight = sight_of(found.answer, trial.place.framebuffer);
         totals = totals.counted(sight, found.differing);
-        refusals = with_answer(rt, refusals, k, answer);
+        refusals = with_answer(rt, refusals, k, found.answer);
         print_difference(rt, k, found.differing);
         cells = cells.and_then(|file| with_cell(file, sight, found.differing, &screen[..]));
         old = found.old;
