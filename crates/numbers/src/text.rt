@@ -1,6 +1,8 @@
 ghost use Rattle.std.specs.Prelude.{◌≡◌, ◌∷◌, ◌++◌, ◌+◌, ◌≤◌, [], length};
 ghost use Rattle.numbers.specs.Decimal.{decimal, signed_decimal};
 
+use std::fmt;
+use std::fmt::Write;
 use std::marker::Model;
 
 /// A text of at most `N` bytes, written from its start on.
@@ -88,5 +90,15 @@ impl<const N: usize> Text<N> {
         } else {
             self.push_unsigned(n.unsigned_abs());
         }
+    }
+}
+
+// Each byte is shown as the character of that code.
+impl<const N: usize> fmt::Display for Text<N> {
+    fn fmt<W: fmt::Write>(&self, f: &mut fmt::Formatter<W>) -> fmt::Result {
+        for byte in self.as_bytes() {
+            f.write_char(char::from(*byte))?;
+        }
+        Ok(())
     }
 }

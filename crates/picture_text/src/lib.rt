@@ -59,7 +59,6 @@ pub fn print_rows<R: Print>(rt: &R, pixels: &[u8], width: usize, height: usize)
 {
     for y in 0..height {
         let start = y * width;
-        printing::text(rt, marks(&pixels[start..start + width]).as_bytes());
-        printing::text(rt, b"\n");
+        let _ = println!(rt; "{}", marks(&pixels[start..start + width]));
     }
 }

@@ -9,19 +9,6 @@ use std::fmt::Write;
 use types::error::Error;
 use types::geometry::RenderedDimensions;
 
-// A reading's text.
-#[derive(Clone, Copy)]
-struct Reading(usize);
-
-impl fmt::Display for Reading {
-    fn fmt<W: fmt::Write>(&self, f: &mut fmt::Formatter<W>) -> fmt::Result {
-        for byte in reading_text(self.0).as_bytes() {
-            f.write_char(char::from(*byte))?;
-        }
-        Ok(())
-    }
-}
-
 // Readings one after the other that are refused for one cause, the first and the last of them.
 #[derive(Clone, Copy)]
 pub struct Refusals {
@@ -32,9 +19,9 @@ pub struct Refusals {
 
 impl fmt::Display for Refusals {
     fn fmt<W: fmt::Write>(&self, f: &mut fmt::Formatter<W>) -> fmt::Result {
-        write!(f, "{}", Reading(self.first))?;
+        write!(f, "{}", reading_text(self.first))?;
         if self.first != self.last {
-            write!(f, " to {}", Reading(self.last))?;
+            write!(f, " to {}", reading_text(self.last))?;
         }
         write!(f, ": refused: {}", Cause(self.error))
     }
@@ -70,7 +57,7 @@ pub fn with_answer<R: Print>(
 }
 
 pub fn print_difference<R: Print>(rt: &R, k: usize, differing: usize) {
-    let reading = Reading(k);
+    let reading = reading_text(k);
     let _ = match differing {
         0 => Ok(()),
         1 => println!(rt; "{reading}: 1 pixel differs"),
