@@ -1,13 +1,13 @@
 -- Whether a text decodes, by its first character and the rest; and its newlines, counted among its bytes. Assumes nothing.
-use Rattle.integers.proofs.Prelude.{◌≡◌, refl, ap, sym, ◌∙◌, true, false, List, [], ◌∷◌, ℕ, ◌+◌, ◌<◌, arith, eqb, length, drop, length-drop}
+use Rattle.integers.proofs.Prelude.{◌≡◌, refl, ap, sym, ◌∙◌, true, false, List, [], ◌∷◌, ℕ, ◌+◌, ◌<◌, arith, eqb, length}
 use Rattle.std.specs.List.{count_by}
 use Rattle.std.proofs.lemmas.List.Recursion.{is_count_by}
 use mathlib.Core.Bool.{Bool, cond}
 use Rattle.integers.specs.Integers.{pick}
 use Rattle.definitions.specs.Utf8.{malformed, first_character, Decoded, characters, not_utf8, prepend, decode_from, decode, is_utf8, code_points, newlines}
-use Rattle.definitions.proofs.Utf8Laws.{decode_first, not_utf8_lem, newlines_decoded, utf8_characters}
-use Rattle.definitions.proofs.Utf8Encoding.{head}
+use Rattle.definitions.proofs.Utf8Laws.{not_utf8_lem, newlines_decoded, utf8_characters}
 use Rattle.utf8.specs.Splits.{FirstAndRest}
+use Rattle.utf8.proofs.SplitLaws.{split_decoded, split_shorter}
 
 prepended : (c : ℕ) (d : Decoded) → is_utf8 (prepend c d) ≡ is_utf8 d
 prepended c (characters cs) = refl
@@ -22,10 +22,10 @@ pub utf8_stops : (s : List ℕ) → (length s ≡ 0 → ⊥) → first_character
 utf8_stops s h e = ap is_utf8 (not_utf8_lem s 0 (omega arith) e)
 
 pub utf8_next : (s : List ℕ) {c : ℕ} {rest : List ℕ} → FirstAndRest s c rest → is_utf8 (decode s) ≡ is_utf8 (decode rest)
-utf8_next s {c} {rest} p = ap is_utf8 (decode_first s p.first) ∙ prepended c (decode (drop p.len s)) ∙ rw p.after
+utf8_next s {c} {rest} p = ap is_utf8 (split_decoded p) ∙ prepended c (decode rest)
 
 pub rest_shorter : (s : List ℕ) {c : ℕ} {rest : List ℕ} → FirstAndRest s c rest → length rest < length s
-rest_shorter s p = let h = head s p.first in rw p.after (omega (arith, length-drop p.len s, h.some, h.within))
+rest_shorter s p = split_shorter p
 
 newlines_next : (b : ℕ) (s : List ℕ) → newlines (b ∷ s) ≡ cond (eqb b 10) (1 + newlines s) (newlines s)
 unfolding newlines

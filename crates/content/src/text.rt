@@ -10,13 +10,10 @@ pub fn is_utf8(text: &[u8]) -> bool
     ensures { result ≡ is_utf8 (decode text.now) }
 {
     let mut rest = text;
-    while !rest.is_empty() {
-        let Some((_, tail)) = split_first_char(rest) else {
-            return false;
-        };
+    while let Some((_, tail)) = split_first_char(rest) {
         rest = tail;
     }
-    true
+    rest.is_empty()
 }
 
 // The number of newlines. The byte 10 is no part of a longer sequence, so the bytes are counted.
