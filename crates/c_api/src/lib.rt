@@ -85,9 +85,8 @@ pub extern "C" fn papayahelm_measure(
     let Some(m) = known_codes(anchor, 0, skip, 0, out.len()) else {
         return BAD_ARGUMENT;
     };
-    let vertical_pos = m.vertical_pos;
     let placement = m.placement(x, y, line_height);
-    let report = get_rendered_dimensions(font, text, placement, vertical_pos);
+    let report = get_rendered_dimensions(font, text, placement, m.vertical_pos);
     store(out, Reply::of(report.result), report.steps)
 }
 
@@ -112,15 +111,13 @@ pub extern "C" fn papayahelm_measure_aligned(
     let Some(m) = known_codes(anchor, align, skip, 0, out.len()) else {
         return BAD_ARGUMENT;
     };
-    let vertical_pos = m.vertical_pos;
-    let horizontal_align = m.horizontal_align;
     let placement = m.placement(x, y, line_height);
     let report = get_rendered_dimensions_aligned(
         font,
         text,
         placement,
-        vertical_pos,
-        horizontal_align,
+        m.vertical_pos,
+        m.horizontal_align,
     );
     store(out, Reply::of(report.result), report.steps)
 }
@@ -192,7 +189,6 @@ pub extern "C" fn papayahelm_draw_aligned(
     let Some(m) = known_codes(anchor, align, skip, background, out.len()) else {
         return BAD_ARGUMENT;
     };
-    let horizontal_align = m.horizontal_align;
     let style = m.style(fg, bg);
     let placement = m.placement(x, y, line_height);
     let framebuffer = Framebuffer { width, height };
@@ -201,7 +197,7 @@ pub extern "C" fn papayahelm_draw_aligned(
         text,
         placement,
         style,
-        horizontal_align,
+        m.horizontal_align,
         framebuffer,
         buffer,
     );
@@ -243,12 +239,11 @@ pub extern "C" fn papayahelm_redraw(
     let Some(m) = known_codes(anchor, align, 0, background, out.len()) else {
         return BAD_ARGUMENT;
     };
-    let horizontal_align = m.horizontal_align;
     let style = m.style(fg, bg);
     let place = Place {
         position: Point { x, y },
         style,
-        horizontal_align,
+        horizontal_align: m.horizontal_align,
         line_height,
         background: clear_color,
         framebuffer: Framebuffer { width, height },

@@ -1,7 +1,7 @@
 // What the codes of a call mean: numbers from 0 in the order of an enum's variants.
 #![tactic(auto)]
 
-ghost use Rattle.std.specs.Prelude.{◌≡◌};
+ghost use Rattle.std.specs.Prelude.{◌≡◌, ◌≤◌, OnSome};
 ghost use Rattle.c_codes.specs.Codes.{anchor_of, alignment_of, flag_of, meaning_of, placed_by, style_of};
 
 use types::geometry::Point;
@@ -88,7 +88,8 @@ pub fn known_codes(
     background: u32,
     room: usize,
 ) -> Option<Meaning>
-    ensures { result ≡ meaning_of anchor align skip background room }
+    ensures means { result ≡ meaning_of anchor align skip background room }
+    ensures has_room { OnSome result (10 ≤ room) }
 {
     let vertical_pos = known_anchor(anchor)?;
     let horizontal_align = known_alignment(align)?;

@@ -2,16 +2,13 @@
 use Rattle.integers.proofs.Prelude.{◌≡◌, sym, ap, ◌∙◌, List, ℕ, ℤ}
 use Rattle.definitions.specs.Vocabulary.{Error, LookupSteps}
 use Rattle.definitions.specs.Refusals.{outcome}
-use Rattle.std.specs.Prelude.{Option, Some, None, Result, Ok, Err, MatchResult}
+use Rattle.std.specs.Prelude.{Option, Some, Result, Ok, Err, MatchResult}
 use Rattle.c_codes.specs.declared.Meaning.{Meaning}
 use Rattle.c_values.specs.declared.reply.Reply.{Reply}
 use Rattle.c_values.specs.Replies.{Counted, counted, Answers, stored, drawn_by, reply_by, error_reply}
 
 -- `read` is what the codes were read as.
 module _ {read codes : Option Meaning} (is : read ≡ codes) (answer : Meaning → Counted) (before : List ℤ) where
-  pub bad_argument : read ≡ None → Answers codes answer 255 before before
-  bad_argument u = let e = sym is ∙ u in (simp e, simp e)
-
   -- what was stored, and its status
   abbrev Stored : Reply → LookupSteps → ℕ → List ℤ → Type 0
   Stored r q status after = (status ≡ r.status) × (after ≡ stored (counted r q) before)
@@ -23,9 +20,6 @@ module _ {read codes : Option Meaning} (is : read ≡ codes) (answer : Meaning �
       (simp e (h.0 ∙ ap (λ (x : Reply). x.status) f), simp e (rw (f, g) at h.1))
 
   module _ (drawing : Meaning → List ℕ) (buffer : List ℕ) where
-    pub not_drawn : read ≡ None → Answers codes answer 255 before before × (buffer ≡ drawn_by codes drawing buffer)
-    not_drawn u = let e = sym is ∙ u in (bad_argument u, simp e)
-
     pub drawn : {m : Meaning} {r : Reply} {q : LookupSteps} {status : ℕ} {after : List ℤ} {left : List ℕ}
         → read ≡ Some m → r ≡ (answer m).reply → q ≡ (answer m).steps → Stored r q status after → left ≡ drawing m
         → Answers codes answer status before after × (left ≡ drawn_by codes drawing buffer)

@@ -1,19 +1,12 @@
 -- The answer is what the call ensures once the codes have a meaning.
 use Rattle.integers.proofs.Prelude.{refl, ap, ◌∙◌}
 use Rattle.c_values.specs.Replies.{box_reply, rectangle_reply}
-use Rattle.c_codes.proofs.CodesLaws.{has_room}
-use Rattle.c_values.proofs.RepliesLaws.{as_outcome, bad_argument, answers}
+use Rattle.c_values.proofs.RepliesLaws.{as_outcome, answers}
 use Rattle.c_api.proofs.papayahelm_font_box.Goals as goal
-
-pub returns-in_default : goal.returns-in_default
-returns-in_default c = bad_argument c.in_default.ensures _ _ refl
-
-pub store-requires : goal.store-requires
-store-requires c = has_room _ _ _ _ _ c.in-Some.ensures refl
 
 pub returns : goal.returns
 returns c =
-    answers c.in-Some.ensures _ _ refl
+    answers c.in-Some.ensures.means _ _ refl
     (as_outcome rectangle_reply _ c.of.ensures ∙ ap box_reply c.get_font_bounding_box-result.ensures)
     c.no_steps.ensures
     c.store.ensures

@@ -1,17 +1,8 @@
 -- The answer is what the step ensures once the codes have a meaning.
 use Rattle.integers.proofs.Prelude.{refl, ap, ◌∙◌, to_z-of_z}
 use Rattle.c_values.specs.Replies.{text_reply, dimensions_reply}
-use Rattle.c_codes.proofs.CodesLaws.{has_room}
-use Rattle.c_values.proofs.RepliesLaws.{as_outcome, not_drawn, drawn}
+use Rattle.c_values.proofs.RepliesLaws.{as_outcome, drawn}
 use Rattle.c_api.proofs.papayahelm_redraw.Goals as goal
-
-pub returns-in_default : goal.returns-in_default
-returns-in_default c =
-    let n = not_drawn c.in_default.ensures _ _ _ _ refl in
-    record { answered = n.0; shown = n.1 }
-
-pub store-requires : goal.store-requires
-store-requires c = has_room _ _ _ _ _ c.in-Some.ensures refl
 
 pub returns : goal.returns
 returns c =
@@ -21,6 +12,6 @@ returns c =
     let shown = simp (to_z-of_z, c.ranges.x, c.ranges.y, style) at call.shown in
     let summed = simp (to_z-of_z, c.ranges.x, c.ranges.y, style) at call.summed in
     let d =
-    drawn c.in-Some.ensures _ _ _ _ refl (as_outcome dimensions_reply _ c.of.ensures ∙ ap text_reply answered) summed c.store.ensures shown
+    drawn c.in-Some.ensures.means _ _ _ _ refl (as_outcome dimensions_reply _ c.of.ensures ∙ ap text_reply answered) summed c.store.ensures shown
     in
     record { answered = d.0; shown = d.1 }
