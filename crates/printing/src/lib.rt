@@ -1,6 +1,9 @@
 // What the programs print: answers in the measuring program's words (`ok` or `no`, then numbers), and why a call is refused.
 #![tactic(auto)]
 
+ghost use Rattle.std.specs.Prelude.{Some};
+ghost use Rattle.printing.specs.Printed.{refusal_text, answer_text, area_text, box_text, dimensions_text};
+
 use code_points::CodePoint;
 use std::fmt;
 use types::error::Error;
@@ -17,6 +20,8 @@ pub fn text<R: Print>(rt: &R, s: &[u8]) {
 pub struct Refusal(pub Error);
 
 impl fmt::Display for Refusal {
+    ghost output = { λ r. Some (refusal_text r.0) };
+
     fn fmt<W: fmt::Write>(&self, f: &mut fmt::Formatter<W>) -> fmt::Result {
         write!(
             f,
@@ -32,6 +37,8 @@ impl fmt::Display for Refusal {
 pub struct Answer<T>(pub Result<T, Error>);
 
 impl<T: fmt::Display> fmt::Display for Answer<T> {
+    ghost output = { λ a. answer_text T.output a.0 };
+
     fn fmt<W: fmt::Write>(&self, f: &mut fmt::Formatter<W>) -> fmt::Result {
         match &self.0 {
             Ok(value) => write!(f, "ok {value}"),
@@ -45,6 +52,8 @@ impl<T: fmt::Display> fmt::Display for Answer<T> {
 pub struct Area(pub Rectangle);
 
 impl fmt::Display for Area {
+    ghost output = { λ a. Some (area_text a.0) };
+
     fn fmt<W: fmt::Write>(&self, f: &mut fmt::Formatter<W>) -> fmt::Result {
         let Rectangle { top_left, size } = self.0;
         write!(
@@ -60,6 +69,8 @@ impl fmt::Display for Area {
 pub struct BoxOrNone(pub Option<Rectangle>);
 
 impl fmt::Display for BoxOrNone {
+    ghost output = { λ b. Some (box_text b.0) };
+
     fn fmt<W: fmt::Write>(&self, f: &mut fmt::Formatter<W>) -> fmt::Result {
         match self.0 {
             Some(area) => write!(f, "{}", Area(area)),
@@ -73,6 +84,8 @@ impl fmt::Display for BoxOrNone {
 pub struct Dimensions(pub RenderedDimensions);
 
 impl fmt::Display for Dimensions {
+    ghost output = { λ d. Some (dimensions_text d.0) };
+
     fn fmt<W: fmt::Write>(&self, f: &mut fmt::Formatter<W>) -> fmt::Result {
         let RenderedDimensions {
             advance,
