@@ -5,7 +5,6 @@ use printing::Cause;
 use sheet_ground::texts::{COUNT, reading_text};
 use sheet_totals::Totals;
 use std::fmt;
-use std::fmt::Write;
 use types::error::Error;
 use types::geometry::RenderedDimensions;
 
