@@ -1,21 +1,26 @@
--- The step with the fault and without it, and a box one column too narrow. Assumes nothing.
-use Rattle.integers.proofs.Prelude.{◌≡◌, refl, ap, false, List, ℕ, ◌-◌, arith}
-use Rattle.definitions.specs.Vocabulary.{BoundingBox, Some, Rectangle}
+-- The step with the fault and without it. Assumes nothing.
+use Rattle.integers.proofs.Prelude.{◌≡◌, refl, true, false, List, ℕ}
+use Rattle.definitions.specs.Vocabulary.{BoundingBox, RenderedDimensions}
+use Rattle.definitions.specs.Refusals.{Outcome, success, refused}
 use Rattle.definitions.specs.Agreement.{Ground}
-use Rattle.redraw_checks.specs.Drawing.{Drawing}
-use Rattle.redraw.specs.Redraw.{redrawn_buffer}
-use Rattle.faulty_step.specs.Fault.{narrowed_box, step_buffer}
+use Rattle.redraw_checks.specs.Drawing.{Drawing, with_text, drawn}
+use Rattle.redraw.specs.Redraw.{RedrawnFilling, redrawn_buffer}
+use Rattle.redraw.proofs.RedrawLaws.{with_box, left_by}
+use Rattle.faulty_step.specs.Fault.{narrowed_box, to_fill, step_buffer}
 
--- Without the fault the step is the gauge's.
-pub faultless : (font old : List ℕ) (new : Drawing) (color : ℕ) (p : Ground) → step_buffer false font old new color p ≡ redrawn_buffer font old new color p
-unfolding step_buffer redrawn_buffer
-faultless font old new color p = refl
+narrow_box : (o : Outcome RenderedDimensions) → with_box narrowed_box o ≡ to_fill true o
+narrow_box (success d) = refl
+narrow_box (refused n c) = refl
 
-module _ {b : BoundingBox} {r : Rectangle} (e : b ≡ Some r) where
-  pub no_width : r.size.width ≡ 0 → Some r ≡ narrowed_box b
-  no_width z =
-      let same : r.size.width ≡ r.size.width - 1 = omega arith in
-      rw e (ap (λ (w : ℕ). Some record { top_left = r.top_left; size = record { width = w; height = r.size.height } }) same)
+module _ (font old : List ℕ) (new : Drawing) (color : ℕ) (p : Ground) where
+  -- Without the fault the step is the gauge's ..
+  pub faultless : step_buffer false font old new color p ≡ redrawn_buffer font old new color p
+  unfolding step_buffer redrawn_buffer
+  faultless = refl
 
-  pub narrower : Some record { top_left = r.top_left; size = record { width = r.size.width - 1; height = r.size.height } } ≡ narrowed_box b
-  narrower = rw e
+  -- .. and with it the narrowed box is filled.
+  pub left_narrow : {fills : BoundingBox → BoundingBox → Type 0} {exit : List ℕ}
+      → ((box filled : BoundingBox) → fills box filled → filled ≡ narrowed_box box)
+      → RedrawnFilling fills font old new color p exit → exit ≡ step_buffer true font old new color p
+  unfolding step_buffer
+  left_narrow is_narrow h = left_by font old new color p narrowed_box is_narrow (narrow_box (drawn font (with_text old new) p)) h

@@ -27,14 +27,10 @@ use Rattle.definitions.proofs.Agreement.{alone, size}
 use Rattle.framebuffer.specs.Areas.{fill_picture}
 use Rattle.framebuffer.proofs.RowLaws.{row_of_pixel}
 use Rattle.redraw_checks.proofs.ChecksLaws.{StepPasses, step_passes}
-use Rattle.redraw.specs.Redraw.{whole_or, reading_on, AllOf, cleared_by, cleared, redrawn, redrawn_buffer, taken}
+use Rattle.redraw.specs.Redraw.{whole_or, reading_on, AllOf, cleared_by, Cleared, redrawn, RedrawnFilling, redrawn_buffer, taken}
 use Rattle.renderer.specs.declared.letters.Context.{Context}
 use Rattle.renderer.specs.Texts.{counted_with, drawn_with}
 use Rattle.redraw_checks.specs.Checks.{redraw_causes, pen_of, step_of, checked_step}
-
--- Of what `redraw` ensures: the answer, what is shown, and what that leaves of a reading.
-abbrev pub shown_by : {A B C : Type 0} → A × (B × C) → B
-shown_by ensured = ensured.1.0
 
 -- the framebuffer keeps its length
 length_by : (t : Bool) (width : ℕ) (picture : Picture) (before : List ℕ) → length (pick t before (shown width picture before)) ≡ length before
@@ -207,6 +203,15 @@ module _ (font : List ℕ) (r : Drawing) (p : Ground) where
 
 -- ---- the step, as the code goes
 
+-- a reading with another box
+abbrev pub with_box : (BoundingBox → BoundingBox) → Outcome RenderedDimensions → Outcome RenderedDimensions
+with_box fill (success d) = success record { advance = d.advance; bounding_box = fill d.bounding_box }
+with_box fill (refused n c) = refused n c
+
+own_box : (o : Outcome RenderedDimensions) → with_box (λ b. b) o ≡ o
+own_box (success d) = refl
+own_box (refused n c) = refl
+
 module _ (font old : List ℕ) (new : Drawing) (background : ℕ) (p : Ground) where
   -- refused by one of its causes
   module _ {n c : ℕ} (e : checked_step font old new p ≡ refused n c) where
@@ -214,16 +219,14 @@ module _ (font old : List ℕ) (new : Drawing) (background : ℕ) (p : Ground) w
     unfolding redrawn
     stops = (comes_stopped {rest = drawn font new p} {before = []} {after = []} (step_of font old new) (redraw_causes font old new p) [] e).answered
 
-    -- whatever else the framebuffer would hold
-    pub held : (after : List ℕ) → p.before ≡ pick (any_applies (redraw_causes font old new p)) p.before after
-    held after = (comes_stopped {rest = drawn font new p} {before = p.before} {after = after} (step_of font old new) (redraw_causes font old new p) [] e).held
+    pub stays : {fills : BoundingBox → BoundingBox → Type 0} → RedrawnFilling fills font old new background p p.before
+    stays = record {
+      refuses = λ on. refl;
+      clears = λ off. let z = sym (none_applies (success (step_of font old new)) (redraw_causes font old new p) off) ∙ e in impossible cc;
+    }
 
-    pub stays : p.before ≡ redrawn_buffer font old new background p
-    unfolding redrawn_buffer
-    stays = held (reading_on font new (cleared font (with_text old new) background p))
-
-  -- .. or by none of them. What is filled is what `to_fill` makes of the old reading: the reading itself, unless a fault is put in.
-  module _ (to_fill : Outcome RenderedDimensions → Outcome RenderedDimensions) (unrefused : any_applies (redraw_causes font old new p) ≡ false) where
+  -- .. or by none of them
+  module _ (unrefused : any_applies (redraw_causes font old new p) ≡ false) where
     off : StepPasses font old new p
     off = step_passes font old new p unrefused
 
@@ -245,14 +248,11 @@ module _ (font old : List ℕ) (new : Drawing) (background : ℕ) (p : Ground) w
     new_off : any_applies (causes_of font new p) ≡ false
     new_off = with_part new.text p limited.text_in limited.size_in
 
-    abbrev bare : Ground
-    bare = on p.framebuffer (cleared_by (width p) background (to_fill (drawn font (with_text old new) p)) p.before)
-
-    bare_off : any_applies (causes_of font new bare) ≡ false
-    bare_off =
-        let size = ap (λ (n : ℕ). side_off (width p) || side_off (height p) || not (eqb n (width p * height p)))
-        (length_cleared (width p) background (to_fill (drawn font (with_text old new) p)) p.before) ∙ limited.size_in in
-        with_part new.text bare limited.text_in size
+    -- the framebuffer once the old reading is cleared
+    cleared_off : (between : List ℕ) → length between ≡ length p.before → any_applies (causes_of font new (on p.framebuffer between)) ≡ false
+    cleared_off between l =
+        let size = ap (λ (n : ℕ). side_off (width p) || side_off (height p) || not (eqb n (width p * height p))) l ∙ limited.size_in in
+        with_part new.text (on p.framebuffer between) limited.text_in size
 
     -- what the code counts and draws: the texts by their pens
     abbrev counted : List ℕ → Outcome RenderedDimensions
@@ -268,13 +268,45 @@ module _ (font old : List ℕ) (new : Drawing) (background : ℕ) (p : Ground) w
     unfolding redrawn
     answers e = e ∙ answer_laid font new p new_off ∙ sym (none_applies (drawn font new p) (redraw_causes font old new p) unrefused)
 
-    pub leaves : {between exit : List ℕ} → between ≡ cleared_by (width p) background (to_fill (counted old)) p.before
-        → exit ≡ whole_or (counted new.text) (new_on between) between
-        → exit ≡ pick (any_applies (redraw_causes font old new p)) p.before (reading_on font new bare)
-    leaves {between} e h =
-        let found : between ≡ bare.before = e ∙ ap (λ (o : Outcome RenderedDimensions). cleared_by (width p) background (to_fill o) p.before) (answer_laid font (with_text old new) p old_off) in
-        h
-        ∙ ap (λ (b : List ℕ). whole_or (counted new.text) (new_on b) b) found
-        ∙ ap (λ (o : Outcome RenderedDimensions). whole_or o (new_on bare.before) bare.before) (answer_laid font new bare bare_off)
-        ∙ ap (λ (l : List ℕ). whole_or (drawn font new bare) l bare.before) (bytes_laid font new bare bare_off)
-        ∙ rw unrefused
+    pub leaves : {fills : BoundingBox → BoundingBox → Type 0} (between : List ℕ) {exit : List ℕ} → Cleared fills (width p) background (counted old) p.before between
+        → length between ≡ length p.before → exit ≡ whole_or (counted new.text) (new_on between) between
+        → RedrawnFilling fills font old new background p exit
+    leaves {fills} between {exit} e l h =
+        let cleared = subst (λ (o : Outcome RenderedDimensions). Cleared fills (width p) background o p.before between) (answer_laid font (with_text old new) p old_off) e in
+        let bare = on p.framebuffer between in
+        let is = h
+        ∙ ap (λ (o : Outcome RenderedDimensions). whole_or o (new_on between) between) (answer_laid font new bare (cleared_off between l))
+        ∙ ap (λ (l : List ℕ). whole_or (drawn font new bare) l between) (bytes_laid font new bare (cleared_off between l)) in
+        record { refuses = λ on. (let z : false ≡ true = sym unrefused ∙ on in impossible cc); clears = λ off. (between, cleared, is) }
+
+  -- What the step leaves where `fill` says what is filled of each box, and that makes `filled` of the old reading.
+  module _ {fills : BoundingBox → BoundingBox → Type 0} (fill : BoundingBox → BoundingBox)
+      (is_fill : (box filled : BoundingBox) → fills box filled → filled ≡ fill box) where
+    cleared_as : (o : Outcome RenderedDimensions) (bytes : List ℕ) → Cleared fills (width p) background o p.before bytes
+        → bytes ≡ cleared_by (width p) background (with_box fill o) p.before
+    cleared_as (success d) bytes c =
+        c.2 ∙ ap (λ (b : BoundingBox). shown (width p) (fill_picture background b) p.before) (is_fill d.bounding_box c.0 c.1)
+    cleared_as (refused n m) bytes c = c
+
+    pub left_by : {filled : Outcome RenderedDimensions} {exit : List ℕ} → with_box fill (drawn font (with_text old new) p) ≡ filled
+        → RedrawnFilling fills font old new background p exit
+        → exit ≡ pick (any_applies (redraw_causes font old new p)) p.before
+        (reading_on font new (on p.framebuffer (cleared_by (width p) background filled p.before)))
+    left_by {filled} {exit} e h = by (any_applies (redraw_causes font old new p)) h.refuses h.clears
+      where
+        by : (b : Bool) → (b ≡ true → exit ≡ p.before)
+            → (b ≡ false → (between : List ℕ) × Cleared fills (width p) background (drawn font (with_text old new) p) p.before between
+            × (exit ≡ reading_on font new (on p.framebuffer between)))
+            → exit ≡ pick b p.before (reading_on font new (on p.framebuffer (cleared_by (width p) background filled p.before)))
+        by true refuses clears = refuses refl
+        by false refuses clears =
+            let c = clears refl in
+            let between = cleared_as (drawn font (with_text old new) p) c.0 c.1
+            ∙ ap (λ (o : Outcome RenderedDimensions). cleared_by (width p) background o p.before) e in
+            c.2 ∙ ap (λ (b : List ℕ). reading_on font new (on p.framebuffer b)) between
+
+  -- Where that is the box itself, the step is the gauge's.
+  pub left_whole : {fills : BoundingBox → BoundingBox → Type 0} {exit : List ℕ} → ((box filled : BoundingBox) → fills box filled → filled ≡ box)
+      → RedrawnFilling fills font old new background p exit → exit ≡ redrawn_buffer font old new background p
+  unfolding redrawn_buffer
+  left_whole is_box h = left_by (λ b. b) is_box (own_box (drawn font (with_text old new) p)) h

@@ -1,5 +1,5 @@
 -- A reading drawn over the one before, whole or not at all: the one call that the gauge makes.
-use Rattle.std.specs.Prelude.{◌≡◌, Bool, true, ◌||◌, List, ℕ, ◌<◌, eqb, pos}
+use Rattle.std.specs.Prelude.{◌≡◌, Bool, true, false, ◌||◌, List, ℕ, ◌<◌, eqb, pos}
 use Rattle.integers.specs.Integers.{pick}
 use Rattle.definitions.specs.Vocabulary.{BoundingBox, RenderedDimensions, Place, Report}
 use Rattle.definitions.specs.Refusals.{Outcome, success, refused, unless_refused, any_applies}
@@ -44,6 +44,12 @@ abbrev pub cleared_by : ℕ → ℕ → Outcome RenderedDimensions → List ℕ 
 cleared_by width color (success d) bytes = shown width (fill_picture color d.bounding_box) bytes
 cleared_by width color (refused n c) bytes = bytes
 
+-- The text is cleared by a box that `fills` allows for its own.
+abbrev pub Cleared : (BoundingBox → BoundingBox → Type 0) → ℕ → ℕ → Outcome RenderedDimensions → List ℕ → List ℕ → Type 0
+Cleared fills width color (success d) before after =
+    (filled : BoundingBox) × fills d.bounding_box filled × (after ≡ shown width (fill_picture color filled) before)
+Cleared fills width color (refused n c) before after = after ≡ before
+
 -- ---- the step
 
 -- the framebuffer with the old reading cleared
@@ -61,6 +67,14 @@ unfoldable pub redrawn_buffer : List ℕ → List ℕ → Drawing → ℕ → Gr
 redrawn_buffer font old new background p =
     pick (any_applies (redraw_causes font old new p)) p.before
     (reading_on font new (cleared font (with_text old new) background p))
+
+-- The same, but that the old reading is cleared by any box that `fills` allows for its own.
+pub record RedrawnFilling (fills : BoundingBox → BoundingBox → Type 0) (font old : List ℕ) (new : Drawing) (background : ℕ) (p : Ground)
+    (exit : List ℕ) : Type 0 where
+  pub refuses : any_applies (redraw_causes font old new p) ≡ true → exit ≡ p.before
+  pub clears : any_applies (redraw_causes font old new p) ≡ false
+      → (between : List ℕ) × Cleared fills (width p) background (drawn font (with_text old new) p) p.before between
+      × (exit ≡ reading_on font new (on p.framebuffer between))
 
 -- Whether a step was taken: it succeeded, or a letter of the new text refused it (7 or 8) and the old reading is cleared. A step
 -- that one of the causes 1 to 6 refused has changed nothing, and the old reading still stands.

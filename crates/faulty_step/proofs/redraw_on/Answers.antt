@@ -1,20 +1,14 @@
--- Without the fault the step is the gauge's.
-use Rattle.integers.proofs.Prelude.{sym, ap, ◌∙◌, Bool, List, ℕ}
+-- With the fault the narrowed box is filled; without it the step is the gauge's (NarrowLaws).
+use Rattle.integers.proofs.Prelude.{sym, ◌∙◌, rules}
 use Rattle.redraw_checks.specs.Drawing.{asked, ground_of}
-use Rattle.faulty_step.specs.Fault.{step_buffer}
-use Rattle.faulty_step.proofs.NarrowLaws.{faultless}
+use Rattle.faulty_step.proofs.NarrowLaws.{faultless, left_narrow}
 use Rattle.faulty_step.proofs.redraw_on.Goals as goal
 
-pub returns-then-trial : goal.returns-then-trial
-returns-then-trial c =
+pub returns-then-trial-clause-shown : goal.returns-then-trial-clause-shown
+returns-then-trial-clause-shown c =
     let a = c.args in
-    let r = c.redraw_narrow.ensures in
-    let new = asked a.trial.place a.new_text.now in
-    let screen = ground_of a.trial.place a.screen.now in
-    let left : Bool → List ℕ = λ b. step_buffer b a.font.now a.old_text.now new a.trial.place.background screen in
-    record { answered = r.answered; shown = r.shown ∙ ap left (sym c.if-trial.true) }
+    rw c.if-trial.true (left_narrow a.font.now a.old_text.now (asked a.trial.place a.new_text.now) a.trial.place.background
+    (ground_of a.trial.place a.screen.now) (λ box filled f. search rules) c.redraw_filling-report.ensures.shown)
 
-pub returns : goal.returns
-returns c =
-    let r = c.redraw-report.ensures in
-    record { answered = r.answered; shown = rw c.if-trial.false (r.shown ∙ sym (faultless _ _ _ _ _)) }
+pub returns-else-trial-clause-shown : goal.returns-else-trial-clause-shown
+returns-else-trial-clause-shown c = rw c.if-trial.false (c.redraw-report.ensures.shown ∙ sym (faultless _ _ _ _ _))
