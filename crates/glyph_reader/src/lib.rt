@@ -17,7 +17,7 @@ fn unsigned_field(bits: u64, width: u8) -> u8
     requires { width ≤ 8 }
     ensures { result ≡ bits % 2 ^ width }
 {
-    (bits % ((1u32 << width) as u64)) as u8
+    (bits % (1u64 << width)) as u8
 }
 
 // The same of 1 to 8 bits, less half of their range.
@@ -26,8 +26,8 @@ fn signed_field(bits: u64, width: u8) -> i8
     ensures { result ≡ biased width (bits % 2 ^ width) }
 {
     let value = unsigned_field(bits, width);
-    let half = 1u32 << (width - 1);
-    ((value as i32) - (half as i32)) as i8
+    let half = 1u8 << (width - 1);
+    (i32::from(value) - i32::from(half)) as i8
 }
 
 // The glyph of ch, whose fields begin at the byte `start` of the font: GlyphReader::new of the Rust. They have 40 bits at most, so
@@ -40,7 +40,7 @@ pub fn new(font: &[u8], head: FontReader, ch: u32, start: usize) -> Result<Glyph
     let x = h + head.bitcnt_h;
     let y = x + head.bitcnt_x;
     let d = y + head.bitcnt_y;
-    let end = start * 8 + ((d + head.bitcnt_d) as usize);
+    let end = start * 8 + usize::from(d + head.bitcnt_d);
     // the Rust fetches ahead, so one bit must be left
     if font.len() * 8 < end + 1 {
         return Err(Error::FontEnds(ch));

@@ -11,6 +11,7 @@ pub returns : goal.returns
 returns c =
     let a = c.args in
     rw (
+      c.from.ensures,
       c.unsigned_field.ensures,
       c.unsigned_field-2.ensures,
       stored w8 c.signed_field.type_inv c.signed_field.ensures,
