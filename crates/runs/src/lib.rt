@@ -48,7 +48,7 @@ fn first_pair(font: &[u8], m0: u8, m1: u8, start: usize) -> Runs
     requires { Readable font.now m0 m1 start }
     ensures { FirstPair font.now m0 m1 start result }
 {
-    let end = start + (m0 as usize) + (m1 as usize);
+    let end = start + usize::from(m0) + usize::from(m1);
     pair_of(bytes_at(font, start / 8) >> (start % 8), m0, m1, end)
 }
 
@@ -68,7 +68,7 @@ pub fn next_pair(font: &[u8], m0: u8, m1: u8, runs: Runs) -> Runs
             bit_pos: start + 1,
         };
     }
-    let end = start + 1 + (m0 as usize) + (m1 as usize);
+    let end = start + 1 + usize::from(m0) + usize::from(m1);
     pair_of(word >> (shift + 1), m0, m1, end)
 }
 
@@ -96,7 +96,7 @@ pub fn check_runs(font: &[u8], head: FontReader, glyph: GlyphReader) -> bool
     requires { Opened font.now head × (glyph.bit_pos ≤ 8 * length font.now) }
     ensures { result ≡ is_whole (glyph_pixels font.now head glyph) }
 {
-    let pixels = (glyph.glyph_width as usize) * (glyph.glyph_height as usize);
+    let pixels = usize::from(glyph.glyph_width) * usize::from(glyph.glyph_height);
     if pixels == 0 {
         return true;
     }

@@ -6,7 +6,7 @@ use Rattle.runs.proofs.first_pair.Goals as goal
 pub returns : goal.returns
 returns c =
     let a = c.args in
-    rw c.pair_of.ensures record {
+    rw (c.pair_of.ensures, c.from.ensures, c.from-2.ensures) record {
       read = pair_is a.font.now a.m0 a.m1 (a.start / 8) c.bytes_at.result (a.start % 8) a.start _ c.bytes_at.ensures
           (omega (arith, c.requires.zeros, c.requires.ones)) (omega arith) refl;
       short = pair_short _ a.m0 a.m1 _ c.requires.zeros c.requires.ones;

@@ -21,7 +21,7 @@ returns c =
     let p = c.requires.0 in
     let word = c.bytes_at-word in
     let at = a.runs.bit_pos in
-    rw c.pair_of.ensures record {
+    rw (c.pair_of.ensures, c.from.ensures, c.from-2.ensures) record {
       read = new_is a.font.now a.m0 a.m1 a.runs (at / 8) word.result (at % 8) word.ensures (omega arith) (omega arith) _ c.if-word-shift-eq1.false p.zeros p.ones refl;
       short = pair_short _ a.m0 a.m1 _ p.zeros p.ones;
       later = omega arith;
