@@ -99,13 +99,6 @@ module _ {width : ℕ} (some : 0 < width) (color left right top : ℕ) (buffer :
         let l : length (mid_of (y * width + left) (right - left) (filled_to y)) ≡ right - left = mid_length (y * width + left) (right - left) (filled_to y) (omega (arith, long y)) in
         rw (g, f, e, l) row_filled
 
--- The rows from `top` to before `row` are filled.
-pub record RowsFilled (width color left right top bottom : ℕ) (before after : List ℕ) (row : ℕ) : Type 0 where
-  pub begun : top ≤ row
-  pub within : row ≤ bottom
-  pub long : length after ≡ length before
-  pub filled : (some : 0 < width) → after ≡ filled_to some color left right top before row
-
 -- ---- the part of a rectangle on the framebuffer
 
 module _ (r : Rectangle) {bytes width height : ℕ} (f : BufferFits bytes width height) where

@@ -5,39 +5,35 @@ ghost use Rattle.definitions.specs.Framebuffer.{shown};
 ghost use Rattle.framebuffer.specs.Areas.{BufferFits, clamped, area, AreaFits, fill_picture};
 
 use crate::clamp;
+use std::ops::Range;
 use types::framebuffer::Framebuffer;
-use types::geometry::Rectangle;
+use types::geometry::{Point, Rectangle, Size};
 
-// Where a row or column of pixels begins and ends on the framebuffer. In 64 bits every end is a number.
-pub fn clamp_start(start: i32, limit: usize) -> usize
-    ensures { result ≡ clamped start limit }
+// Of so many columns from `start` on, those that a framebuffer of the width `limit` shows. Rows go the same way, by the height. In
+// 64 bits every end is a number.
+fn shown_range(start: i32, len: u32, limit: usize) -> Range<usize>
+    ensures start { result.start ≡ clamped start limit }
+    ensures end { result.end ≡ clamped (start +ℤ pos len) limit }
 {
-    clamp(i64::from(start), limit)
-}
-
-fn clamp_end(start: i32, len: u32, limit: usize) -> usize
-    ensures { result ≡ clamped (start +ℤ pos len) limit }
-{
-    clamp(i64::from(start) + i64::from(len), limit)
+    let start = i64::from(start);
+    clamp(start, limit)..clamp(start + i64::from(len), limit)
 }
 
 // Fills the rows of an area of which every pixel is on the framebuffer.
 fn fill_rows(
-    left: usize,
-    right: usize,
-    top: usize,
-    bottom: usize,
+    columns: Range<usize>,
+    rows: Range<usize>,
     color: u8,
     framebuffer: Framebuffer,
     buffer: &mut [u8],
 )
-    requires { AreaFits (length buffer.old) framebuffer.width left right top bottom }
-    ensures { buffer.new ≡ shown framebuffer.width (fill_picture color (Some (area left right top bottom)))
-        buffer.old }
+    requires { AreaFits (length buffer.old) framebuffer.width columns.start columns.end rows.start rows.end }
+    ensures { buffer.new ≡ shown framebuffer.width (fill_picture color
+        (Some (area columns.start columns.end rows.start rows.end))) buffer.old }
 {
-    for row in top..bottom {
-        let start = row * framebuffer.width + left;
-        let end = start + (right - left);
+    for row in rows.start..rows.end {
+        let start = row * framebuffer.width + columns.start;
+        let end = start + (columns.end - columns.start);
         buffer[start..end].fill(color);
     }
 }
@@ -48,19 +44,11 @@ fn fill_rectangle(rectangle: Rectangle, color: u8, framebuffer: Framebuffer, buf
     ensures { buffer.new ≡ shown framebuffer.width (fill_picture color (Some rectangle))
         buffer.old }
 {
-    let left = clamp_start(rectangle.top_left.x, framebuffer.width);
-    let right = clamp_end(
-        rectangle.top_left.x,
-        rectangle.size.width,
-        framebuffer.width,
-    );
-    let top = clamp_start(rectangle.top_left.y, framebuffer.height);
-    let bottom = clamp_end(
-        rectangle.top_left.y,
-        rectangle.size.height,
-        framebuffer.height,
-    );
-    fill_rows(left, right, top, bottom, color, framebuffer, buffer);
+    let Point { x, y } = rectangle.top_left;
+    let Size { width, height } = rectangle.size;
+    let columns = shown_range(x, width, framebuffer.width);
+    let rows = shown_range(y, height, framebuffer.height);
+    fill_rows(columns, rows, color, framebuffer, buffer);
 }
 
 pub fn fill_box(
@@ -73,8 +61,7 @@ pub fn fill_box(
     ensures { buffer.new ≡ shown framebuffer.width (fill_picture color bounding_box)
         buffer.old }
 {
-    match bounding_box {
-        Some(rectangle) => fill_rectangle(rectangle, color, framebuffer, buffer),
-        None => {}
+    if let Some(rectangle) = bounding_box {
+        fill_rectangle(rectangle, color, framebuffer, buffer);
     }
 }

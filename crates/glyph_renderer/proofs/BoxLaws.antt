@@ -34,16 +34,16 @@ box_area g area b =
     }
 
 module _ {g : GlyphReader} {r : Rectangle} (a : GlyphArea g r) (framebuffer : Framebuffer) {part : VisiblePart} (e : part ≡ visible_part r.top_left g framebuffer) where
-  pub columns_seen : part.columns.first < part.columns.past
-      → Seen (left r) r.size.width framebuffer.width part.columns.first part.columns.past part.left
+  pub columns_seen : part.columns.start < part.columns.end
+      → Seen (left r) r.size.width framebuffer.width part.columns.start part.columns.end part.left
   columns_seen h = rw (e, a.width) (seen_visible (left r) g.glyph_width framebuffer.width (rw e at h))
 
-  pub rows_seen : part.rows.first < part.rows.past
-      → Seen (top r) r.size.height framebuffer.height part.rows.first part.rows.past part.top
+  pub rows_seen : part.rows.start < part.rows.end
+      → Seen (top r) r.size.height framebuffer.height part.rows.start part.rows.end part.top
   rows_seen h = rw (e, a.height) (seen_visible (top r) g.glyph_height framebuffer.height (rw e at h))
 
   pub part_fits : {bytes : ℕ} → BufferFits bytes framebuffer.width framebuffer.height
-      → part.columns.first < part.columns.past → part.rows.first < part.rows.past → PartFits g part framebuffer bytes
+      → part.columns.start < part.columns.end → part.rows.start < part.rows.end → PartFits g part framebuffer bytes
   part_fits f h k =
       let x = columns_seen h in
       let y = rows_seen k in
@@ -59,13 +59,13 @@ module _ {g : GlyphReader} {r : Rectangle} (a : GlyphArea g r) (framebuffer : Fr
 
   module _ (buffer : List ℕ) (f : BufferFits (length buffer) framebuffer.width framebuffer.height) (color : FontColor) (ps : List ℕ) where
     -- Nothing is seen of a glyph beside the framebuffer,
-    pub beside : part.columns.past ≤ part.columns.first → shown framebuffer.width (rectangle_picture color ps r) buffer ≡ buffer
+    pub beside : part.columns.end ≤ part.columns.start → shown framebuffer.width (rectangle_picture color ps r) buffer ≡ buffer
     beside h =
         not_shown buffer f color ps r (λ column row c d i.
         none_seen (left r) g.glyph_width framebuffer.width (rw e at h) column c i.from_left (rw a.width at i.to_right))
 
     -- nor of one above or below it.
-    pub above_or_below : part.rows.past ≤ part.rows.first → shown framebuffer.width (rectangle_picture color ps r) buffer ≡ buffer
+    pub above_or_below : part.rows.end ≤ part.rows.start → shown framebuffer.width (rectangle_picture color ps r) buffer ≡ buffer
     above_or_below h =
         not_shown buffer f color ps r (λ column row c d i.
         none_seen (top r) g.glyph_height framebuffer.height (rw e at h) row d i.from_top (rw a.height at i.to_bottom))

@@ -33,20 +33,20 @@ on_ground true false fg bg = refl
 on_ground false u fg bg = refl
 
 module _ (fg : ℕ) (ps : List ℕ) (r : Rectangle) (part : VisiblePart) {width height : ℕ}
-    (x : Seen (left r) r.size.width width part.columns.first part.columns.past part.left)
-    (y : Seen (top r) r.size.height height part.rows.first part.rows.past part.top) where
+    (x : Seen (left r) r.size.width width part.columns.start part.columns.end part.left)
+    (y : Seen (top r) r.size.height height part.rows.start part.rows.end part.top) where
   abbrev s : Ones
   s = ones_of ps r.size.width part fg
 
   abbrev all : ℕ
-  all = (part.rows.past - part.rows.first) * r.size.width
+  all = (part.rows.end - part.rows.start) * r.size.width
 
   module _ (column row : ℕ) where
     abbrev place : ℕ
     place = nat_abs (pos row -ℤ top r) * r.size.width + nat_abs (pos column -ℤ left r)
 
-    index : part.left ≤ column → part.top ≤ row → place ≡ part.rows.first * r.size.width + pixel_at s column row
-    index h k = rw (seen_index x column h, seen_index y row k) (omega (arith, add-mul part.rows.first (row - part.top) r.size.width))
+    index : part.left ≤ column → part.top ≤ row → place ≡ part.rows.start * r.size.width + pixel_at s column row
+    index h k = rw (seen_index x column h, seen_index y row k) (omega (arith, add-mul part.rows.start (row - part.top) r.size.width))
 
     hit_inside : Hit s all column row → Inside (pos column) (pos row) r
     hit_inside h = record {
@@ -63,7 +63,7 @@ module _ (fg : ℕ) (ps : List ℕ) (r : Rectangle) (part : VisiblePart) {width 
           let above = y.to row d i.to_bottom in
           let right = x.from column i.from_left in
           let near = x.to column c i.to_right in
-          let k : row - part.top + 1 ≤ part.rows.past - part.rows.first = omega arith in
+          let k : row - part.top + 1 ≤ part.rows.end - part.rows.start = omega arith in
           record {
             below = below;
             above = above;

@@ -35,7 +35,7 @@ pub fn render_glyph(
         return;
     };
     let part = get_visible_part(area.top_left, glyph, framebuffer);
-    if part.columns.past <= part.columns.first || part.rows.past <= part.rows.first {
+    if part.columns.is_empty() || part.rows.is_empty() {
         return;
     }
     let value = match color {

@@ -7,20 +7,20 @@ use Rattle.rows.specs.Ones.{PartFits, PartDrawable, ones_of}
 use Rattle.rows.proofs.StateLaws.{Lies, State, part_in}
 
 module _ {g : GlyphReader} {part : VisiblePart} {framebuffer : Framebuffer} {bytes : ℕ} (f : PartFits g part framebuffer bytes) where
-  rows_in : part.rows.first * g.glyph_width + (part.rows.past - part.rows.first) * g.glyph_width ≤ g.glyph_width * g.glyph_height
+  rows_in : part.rows.start * g.glyph_width + (part.rows.end - part.rows.start) * g.glyph_width ≤ g.glyph_width * g.glyph_height
   rows_in =
-      let k : part.rows.first + (part.rows.past - part.rows.first) ≤ g.glyph_height = omega (arith, f.some_rows, f.in_height) in
+      let k : part.rows.start + (part.rows.end - part.rows.start) ≤ g.glyph_height = omega (arith, f.some_rows, f.in_height) in
       omega (
         arith,
-        add-mul part.rows.first (part.rows.past - part.rows.first) g.glyph_width,
+        add-mul part.rows.start (part.rows.end - part.rows.start) g.glyph_width,
         mul-le-mul_right g.glyph_width k,
         mul_comm g.glyph_width g.glyph_height,
       )
 
   -- the first visible row's first pixel
-  pub first_pixel : part.rows.first * g.glyph_width < g.glyph_width * g.glyph_height
+  pub first_pixel : part.rows.start * g.glyph_width < g.glyph_width * g.glyph_height
   first_pixel =
-      let k : 1 ≤ part.rows.past - part.rows.first = omega (arith, f.some_rows) in
+      let k : 1 ≤ part.rows.end - part.rows.start = omega (arith, f.some_rows) in
       omega (arith, rows_in, mul-le-mul_right g.glyph_width k, f.some_columns, f.in_width)
 
   pub part_lies : (ps : List ℕ) (value : ℕ) {entry : List ℕ} → bytes ≡ length entry
@@ -45,9 +45,9 @@ module _ {font : List ℕ} {head : FontReader} {g : GlyphReader} {part : Visible
     {runs : Runs} {from to line left : ℕ} (p : PartDrawable font head g part framebuffer (length entry))
     (s : State font head g part value framebuffer entry buffer runs from to line left) where
   -- The row's part lies on the framebuffer ..
-  pub room : line + (part.columns.past - part.columns.first) ≤ length buffer
+  pub room : line + (part.columns.end - part.columns.start) ≤ length buffer
   room = omega (arith, s.long, part_in (part_lies p.fits _ _ refl) s.at)
 
   -- .. and is small.
-  pub room_small : line + (part.columns.past - part.columns.first) ≤ 65536
+  pub room_small : line + (part.columns.end - part.columns.start) ≤ 65536
   room_small = omega (arith, room, s.long, part_small p.fits)

@@ -9,12 +9,12 @@ use Rattle.rows.specs.Ink.{Ones, ink_picture}
 
 -- The part has pixels, and lies in the glyph and on the framebuffer.
 pub record PartFits (g : GlyphReader) (part : VisiblePart) (framebuffer : Framebuffer) (bytes : ℕ) : Type 0 where
-  pub some_columns : part.columns.first < part.columns.past
-  pub some_rows : part.rows.first < part.rows.past
-  pub in_width : part.columns.past ≤ g.glyph_width
-  pub in_height : part.rows.past ≤ g.glyph_height
-  pub right : part.left + (part.columns.past - part.columns.first) ≤ framebuffer.width
-  pub bottom : part.top + (part.rows.past - part.rows.first) ≤ framebuffer.height
+  pub some_columns : part.columns.start < part.columns.end
+  pub some_rows : part.rows.start < part.rows.end
+  pub in_width : part.columns.end ≤ g.glyph_width
+  pub in_height : part.rows.end ≤ g.glyph_height
+  pub right : part.left + (part.columns.end - part.columns.start) ≤ framebuffer.width
+  pub bottom : part.top + (part.rows.end - part.rows.start) ≤ framebuffer.height
   pub window : BufferFits bytes framebuffer.width framebuffer.height
 
 -- What the drawing of such a part may count on: the runs were checked.
@@ -26,11 +26,11 @@ pub record PartDrawable (font : List ℕ) (head : FontReader) (g : GlyphReader) 
 abbrev pub ones_of : List ℕ → ℕ → VisiblePart → ℕ → Ones
 ones_of ps wide part value = record {
   ps = ps;
-  start = part.rows.first * wide;
+  start = part.rows.start * wide;
   wide = wide;
-  rows = part.rows.past - part.rows.first;
-  first = part.columns.first;
-  visible = part.columns.past - part.columns.first;
+  rows = part.rows.end - part.rows.start;
+  first = part.columns.start;
+  visible = part.columns.end - part.columns.start;
   left = part.left;
   top = part.top;
   value = value;
@@ -38,4 +38,4 @@ ones_of ps wide part value = record {
 
 -- all of its ones
 abbrev pub ones_picture : List ℕ → GlyphReader → VisiblePart → ℕ → Picture
-ones_picture ps g part value = ink_picture (ones_of ps g.glyph_width part value) ((part.rows.past - part.rows.first) * g.glyph_width)
+ones_picture ps g part value = ink_picture (ones_of ps g.glyph_width part value) ((part.rows.end - part.rows.start) * g.glyph_width)

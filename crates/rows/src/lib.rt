@@ -13,16 +13,6 @@ use types::framebuffer::Framebuffer;
 use types::glyph_reader::GlyphReader;
 use visible_part::VisiblePart;
 
-// a less b, or 0.
-fn less(a: usize, b: usize) -> usize
-    ensures { result ≡ a - b }
-{
-    if a < b {
-        return 0;
-    }
-    a - b
-}
-
 // Draws the ones of the visible part of a glyph whose runs were checked. A pair's ones go from a column to before another, both
 // counted from the current row's first column: from the glyph's width on they lie in later rows. Pairs before the first visible
 // row are passed over whole, and nothing is read after the last visible row.
@@ -39,26 +29,26 @@ pub fn draw_rows(
     ensures { buffer.new ≡ shown framebuffer.width (ones_picture (pixels_of (u8g2 font.now) glyph)
         glyph part value) buffer.old }
 {
-    let glyph_width = glyph.glyph_width as usize;
-    let visible = part.columns.past - part.columns.first;
-    let start = seek(font, head, glyph, part.rows.first * glyph_width);
+    let glyph_width = usize::from(glyph.glyph_width);
+    let visible = part.columns.end - part.columns.start;
+    let start = seek(font, head, glyph, part.rows.start * glyph_width);
     let mut runs = start.runs;
-    let mut from = less(runs.zeros, start.offset);
+    let mut from = runs.zeros.saturating_sub(start.offset);
     let mut to = runs.count() - start.offset;
     let mut line = part.top * framebuffer.width + part.left;
-    let mut left = part.rows.past - part.rows.first;
+    let mut left = part.rows.end - part.rows.start;
     'pairs: loop {
         // the rows that the pair reaches the end of
         while glyph_width <= to {
             let end = line + visible;
             fill_columns(
-                part.columns.first,
+                part.columns.start,
                 from,
                 glyph_width,
                 value,
                 &mut buffer[line..end],
             );
-            from = less(from, glyph_width);
+            from = from.saturating_sub(glyph_width);
             to -= glyph_width;
             line += framebuffer.width;
             left -= 1;
@@ -67,7 +57,7 @@ pub fn draw_rows(
             }
         }
         let end = line + visible;
-        fill_columns(part.columns.first, from, to, value, &mut buffer[line..end]);
+        fill_columns(part.columns.start, from, to, value, &mut buffer[line..end]);
         runs = next_pair(font, head.m0, head.m1, runs);
         from = to + runs.zeros;
         to = from + runs.ones;

@@ -8,11 +8,12 @@ use Rattle.rows.proofs.draw_rows.Goals as goal
 pub pairs-init : goal.pairs-init
 pairs-init c =
     let place = c.seek-start in
+    let wide = c.from-glyph_width.ensures in
     record {
       short = place.ensures.short;
       long = refl;
-      at = at_start (part_lies c.requires.fits _ _ refl) (omega (arith, c.requires.fits.some_rows)) (omega (arith, place.ensures.inside)) place.ensures.stands
-          c.less-from.ensures (ap (λ (k : ℕ). k - place.result.offset) c.count.ensures);
+      at = at_start (part_lies c.requires.fits _ _ refl) (omega (arith, c.requires.fits.some_rows)) (omega (arith, place.ensures.inside)) (rw wide at place.ensures.stands)
+          c.saturating_sub-from.ensures (ap (λ (k : ℕ). k - place.result.offset) c.count.ensures);
     }
 
 pub overflow_add-end : goal.overflow_add-end
@@ -27,13 +28,14 @@ overflow_sub-left-in-loop-to c = omega (arith, c.loop-to.invariant.at.some)
 pub loop-to-preserved : goal.loop-to-preserved
 loop-to-preserved c =
     let l = c.loop-to in
-    let v = c.args.part.columns.past - c.args.part.columns.first in
+    let wide = c.from-glyph_width.ensures in
+    let v = c.args.part.columns.end - c.args.part.columns.start in
     let k : l.line + v - l.line ≡ v = omega arith in
     record {
       short = l.invariant.short;
       long = search rules;
-      at = rw c.less-from-in-loop-to.ensures
-          (at_row (part_lies c.requires.fits _ _ refl) l.invariant.at k c.loop-to-test.true (omega (arith, l.invariant.at.some)) c.fill_columns.ensures);
+      at = rw (c.saturating_sub-from-in-loop-to.ensures, wide)
+          (at_row (part_lies c.requires.fits _ _ refl) l.invariant.at k (rw wide at c.loop-to-test.true) (omega (arith, l.invariant.at.some)) (rw wide at c.fill_columns.ensures));
     }
 
 pub overflow_add-end-in-pairs : goal.overflow_add-end-in-pairs
@@ -55,17 +57,19 @@ pairs-smaller c = omega (arith, c.loop-to.invariant.at.stands.place, c.next_pair
 pub pairs-preserved : goal.pairs-preserved
 pairs-preserved c =
     let l = c.loop-to in
-    let v = c.args.part.columns.past - c.args.part.columns.first in
+    let wide = c.from-glyph_width.ensures in
+    let v = c.args.part.columns.end - c.args.part.columns.start in
     let k : l.line + v - l.line ≡ v = omega arith in
     record {
       short = c.next_pair-runs.ensures.short;
       long = search rules;
-      at = at_next (part_lies c.requires.fits _ _ refl) l.invariant.at k c.loop-to-test.false c.next_pair-runs.ensures.read c.fill_columns-in-pairs.ensures;
+      at = at_next (part_lies c.requires.fits _ _ refl) l.invariant.at k (rw wide at c.loop-to-test.false) c.next_pair-runs.ensures.read c.fill_columns-in-pairs.ensures;
     }
 
 pub returns : goal.returns
 returns c =
     let l = c.loop-to in
-    let v = c.args.part.columns.past - c.args.part.columns.first in
+    let wide = c.from-glyph_width.ensures in
+    let v = c.args.part.columns.end - c.args.part.columns.start in
     let k : l.line + v - l.line ≡ v = omega arith in
-    all_rows (part_lies c.requires.fits _ _ refl) l.invariant.at k c.loop-to-test.true (omega (arith, l.invariant.at.some)) c.fill_columns.ensures
+    all_rows (part_lies c.requires.fits _ _ refl) l.invariant.at k (rw wide at c.loop-to-test.true) (omega (arith, l.invariant.at.some)) (rw wide at c.fill_columns.ensures)

@@ -6,7 +6,7 @@ use Rattle.framebuffer.specs.Areas.{fill_picture}
 use Rattle.definitions.proofs.FramebufferLaws.{shown_blank}
 use Rattle.framebuffer.proofs.fill.fill_box.Goals as goal
 
-pub returns-in-None : goal.returns-in-None
-returns-in-None c =
+pub returns-in_default : goal.returns-in_default
+returns-in_default c =
     let a = c.args in
-    sym (ap (λ (b : BoundingBox). shown a.framebuffer.width (fill_picture a.color b) a.buffer.now) c.in-None.is ∙ shown_blank a.framebuffer.width a.buffer.now)
+    sym (ap (λ (b : BoundingBox). shown a.framebuffer.width (fill_picture a.color b) a.buffer.now) c.in_default.is ∙ shown_blank a.framebuffer.width a.buffer.now)

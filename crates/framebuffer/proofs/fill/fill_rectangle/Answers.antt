@@ -11,10 +11,10 @@ fill_rows-requires c =
     let x : SFits w32 r.top_left.x = search rules in
     let y : SFits w32 r.top_left.y = search rules in
     edges_fit r c.requires
-    (simp (to_z-of_z, x) at c.clamp_start-left.ensures)
-    (simp (to_z-of_z, x) at c.clamp_end-right.ensures)
-    (simp (to_z-of_z, y) at c.clamp_start-top.ensures)
-    (simp (to_z-of_z, y) at c.clamp_end-bottom.ensures)
+    (simp (to_z-of_z, x) at c.shown_range-columns.ensures.start)
+    (simp (to_z-of_z, x) at c.shown_range-columns.ensures.end)
+    (simp (to_z-of_z, y) at c.shown_range-rows.ensures.start)
+    (simp (to_z-of_z, y) at c.shown_range-rows.ensures.end)
 
 pub returns : goal.returns
 returns c =
@@ -23,8 +23,8 @@ returns c =
     let y : SFits w32 r.top_left.y = search rules in
     c.fill_rows.ensures
     ∙ edges_shown r c.requires
-    (simp (to_z-of_z, x) at c.clamp_start-left.ensures)
-    (simp (to_z-of_z, x) at c.clamp_end-right.ensures)
-    (simp (to_z-of_z, y) at c.clamp_start-top.ensures)
-    (simp (to_z-of_z, y) at c.clamp_end-bottom.ensures)
+    (simp (to_z-of_z, x) at c.shown_range-columns.ensures.start)
+    (simp (to_z-of_z, x) at c.shown_range-columns.ensures.end)
+    (simp (to_z-of_z, y) at c.shown_range-rows.ensures.start)
+    (simp (to_z-of_z, y) at c.shown_range-rows.ensures.end)
     c.args.color c.args.buffer.now refl

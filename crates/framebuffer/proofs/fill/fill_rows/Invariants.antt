@@ -1,6 +1,7 @@
 -- `fill_rows`: the rows above `row` are filled. Assumes nothing.
-use Rattle.framebuffer.proofs.FillLaws.{RowsFilled}
+use Rattle.integers.proofs.Prelude.{◌≡◌, ◌<◌}
+use Rattle.framebuffer.proofs.FillLaws.{filled_to}
 use Rattle.framebuffer.proofs.fill.fill_rows.Given as goal
 
 abbrev pub invariant-loop-row : goal.invariant-loop-row
-invariant-loop-row l = RowsFilled l.framebuffer.width l.color l.left l.right l.top l.bottom l.initial.buffer l.buffer l.row
+invariant-loop-row l = (some : 0 < l.framebuffer.width) → l.buffer ≡ filled_to some l.color l.columns.start l.columns.end l.fn.rows.start l.initial.buffer l.row
