@@ -15,8 +15,9 @@ pub fn clamp(z: i64, limit: usize) -> usize
 }
 
 // Fills the columns of a glyph's row from `from` to before `to`, nothing where `to` is not above `from`. The part is what is
-// visible of the row; it begins at the column `first`. Columns outside it are dropped. Both tests stand in the loop: to fill the
-// visible columns at once is compiled to a call, and takes 13 to 19 % more for letters of up to 16 pixels, whose stretches are short.
+// visible of the row; it begins at the column `first`. Columns outside it are dropped. Both tests stand in the loop, since most
+// stretches are short: to fill the visible columns at once takes 13 to 19 % more for letters of up to 16 pixels, to find their end
+// before the loop 3 to 10 % (and for 96 pixels half, and 23 % less).
 pub fn fill_columns(first: usize, from: usize, to: usize, value: u8, part: &mut [u8])
     ensures { Filled first from to value part.old part.new }
 {

@@ -4,7 +4,7 @@ use Rattle.integers.proofs.Prelude.{◌≡◌, refl, sym, ap, subst, ◌∙◌, 
 use Rattle.integers.proofs.Prelude.{length}
 use Rattle.integers.proofs.Choices.{impossible}
 use Rattle.integers.specs.Integers.{pick}
-use Rattle.definitions.specs.Vocabulary.{RenderedDimensions, Transparent, Place}
+use Rattle.definitions.specs.Vocabulary.{RenderedDimensions, Transparent, Place, Option}
 use Rattle.definitions.specs.Refusals.{Outcome, success, refused, Cause, any_applies, outcome}
 use Rattle.definitions.specs.Header.{font_causes}
 use Rattle.definitions.specs.Utf8.{table, row_of, first_character, decode_from}
@@ -219,8 +219,8 @@ module _ (narrow : Bool) (font : List ℕ) (place : Place) (ground : List ℕ) w
   each_counted (suc k) = omega (arith, one (sight_of place.framebuffer (answer_on font place (before k) k)), each_counted k)
 
   -- a total that each reading adds to by what is seen of it
-  counted_alone : (total : Totals → ℕ) (count : Sight → ℕ) → total no_totals ≡ 0
-      → ((t : Totals) (s : Sight) (n : ℕ) → total (tallied t s n) ≡ total t + count s)
+  counted_alone : (total : Totals → ℕ) (count : Option Sight → ℕ) → total no_totals ≡ 0
+      → ((t : Totals) (s : Option Sight) (n : ℕ) → total (tallied t s n) ≡ total t + count s)
       → (k : ℕ) → total (totals k) ≡ alone_to count font place ground k
   unfolding totals_to alone_to
   counted_alone total count none adds zero = none

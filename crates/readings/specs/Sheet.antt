@@ -1,7 +1,7 @@
 -- The sheet: each reading drawn over the one before by the step of the gauge, and the screen compared with what it is to show.
 use Rattle.std.specs.Prelude.{◌≡◌, Bool, false, List, ℕ, zero, suc, ◌+◌, ◌<◌}
 use Rattle.integers.specs.Integers.{pick}
-use Rattle.definitions.specs.Vocabulary.{RenderedDimensions, Place}
+use Rattle.definitions.specs.Vocabulary.{RenderedDimensions, Place, Option}
 use Rattle.definitions.specs.Refusals.{Outcome, outcome}
 use Rattle.redraw_checks.specs.Drawing.{drawn, ground_of}
 use Rattle.buffers.specs.Differences.{differences}
@@ -65,11 +65,11 @@ totals_to narrow font place ground (suc k) =
     (differing font place ground (screen_at narrow font place ground (suc k)) k)
 
 -- what is seen of a reading that is drawn alone on the ground
-abbrev pub seen_alone : List ℕ → Place → List ℕ → ℕ → Sight
+abbrev pub seen_alone : List ℕ → Place → List ℕ → ℕ → Option Sight
 seen_alone font place ground k = sight_of place.framebuffer (drawn font (reading place k) (ground_of place ground))
 
 -- of how many of the first n that is so
-unfoldable pub alone_to : (Sight → ℕ) → List ℕ → Place → List ℕ → ℕ → ℕ
+unfoldable pub alone_to : (Option Sight → ℕ) → List ℕ → Place → List ℕ → ℕ → ℕ
 alone_to one font place ground zero = 0
 alone_to one font place ground (suc k) = alone_to one font place ground k + one (seen_alone font place ground k)
 

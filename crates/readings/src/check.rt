@@ -14,12 +14,8 @@ pub fn draw_alone(font: &[u8], text: &[u8], place: Place, ground: &[u8], alone: 
         (ground_of place ground.now) }
 {
     alone.copy_from_slice(ground);
-    let position = place.position;
-    let style = place.style;
-    let horizontal_align = place.horizontal_align;
-    let framebuffer = place.framebuffer;
     let placement = Placement {
-        position,
+        position: place.position,
         line_height: place.line_height,
         ignore_unknown_chars: false,
     };
@@ -27,16 +23,12 @@ pub fn draw_alone(font: &[u8], text: &[u8], place: Place, ground: &[u8], alone: 
         font,
         text,
         placement,
-        style,
-        horizontal_align,
-        framebuffer,
-        &mut alone[..],
+        place.style,
+        place.horizontal_align,
+        place.framebuffer,
+        alone,
     );
-    let result = drawn.result;
-    match result {
-        Ok(_) => {}
-        Err(_) => {
-            alone.copy_from_slice(ground);
-        }
+    if let Err(_) = drawn.result {
+        alone.copy_from_slice(ground);
     }
 }

@@ -56,7 +56,7 @@ fn compare(
     ensures { result ≡ differences screen.now (wanted font.now place ground.now k) }
 {
     let text = reading_text(k);
-    draw_alone(font, text.as_bytes(), place, ground, &mut alone[..]);
+    draw_alone(font, text.as_bytes(), place, ground, alone);
     count_differences(screen, alone)
 }
 
@@ -82,9 +82,9 @@ pub fn step(
         (screen_of old screen.old) k result screen.new }
 {
     let place = trial.place;
-    let answer = draw_over(font, old, k, trial, &mut screen[..]);
+    let answer = draw_over(font, old, k, trial, screen);
     let next = next_old(answer, k, old);
-    let differing = compare(font, k, place, ground, &screen[..], alone);
+    let differing = compare(font, k, place, ground, screen, alone);
     Found {
         answer,
         old: next,

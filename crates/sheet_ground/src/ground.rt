@@ -25,22 +25,16 @@ fn clear_reading(font: &[u8], k: usize, place: Place, buffer: &mut [u8])
     ensures { buffer.new ≡ cleared_by place.framebuffer.width place.background
         (measured font.now (reading place k)) buffer.old }
 {
-    let position = place.position;
-    let style = place.style;
-    let vertical_pos = style.vertical_pos;
-    let horizontal_align = place.horizontal_align;
     let placement = Placement {
-        position,
+        position: place.position,
         line_height: place.line_height,
         ignore_unknown_chars: false,
     };
-    let measured = measure_reading(font, k, placement, vertical_pos, horizontal_align);
-    let Ok(d) = measured else {
-        return;
-    };
-    let bounding_box = d.bounding_box;
-    let framebuffer = place.framebuffer;
-    fill_box(bounding_box, place.background, framebuffer, buffer);
+    let vertical_pos = place.style.vertical_pos;
+    let measured = measure_reading(font, k, placement, vertical_pos, place.horizontal_align);
+    if let Ok(dimensions) = measured {
+        fill_box(dimensions.bounding_box, place.background, place.framebuffer, buffer);
+    }
 }
 
 pub fn lay_ground(font: &[u8], place: Place, buffer: &mut [u8])
@@ -48,8 +42,8 @@ pub fn lay_ground(font: &[u8], place: Place, buffer: &mut [u8])
         × (length buffer.old ≡ place.framebuffer.width * place.framebuffer.height) }
     ensures { GroundLaid font.now place buffer.new }
 {
-    fill_with_rubbish(&mut buffer[..]);
+    fill_with_rubbish(buffer);
     for k in 0..COUNT {
-        clear_reading(font, k, place, &mut buffer[..]);
+        clear_reading(font, k, place, buffer);
     }
 }

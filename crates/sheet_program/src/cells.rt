@@ -16,20 +16,20 @@ pub fn create<R: Files>(rt: &R, framebuffer: Framebuffer) -> Result<R::File> {
 }
 
 // A difference is what the eye is to fall on, so it comes before all else.
-fn letter(sight: Sight, differing: usize) -> u8 {
+fn letter(sight: Option<Sight>, differing: usize) -> u8 {
     match sight {
         _ if differing != 0 => b'd',
-        Sight::Whole => b'w',
-        Sight::Part => b'p',
-        Sight::Unseen => b'n',
-        Sight::Refused => b'r',
+        Some(Sight::Whole) => b'w',
+        Some(Sight::Part) => b'p',
+        Some(Sight::Unseen) => b'n',
+        None => b'r',
     }
 }
 
 // The file, with one reading more.
 pub fn with_cell<W: Write + Drop>(
     mut file: W,
-    sight: Sight,
+    sight: Option<Sight>,
     differing: usize,
     screen: &[u8],
 ) -> Result<W> {

@@ -19,15 +19,15 @@ pub struct Totals {
 
 impl Totals {
     // One reading more, seen or refused; the screen after it differs in so many pixels.
-    pub fn counted(mut self, sight: Sight, differing: usize) -> Totals
+    pub fn counted(mut self, sight: Option<Sight>, differing: usize) -> Totals
         requires { Few self }
         ensures { result ≡ tallied self sight differing }
     {
         match sight {
-            Sight::Whole => self.whole += 1,
-            Sight::Part => self.part += 1,
-            Sight::Unseen => self.unseen += 1,
-            Sight::Refused => self.refused += 1,
+            Some(Sight::Whole) => self.whole += 1,
+            Some(Sight::Part) => self.part += 1,
+            Some(Sight::Unseen) => self.unseen += 1,
+            None => self.refused += 1,
         }
         self.differing += usize::from(differing != 0);
         self

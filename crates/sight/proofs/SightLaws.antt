@@ -6,7 +6,7 @@ use Rattle.integers.proofs.Laws.{zarith}
 use Rattle.definitions.specs.Vocabulary.{Framebuffer, BoundingBox, None, Some}
 use Rattle.definitions.specs.Geometry.{InsideBox, left, top}
 use Rattle.sight.specs.declared.Sight.{Sight}
-use Rattle.sight.specs.declared.Sight.TheVariants.{Whole, Part, Unseen, Refused}
+use Rattle.sight.specs.declared.Sight.TheVariants.{Whole, Part, Unseen}
 use Rattle.sight.specs.Sights.{side_seen, both_seen, box_seen, OnFramebuffer}
 
 -- ---- in one direction
@@ -33,18 +33,14 @@ both_whole Whole b e = (refl, e)
 both_whole Part Whole e = impossible cc
 both_whole Part Part e = impossible cc
 both_whole Part Unseen e = impossible cc
-both_whole Part Refused e = impossible cc
 both_whole Unseen b e = impossible cc
-both_whole Refused b e = impossible cc
 
 both_unseen : (a b : Sight) → both_seen a b ≡ Unseen → (a ≡ Unseen) ⊎ (b ≡ Unseen)
 both_unseen Whole b e = inr e
 both_unseen Part Whole e = impossible cc
 both_unseen Part Part e = impossible cc
 both_unseen Part Unseen e = inr refl
-both_unseen Part Refused e = impossible cc
 both_unseen Unseen b e = inl refl
-both_unseen Refused b e = impossible cc
 
 -- ---- the pixels of the box
 

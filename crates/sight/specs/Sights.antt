@@ -2,11 +2,11 @@
 use Rattle.std.specs.Prelude.{ℕ, ℤ, pos, ◌+ℤ◌, ◌≤ℤ◌, ◌<ℤ◌}
 use Rattle.std.specs.Int.Signed.{le_z, lt_z}
 use Rattle.integers.specs.Integers.{pick}
-use Rattle.definitions.specs.Vocabulary.{Framebuffer, BoundingBox, None, Some, RenderedDimensions}
+use Rattle.definitions.specs.Vocabulary.{Framebuffer, BoundingBox, Option, None, Some, RenderedDimensions}
 use Rattle.definitions.specs.Refusals.{Outcome, success, refused}
 use Rattle.definitions.specs.Geometry.{left, top}
 use Rattle.sight.specs.declared.Sight.{Sight}
-use Rattle.sight.specs.declared.Sight.TheVariants.{Whole, Part, Unseen, Refused}
+use Rattle.sight.specs.declared.Sight.TheVariants.{Whole, Part, Unseen}
 
 -- in one direction: pixels from `start` on, beside a side of the framebuffer
 abbrev pub side_seen : ℤ → ℕ → ℕ → Sight
@@ -20,22 +20,21 @@ abbrev pub at_most_part : Sight → Sight
 at_most_part Whole = Part
 at_most_part Part = Part
 at_most_part Unseen = Unseen
-at_most_part Refused = Refused
 
 abbrev pub both_seen : Sight → Sight → Sight
 both_seen Whole rows = rows
 both_seen Part rows = at_most_part rows
 both_seen Unseen rows = Unseen
-both_seen Refused rows = Refused
 
 -- A text without a pixel is not seen.
 abbrev pub box_seen : Framebuffer → BoundingBox → Sight
 box_seen p None = Unseen
 box_seen p (Some r) = both_seen (side_seen (left r) r.size.width p.width) (side_seen (top r) r.size.height p.height)
 
-abbrev pub sight_of : Framebuffer → Outcome RenderedDimensions → Sight
-sight_of p (success d) = box_seen p d.bounding_box
-sight_of p (refused n c) = Refused
+-- none of a refused one
+abbrev pub sight_of : Framebuffer → Outcome RenderedDimensions → Option Sight
+sight_of p (success d) = Some (box_seen p d.bounding_box)
+sight_of p (refused n c) = None
 
 -- ---- what it means
 
