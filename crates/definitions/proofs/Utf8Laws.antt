@@ -2,34 +2,13 @@
 -- loop over its characters needs, at a position: what was read there (`position`, `next`), that the text is not UTF-8
 -- (`not_utf8_lem`), and the end (`at_end`). Assumes nothing.
 use Rattle.integers.proofs.Prelude.{◌≡◌, refl, sym, ap, subst, ◌∙◌, true, false, inl, inr, List, [], ◌∷◌, ◌++◌, ℕ, zero, suc, ◌+◌, ◌-◌, ◌/◌, ◌%◌, ◌≤◌}
-use Rattle.integers.proofs.Prelude.{◌<◌, add-one, arith, eqb, length, get_or, drop, length-append, length-drop, take-append-drop, drop_of_length-le}
-use Rattle.integers.proofs.Prelude.{drop-cons, drop-drop, drop-append_seam, get_or-drop, eq-eqb, ne_eqb}
-use Rattle.integers.specs.Integers.{pick}
+use Rattle.integers.proofs.Prelude.{◌<◌, arith, eqb, length, drop, length-append, length-drop, take-append-drop, drop_of_length-le}
+use Rattle.integers.proofs.Prelude.{drop-cons, drop-drop, drop-append_seam, ne_eqb}
 use Rattle.integers.proofs.Choices.{impossible}
-use Rattle.definitions.specs.Utf8.{Row, row_of, Character, character, malformed, sequence, first_character, Scalar, encode, encode_all, Scalars, nil, cons, Decoded, characters, not_utf8}
+use Rattle.definitions.specs.Utf8.{Character, character, malformed, first_character, Scalar, encode, encode_all, Scalars, nil, cons, Decoded, characters, not_utf8}
 use Rattle.definitions.specs.Utf8.{prepend, decode_from, decode, is_utf8, code_points, newlines}
 use Rattle.definitions.proofs.Utf8Rows.{if_less}
 use Rattle.definitions.proofs.Utf8Encoding.{encode_one, encode_two, encode_three, encode_four, encode_some, head, first_encode}
-
--- ---- the character at a position
-
-module _ (text : List ℕ) (at : ℕ) (h : at < length text) where
-  pub first_at : first_character (drop at text) ≡ sequence (row_of (get_or text at 0)) (get_or text at 0) (get_or text (at + 1) 0) (get_or text (at + 2) 0) (get_or text (at + 3) 0)
-  unfolding first_character
-  first_at =
-      let second : suc at + 0 ≡ at + 1 = omega arith in
-      let third : suc at + 1 ≡ at + 2 = omega arith in
-      let fourth : suc at + 2 ≡ at + 3 = omega arith in
-      rw (drop-cons text at 0) (simp (get_or-drop, second, third, fourth))
-
-  -- .. from the row of its first byte, and the three bytes after it
-  pub first_by : {r : Row} {b c d : ℕ} {x : Character}
-      → row_of (get_or text at 0) ≡ r → b ≡ get_or text (at + 1) 0 → c ≡ get_or text (at + 2) 0 → d ≡ get_or text (at + 3) 0
-      → x ≡ sequence r (get_or text at 0) b c d
-      → x ≡ first_character (drop at text)
-  first_by {r} {b} {c} {d} {x} row second third fourth e =
-      let whole : sequence r (get_or text at 0) b c d ≡ sequence (row_of (get_or text at 0)) (get_or text at 0) (get_or text (at + 1) 0) (get_or text (at + 2) 0) (get_or text (at + 3) 0) = cc in
-      e ∙ whole ∙ sym first_at
 
 -- ---- the code points of bytes
 
@@ -102,13 +81,6 @@ module _ (text : List ℕ) (at : ℕ) where
   unfolding decode_from
   at_end h = rw (drop_of_length-le text h)
 
-  pub utf8_next : {c k : ℕ} → Position c k → is_utf8 (decode (drop at text)) ≡ is_utf8 (decode (drop (at + k) text))
-  utf8_next {c} {k} p = ap is_utf8 p.decoded ∙ same (decode (drop (at + k) text))
-    where
-      same : (d : Decoded) → is_utf8 (prepend c d) ≡ is_utf8 d
-      same (characters cs) = refl
-      same not_utf8 = refl
-
   -- Of a text that decodes, the code points from here on are this one and those from the next position on.
   pub next : {c k : ℕ} {cs : List ℕ} → first_character (drop at text) ≡ character c k → decode (drop at text) ≡ characters cs
       → After c (decode (drop (at + k) text)) cs
@@ -171,20 +143,6 @@ pub newlines_append : (s t : List ℕ) → newlines (s ++ t) ≡ newlines s + ne
 unfolding newlines
 newlines_append [] t = omega arith
 newlines_append (b ∷ s) t = omega (arith, newlines_append s t)
-
-newlines_next : (s : List ℕ) (i : ℕ) → i < length s → newlines (drop i s) ≡ pick (eqb (get_or s i 0) 10) 1 0 + newlines (drop (i + 1) s)
-unfolding newlines
-newlines_next s i h = rw (add-one, drop-cons s i 0)
-
-pub newlines_at : (s : List ℕ) (i : ℕ) → i < length s → get_or s i 0 ≡ 10 → newlines (drop i s) ≡ 1 + newlines (drop (i + 1) s)
-newlines_at s i h e = newlines_next s i h ∙ simp (eq-eqb (get_or s i 0) 10 e)
-
-pub newlines_past : (s : List ℕ) (i : ℕ) → i < length s → (get_or s i 0 ≡ 10 → ⊥) → newlines (drop i s) ≡ newlines (drop (i + 1) s)
-newlines_past s i h e = newlines_next s i h ∙ simp (ne_eqb (get_or s i 0) 10 e) (omega arith)
-
-pub newlines_end : (s : List ℕ) (i : ℕ) → length s ≤ i → newlines (drop i s) ≡ 0
-unfolding newlines
-newlines_end s i h = rw (drop_of_length-le s h)
 
 pub newlines_encode : (c : ℕ) → newlines (encode c) ≡ newlines (c ∷ [])
 unfolding newlines
