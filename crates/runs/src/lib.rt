@@ -14,7 +14,8 @@ use window::bytes_at;
 
 // A zero run and a one run, and the bit of the font after their numbers. One bit must be left after each read, so the font has
 // the pair if it has that bit: one test for a pair. What is read past the font's end is zeros.
-// `Short` is no ghost field: the definitions make pairs of any widths (`pair_at`), of which it does not hold.
+// `Short` says that both numbers are bytes. As `u8` a pair took 4 instructions more, so that drawing took 2 to 4 % more; as a ghost field
+// it would have to hold of the definitions' pairs, which are of any widths (`pair_at`).
 #[derive(Clone, Copy)]
 pub struct Runs {
     pub zeros: usize,
