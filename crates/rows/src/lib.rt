@@ -15,7 +15,8 @@ use visible_part::VisiblePart;
 
 // Draws the ones of the visible part of a glyph whose runs were checked. A pair's ones go from a column to before another, both
 // counted from the current row's first column: from the glyph's width on they lie in later rows. Pairs before the first visible
-// row are passed over whole, and nothing is read after the last visible row.
+// row are passed over whole, and nothing is read after the last visible row. Neither loop goes over a range: rows end within pairs,
+// and pairs within rows.
 pub fn draw_rows(
     font: &[u8],
     head: FontReader,

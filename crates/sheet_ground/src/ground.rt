@@ -33,7 +33,12 @@ fn clear_reading(font: &[u8], k: usize, place: Place, buffer: &mut [u8])
     let vertical_pos = place.style.vertical_pos;
     let measured = measure_reading(font, k, placement, vertical_pos, place.horizontal_align);
     if let Ok(dimensions) = measured {
-        fill_box(dimensions.bounding_box, place.background, place.framebuffer, buffer);
+        fill_box(
+            dimensions.bounding_box,
+            place.background,
+            place.framebuffer,
+            buffer,
+        );
     }
 }
 
