@@ -44,7 +44,7 @@ abbrev pub cleared_by : ℕ → ℕ → Outcome RenderedDimensions → List ℕ 
 cleared_by width color (success d) bytes = shown width (fill_picture color d.bounding_box) bytes
 cleared_by width color (refused n c) bytes = bytes
 
--- The text is cleared by a box that `fills` allows for its own.
+-- As `cleared_by`, but what is filled is a box that `fills` allows for the text's own.
 abbrev pub Cleared : (BoundingBox → BoundingBox → Type 0) → ℕ → ℕ → Outcome RenderedDimensions → List ℕ → List ℕ → Type 0
 Cleared fills width color (success d) before after =
     (filled : BoundingBox) × fills d.bounding_box filled × (after ≡ shown width (fill_picture color filled) before)
@@ -68,7 +68,7 @@ redrawn_buffer font old new background p =
     pick (any_applies (redraw_causes font old new p)) p.before
     (reading_on font new (cleared font (with_text old new) background p))
 
--- The same, but that the old reading is cleared by any box that `fills` allows for its own.
+-- As `redrawn_buffer`, but that the old reading is cleared by a box that `fills` allows for its own.
 pub record RedrawnFilling (fills : BoundingBox → BoundingBox → Type 0) (font old : List ℕ) (new : Drawing) (background : ℕ) (p : Ground)
     (exit : List ℕ) : Type 0 where
   pub refuses : any_applies (redraw_causes font old new p) ≡ true → exit ≡ p.before
