@@ -1,8 +1,8 @@
 -- What is shown of a drawing.
-use Rattle.std.specs.Prelude.{◌≤◌}
+use Rattle.std.specs.Prelude.{◌≤◌, IfSome, Result, Ok, Err}
 use Rattle.definitions.specs.Vocabulary.{Size}
-use Rattle.pictures.specs.declared.whole.DrawResult.{DrawResult}
-use Rattle.pictures.specs.declared.whole.DrawResult.TheVariants.{Drawn, Blank, TooLarge, Refused}
+use Rattle.pictures.specs.declared.whole.Drawing.{Drawing}
+use Rattle.pictures.specs.declared.whole.DrawError.{DrawError}
 
 -- A framebuffer may be of that size.
 pub record Small (size : Size) : Type 0 where
@@ -10,8 +10,6 @@ pub record Small (size : Size) : Type 0 where
   pub high : size.height ≤ 256
 
 -- what the program must know of a drawing to show it
-abbrev pub Showable : DrawResult → Type 0
-Showable (Drawn d size) = Small size
-Showable (Blank d) = Unit {0}
-Showable (TooLarge r) = Unit {0}
-Showable (Refused e) = Unit {0}
+abbrev pub Showable : Result Drawing DrawError → Type 0
+Showable (Ok d) = IfSome d.size Small
+Showable (Err e) = Unit {0}

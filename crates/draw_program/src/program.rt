@@ -1,12 +1,12 @@
 // The program: draws a text in the font font.bin and prints the answer and the picture.
-ghost use Rattle.std.specs.Prelude.{◌≡◌, length};
+ghost use Rattle.std.specs.Prelude.{◌≡◌, IfSome, length};
 ghost use Rattle.picture_text.specs.Marks.{IsPicture};
 ghost use Rattle.draw_program.specs.Shown.{Small, Showable};
 
 use draw_options::{Options, UnknownWord};
 use pgm::write_image;
 use picture_text::{EMPTY, color, print_rows};
-use pictures::whole::{DrawResult, draw_whole};
+use pictures::whole::{DrawError, Drawing, draw_whole};
 use printing::{BoxOrNone, Dimensions};
 use std::io::Read;
 use std::rt::Files;
@@ -32,16 +32,19 @@ fn show_pixels<R: Files + Print + Eprint + Alloc>(rt: &R, size: Size, pgm: bool,
     print_rows(rt, pixels, size.width as usize, size.height as usize);
 }
 
+// The answer, and the picture, if there is one.
 fn show_drawn<R: Files + Print + Eprint + Alloc>(
     rt: &R,
-    dimensions: RenderedDimensions,
-    size: Size,
+    drawing: Drawing,
     options: Options,
     buffer: &[u8],
 )
-    requires { Small size × (length buffer.now ≡ 65536) }
+    requires { IfSome drawing.size Small × (length buffer.now ≡ 65536) }
 {
-    answer(rt, dimensions, options.align);
+    answer(rt, drawing.dimensions, options.align);
+    let Some(size) = drawing.size else {
+        return;
+    };
     let n = (size.width as usize) * (size.height as usize);
     show_pixels(rt, size, options.pgm, &buffer[..n]);
 }
@@ -55,17 +58,16 @@ fn show_too_large<R: Print>(rt: &R, size: Size) {
 
 fn show<R: Files + Print + Eprint + Alloc>(
     rt: &R,
-    drawing: DrawResult,
+    drawing: Result<Drawing, DrawError>,
     options: Options,
     buffer: &[u8],
 )
     requires { Showable drawing × (length buffer.now ≡ 65536) }
 {
     match drawing {
-        DrawResult::Refused(error) => printing::refusal_line(rt, error),
-        DrawResult::Blank(dimensions) => answer(rt, dimensions, options.align),
-        DrawResult::TooLarge(rectangle) => show_too_large(rt, rectangle.size),
-        DrawResult::Drawn(dimensions, size) => show_drawn(rt, dimensions, size, options, buffer),
+        Err(DrawError::Refused(error)) => printing::refusal_line(rt, error),
+        Err(DrawError::TooLarge(rectangle)) => show_too_large(rt, rectangle.size),
+        Ok(drawing) => show_drawn(rt, drawing, options, buffer),
     }
 }
 

@@ -1,13 +1,14 @@
 -- What drawing a text on a framebuffer of its own comes to. The buffer begins with the framebuffer's pixels; what follows them
 -- stays.
-use Rattle.std.specs.Prelude.{◌≡◌, List, ◌++◌, ◌⊎◌, ℕ, ◌*◌, ◌≤◌, ◌<◌, take, drop}
+use Rattle.std.specs.Prelude.{◌≡◌, List, ◌++◌, ◌⊎◌, ℕ, ◌*◌, ◌≤◌, ◌<◌, take, drop, Option, Some, Result, Ok, Err}
 use Rattle.definitions.specs.Vocabulary.{None, Point, Size, Rectangle, RenderedDimensions, FontColor}
 use Rattle.definitions.specs.Refusals.{Outcome, success, refusal}
 use Rattle.corner.specs.declared.Setting.{Setting}
 use Rattle.corner.specs.Whole.{measured_at_zero, drawn_whole, shown_whole, boxed, SeenWhole}
 use Rattle.corner.specs.Corners.{Measured}
-use Rattle.pictures.specs.declared.whole.DrawResult.{DrawResult}
-use Rattle.pictures.specs.declared.whole.DrawResult.TheVariants.{Drawn, Blank, TooLarge, Refused}
+use Rattle.pictures.specs.declared.whole.Drawing.{Drawing}
+use Rattle.pictures.specs.declared.whole.DrawError.{DrawError}
+use Rattle.pictures.specs.declared.whole.DrawError.TheVariants.{TooLarge, Refused}
 
 -- The text was measured, and there is a buffer for the largest framebuffer.
 pub record Buffered (font text : List ℕ) (s : Setting) (r : Rectangle) (bytes : ℕ) : Type 0 where
@@ -46,10 +47,16 @@ pub record IsTooLarge (font text : List ℕ) (s : Setting) (before after : List 
   pub measured : measured_at_zero font text s ≡ success (boxed advance r)
   pub large : (256 < r.size.width) ⊎ (256 < r.size.height)
 
-abbrev pub IsDrawing : List ℕ → List ℕ → Setting → FontColor → List ℕ → List ℕ → DrawResult → Type 0
-IsDrawing font text s color before after (Drawn d size) = IsDrawn font text s color before after d size
-IsDrawing font text s color before after (Blank d) = IsBlank font text s before after d
-IsDrawing font text s color before after (TooLarge r) = IsTooLarge font text s before after r
-IsDrawing font text s color before after (Refused e) =
+abbrev pub IsDrawnAs : List ℕ → List ℕ → Setting → FontColor → List ℕ → List ℕ → RenderedDimensions → Option Size → Type 0
+IsDrawnAs font text s color before after d (Some size) = IsDrawn font text s color before after d size
+IsDrawnAs font text s color before after d None = IsBlank font text s before after d
+
+abbrev pub IsNotDrawn : List ℕ → List ℕ → Setting → FontColor → List ℕ → List ℕ → DrawError → Type 0
+IsNotDrawn font text s color before after (TooLarge r) = IsTooLarge font text s before after r
+IsNotDrawn font text s color before after (Refused e) =
     ((after ≡ before) × (measured_at_zero font text s ≡ refusal e))
     ⊎ ((r : Rectangle) × Called font text s color before after r (refusal e))
+
+abbrev pub IsDrawing : List ℕ → List ℕ → Setting → FontColor → List ℕ → List ℕ → Result Drawing DrawError → Type 0
+IsDrawing font text s color before after (Ok d) = IsDrawnAs font text s color before after d.dimensions d.size
+IsDrawing font text s color before after (Err e) = IsNotDrawn font text s color before after e

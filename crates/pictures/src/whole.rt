@@ -2,6 +2,7 @@
 ghost use Rattle.std.specs.Prelude.{◌≡◌, ◌≤◌, length};
 ghost use Rattle.definitions.specs.Header.{header};
 ghost use Rattle.corner.specs.Whole.{setting_of};
+ghost use Rattle.pictures.specs.declared.whole.DrawError.TheVariants.{Refused};
 ghost use Rattle.pictures.specs.Drawings.{Buffered, IsDrawing};
 
 use corner::{Setting, draw_at_corner};
@@ -12,15 +13,27 @@ use types::framebuffer::Framebuffer;
 use types::geometry::{Point, Rectangle, RenderedDimensions, Size};
 use types::style::{FontColor, HorizontalAlignment, Placement, VerticalPosition};
 
+// What is answered, and the framebuffer's size, if the text has a pixel. The framebuffer's pixels begin the buffer.
 #[derive(Clone, Copy)]
-pub enum DrawResult {
-    // the answer and the framebuffer's size; its pixels begin the buffer
-    Drawn(RenderedDimensions, Size),
-    // the text has no pixel
-    Blank(RenderedDimensions),
-    // the text's box does not fit the largest framebuffer
+pub struct Drawing {
+    pub dimensions: RenderedDimensions,
+    pub size: Option<Size>,
+}
+
+// Why a text is not drawn.
+#[derive(Clone, Copy)]
+pub enum DrawError {
+    // its box does not fit the largest framebuffer
     TooLarge(Rectangle),
     Refused(Error),
+}
+
+impl From<Error> for DrawError {
+    ghost from_gives = { λ error e. e ≡ Refused error };
+
+    fn from(error: Error) -> DrawError {
+        DrawError::Refused(error)
+    }
 }
 
 // Draws a text whose box at (0, 0) is the rectangle, if a framebuffer can be so large.
@@ -31,34 +44,24 @@ fn draw_box(
     rectangle: Rectangle,
     color: FontColor,
     buffer: &mut [u8],
-) -> DrawResult
+) -> Result<Drawing, DrawError>
     requires { Buffered font.now text.now setting rectangle (length buffer.old) }
     ensures { IsDrawing font.now text.now setting color buffer.old
         buffer.new result }
 {
     let size = rectangle.size;
+    if 256 < size.width || 256 < size.height {
+        return Err(DrawError::TooLarge(rectangle));
+    }
     let width = size.width as usize;
     let height = size.height as usize;
-    if 256 < width {
-        return DrawResult::TooLarge(rectangle);
-    }
-    if 256 < height {
-        return DrawResult::TooLarge(rectangle);
-    }
-    let n = width * height;
-    let answer = draw_at_corner(
-        font,
-        text,
-        setting,
-        rectangle,
-        color,
-        Framebuffer { width, height },
-        &mut buffer[..n],
-    );
-    match answer {
-        Err(error) => DrawResult::Refused(error),
-        Ok(dimensions) => DrawResult::Drawn(dimensions, size),
-    }
+    let framebuffer = Framebuffer { width, height };
+    let pixels = &mut buffer[..width * height];
+    let dimensions = draw_at_corner(font, text, setting, rectangle, color, framebuffer, pixels)?;
+    Ok(Drawing {
+        dimensions,
+        size: Some(size),
+    })
 }
 
 // Measures a text of an opened font at (0, 0) and draws it by its box.
@@ -68,7 +71,7 @@ fn draw_measured(
     setting: Setting,
     color: FontColor,
     buffer: &mut [u8],
-) -> DrawResult
+) -> Result<Drawing, DrawError>
     requires { (setting.line_height ≤ 128) × (length buffer.old ≡ 65536) }
     ensures { IsDrawing font.now text.now setting color buffer.old
         buffer.new result }
@@ -80,16 +83,13 @@ fn draw_measured(
     };
     let align = setting.align;
     let measured = aligned_dimensions(font, text, placement, VerticalPosition::Baseline, align);
-    let result = measured.result;
-    match result {
-        Err(error) => DrawResult::Refused(error),
-        Ok(dimensions) => {
-            let bounding_box = dimensions.bounding_box;
-            match bounding_box {
-                None => DrawResult::Blank(dimensions),
-                Some(rectangle) => { draw_box(font, text, setting, rectangle, color, buffer) }
-            }
-        }
+    let dimensions = measured.result?;
+    match dimensions.bounding_box {
+        None => Ok(Drawing {
+            dimensions,
+            size: None,
+        }),
+        Some(rectangle) => draw_box(font, text, setting, rectangle, color, buffer),
     }
 }
 
@@ -101,19 +101,15 @@ pub fn draw_whole(
     align: HorizontalAlignment,
     color: FontColor,
     buffer: &mut [u8],
-) -> DrawResult
+) -> Result<Drawing, DrawError>
     requires { length buffer.old ≡ 65536 }
     ensures { IsDrawing font.now text.now
         (setting_of (header font.now).line_height align) color buffer.old buffer.new result }
 {
-    match new_from_raw_data(font) {
-        Err(error) => DrawResult::Refused(error),
-        Ok(head) => {
-            let setting = Setting {
-                line_height: head.line_height,
-                align,
-            };
-            draw_measured(font, text, setting, color, buffer)
-        }
-    }
+    let head = new_from_raw_data(font)?;
+    let setting = Setting {
+        line_height: head.line_height,
+        align,
+    };
+    draw_measured(font, text, setting, color, buffer)
 }

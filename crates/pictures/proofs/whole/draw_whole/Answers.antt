@@ -1,28 +1,27 @@
--- `draw_whole` meets its contract: a font that does not open is not measured, and its line height is at most 128. Assumes nothing.
-use Rattle.integers.proofs.Prelude.{refl, sym, ap, subst, ◌∙◌, inl, ℕ, arith}
-use Rattle.definitions.specs.Refusals.{outcome}
+-- A font that does not open is not measured, and the line height of one that does is at most 128. Assumes nothing.
+use Rattle.std.proofs.lemmas.Result.{err_from_is_err_and}
+use Rattle.integers.proofs.Prelude.{refl, sym, subst, inl, ℕ, arith}
 use Rattle.definitions.specs.Header.{header}
 use Rattle.corner.specs.Whole.{setting_of}
 use Rattle.pictures.proofs.DrawingLaws.{opening_refused, is_default, default_low}
 use Rattle.pictures.specs.Drawings.{IsDrawing}
 use Rattle.pictures.proofs.whole.draw_whole.Goals as goal
 
+pub returns-in_err-head : goal.returns-in_err-head
+returns-in_err-head c =
+    let font = c.args.font.now in
+    let p = err_from_is_err_and c.from_residual.result c.from_residual.ensures.1 in
+    let refused = opening_refused font c.args.text.now (setting_of (header font).line_height c.args.align) (sym c.in_err-head.ensures) in
+    rw (p.1, p.2) (inl (refl, refused))
+
 pub draw_measured-requires : goal.draw_measured-requires
 draw_measured-requires c =
-    let opens = sym c.new_from_raw_data.ensures ∙ ap outcome c.in-Ok.is in
-    (omega (arith, default_low c.args.font.now _ opens (omega (arith, c.type_inv.font 10))), c.requires)
+    (omega (arith, default_low c.args.font.now _ (sym c.in_ok-head.ensures) (omega (arith, c.type_inv.font 10))), c.requires)
 
-pub returns-in-Err : goal.returns-in-Err
-returns-in-Err c =
-    let font = c.args.font.now in
-    let refused = sym c.new_from_raw_data.ensures ∙ ap outcome c.in-Err.is in
-    inl (refl, opening_refused font c.args.text.now (setting_of (header font).line_height c.args.align) refused)
-
-pub returns-in-Ok : goal.returns-in-Ok
-returns-in-Ok c =
-    let opens = sym c.new_from_raw_data.ensures ∙ ap outcome c.in-Ok.is in
+pub returns : goal.returns
+returns c =
     let a = c.args in
     let call = c.draw_measured in
     subst (λ (n : ℕ). IsDrawing a.font.now a.text.now (setting_of n a.align) a.color a.buffer.now call.new.buffer call.result)
-    (is_default a.font.now _ opens)
+    (is_default a.font.now _ (sym c.in_ok-head.ensures))
     call.ensures
