@@ -6,10 +6,13 @@ ghost use Rattle.std.specs.Prelude.{◌≡◌, List, ℕ};
 ghost use Rattle.draw_options.specs.Words.{named_alignment, with_word, with_words, no_words};
 
 use std::env::Env;
+use std::error::Error;
+use std::fmt;
+use std::fmt::{Display, Formatter};
 use system::arguments;
 use types::style::HorizontalAlignment;
 
-#[derive(Clone, Copy, Default)]
+#[derive(Clone, Copy, Debug, PartialEq, Eq, Default)]
 pub struct Options {
     pub pgm: bool,
     pub background: bool,
@@ -18,8 +21,19 @@ pub struct Options {
 }
 
 // A word is none of the five.
-#[derive(Clone, Copy)]
+#[derive(Clone, Copy, Debug, PartialEq, Eq)]
 pub struct UnknownWord;
+
+impl Display for UnknownWord {
+    fn fmt<W: fmt::Write>(&self, f: &mut Formatter<W>) -> fmt::Result {
+        f.write_str(
+            "draw: the arguments are pgm (the image goes into draw.pgm), background (behind the glyphs), ",
+        )?;
+        f.write_str("and left, center or right")
+    }
+}
+
+impl Error for UnknownWord {}
 
 // The alignment of that name.
 pub fn named_alignment(word: &str) -> Option<HorizontalAlignment>

@@ -92,12 +92,12 @@ pub fn start<R: Files + Print + Eprint + Alloc, I: Read>(
     options: Result<Options, UnknownWord>,
     input: &mut I,
 ) {
-    let Ok(options) = options else {
-        printing::text(
-            rt,
-            b"draw: the arguments are pgm (the image goes into draw.pgm), background (behind the glyphs), and left, center or right\n",
-        );
-        return;
+    let options = match options {
+        Ok(options) => options,
+        Err(unknown) => {
+            let _ = println!(rt; "{unknown}");
+            return;
+        }
     };
     let path = "font.bin";
     let mut buffer = font_file::buffer();

@@ -28,6 +28,8 @@ impl From<io::Error> for FontFileError {
 }
 
 impl From<Stopped<'_>> for FontFileError {
+    ghost from_gives = { λ stopped result. result ≡ Unreadable stopped.error };
+
     fn from(stopped: Stopped<'_>) -> FontFileError {
         FontFileError::Unreadable(stopped.error)
     }

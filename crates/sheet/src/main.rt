@@ -9,9 +9,8 @@ use sheet_program::program::start;
 fn main(rt: HostRuntime) {
     match read(&rt) {
         Ok(options) => start(&rt, "font.bin", options),
-        Err(_) => printing::text(
-            &rt,
-            b"sheet: the arguments are an anchor (baseline, top, center, bottom), align (left, center, right), at X Y (from -1048576 to 1048576) and narrow\n",
-        ),
+        Err(wrong) => {
+            let _ = println!(rt; "{wrong}");
+        }
     }
 }

@@ -8,6 +8,9 @@ ghost use Rattle.sheet_options.specs.Limits.{Limited, WithinLimits};
 use draw_options::named_alignment;
 use sheet_extent::values::Options;
 use std::env::Env;
+use std::error::Error;
+use std::fmt;
+use std::fmt::{Display, Formatter};
 use system::{Word, arguments};
 use types::geometry::Point;
 use types::style::{HorizontalAlignment, VerticalPosition};
@@ -15,6 +18,17 @@ use types::style::{HorizontalAlignment, VerticalPosition};
 // A word is not known where it stands, or one is missing behind it.
 #[derive(Clone, Copy, Debug, PartialEq, Eq)]
 pub struct WrongWord;
+
+impl Display for WrongWord {
+    fn fmt<W: fmt::Write>(&self, f: &mut Formatter<W>) -> fmt::Result {
+        f.write_str(
+            "sheet: the arguments are an anchor (baseline, top, center, bottom), align (left, center, right), ",
+        )?;
+        f.write_str("at X Y (from -1048576 to 1048576) and narrow")
+    }
+}
+
+impl Error for WrongWord {}
 
 // The largest coordinate of a place.
 const MOST: u32 = 1_048_576;
@@ -42,6 +56,7 @@ pub fn read<R: Env>(rt: &R) -> Result<Options, WrongWord>
 {
     let mut options = Options::default();
     let mut words = arguments(rt);
+    // `align` and `at` take the words behind them
     while let Some(word) = words.next() {
         match word.as_str() {
             "baseline" => options.vertical_pos = VerticalPosition::Baseline,
