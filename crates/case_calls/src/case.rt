@@ -43,6 +43,7 @@ impl TryFrom<u32> for Call {
     }
 }
 
+// The codes of types of another crate, which can have no TryFrom here.
 fn vertical_pos(code: u32) -> Result<VerticalPosition, CaseError> {
     match code {
         0 => Ok(VerticalPosition::Baseline),

@@ -1,6 +1,6 @@
 // The file of cases, as tools/cases.py writes it: numbers of four bytes, the low byte first, and byte
 // strings as a count of parts, each a repeat count, a length and the bytes.
-ghost use Rattle.std.specs.Prelude.{◌≡◌};
+ghost use Rattle.std.specs.Prelude.{◌≡◌, take, drop, IfOk};
 ghost use Rattle.std.specs.Int.{w32, from_le_bytes, cast_signed};
 ghost use Rattle.cases.specs.Reading.{Read};
 
@@ -92,7 +92,9 @@ impl<'a> Reader<'a> {
     }
 
     // A number that is a byte.
-    pub fn byte(&mut self) -> Result<u8, CaseError> {
+    pub fn byte(&mut self) -> Result<u8, CaseError>
+        ensures { IfOk result (λ n. (n ≡ from_le_bytes w32 (take 4 self.old)) × (self.new ≡ drop 4 self.old)) }
+    {
         u8::try_from(self.number()?).map_err(|_| CaseError::UnknownCode)
     }
 
