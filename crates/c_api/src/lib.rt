@@ -20,7 +20,6 @@ use c_codes::known_codes;
 use c_values::header::store_header;
 use c_values::reply::{Reply, store};
 use font_reader::new_from_raw_data;
-use lookup_sums::no_steps;
 use measuring::font_bounding_box::get_font_bounding_box;
 use measuring::rendered_dimensions::get_rendered_dimensions;
 use measuring::rendered_dimensions_aligned::get_rendered_dimensions_aligned;
@@ -62,7 +61,7 @@ pub extern "C" fn papayahelm_font_box(font: &[u8], anchor: u32, out: &mut [i64])
         return BAD_ARGUMENT;
     };
     let result = get_font_bounding_box(font, m.vertical_pos);
-    store(out, Reply::of(result), no_steps())
+    store(out, Reply::of(result), LookupSteps::default())
 }
 
 // The dimensions that a text has when it is drawn.

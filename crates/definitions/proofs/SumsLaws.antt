@@ -115,6 +115,10 @@ pub open_early : (font : List ℕ) {n c : ℕ} → open_font font ≡ refused n 
 unfolding open_font
 open_early font e = refused_early (header font) (font_causes font) (refl, (refl, tt)) e
 
+-- what the default steps are
+pub default_steps : {q : LookupSteps} → (q.records ≡ 0) × (q.entries ≡ 0) → q ≡ no_steps
+default_steps e = rw (e.0, e.1) refl
+
 -- What a success is made into makes no difference.
 pub sums_then : {A B : Type 0} (font : Font) (text : List ℕ) (o : Outcome A) (f : A → B) → sums font text (and_then o (λ a. success (f a))) ≡ sums font text o
 sums_then font text (success a) f = refl

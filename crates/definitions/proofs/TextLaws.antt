@@ -637,3 +637,7 @@ module _ (P : GlyphReader → Type 0) (measured answers : ℕ → Answer) (every
   -- What is so of each glyph that a letter shows is so of each glyph of the text.
   pub each_glyph : (a : HorizontalAlignment) (cs : List ℕ) → Each (λ p. P p.glyph) (aligned measured answers line_height a origin cs).glyphs
   each_glyph a cs = each_line a (lines cs) zero
+
+-- what the default dimensions are
+pub default_dimensions : {d : RenderedDimensions} → ((d.advance.x ≡ pos 0) × (d.advance.y ≡ pos 0)) × (d.bounding_box ≡ None) → d ≡ start
+default_dimensions e = rw (e.0.0, e.0.1, e.1) refl

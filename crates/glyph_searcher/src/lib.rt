@@ -16,11 +16,6 @@ use unicode_jumptable_reader::{JumpOffset, calculate_jump_offset};
 // Where the records begin: the first byte after the header.
 const U8G2_FONT_DATA_STRUCT_SIZE: usize = 23;
 
-const NO_STEPS: LookupSteps = LookupSteps {
-    records: 0,
-    entries: 0,
-};
-
 // The glyph begins at this byte.
 fn found(start: usize, steps: LookupSteps) -> Report<usize>
     ensures { result ≡ record { result = Ok start; steps = steps } }
@@ -47,7 +42,7 @@ fn font_ends(ch: u16) -> Report<usize>
 {
     Report {
         result: Err(Error::FontEnds(u32::from(ch))),
-        steps: NO_STEPS,
+        steps: LookupSteps::default(),
     }
 }
 
@@ -123,7 +118,7 @@ pub fn search(font: &[u8], head: FontReader, ch: u32) -> Report<usize>
     let Ok(encoding) = u16::try_from(ch) else {
         return Report {
             result: Err(Error::GlyphNotFound(ch)),
-            steps: NO_STEPS,
+            steps: LookupSteps::default(),
         };
     };
     if 255 < encoding {

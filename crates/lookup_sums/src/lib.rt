@@ -13,15 +13,6 @@ use types::geometry::{Rectangle, RenderedDimensions};
 use types::results::Report;
 use types::steps::LookupSteps;
 
-pub fn no_steps() -> LookupSteps
-    ensures { result ≡ no_steps }
-{
-    LookupSteps {
-        records: 0,
-        entries: 0,
-    }
-}
-
 pub fn add_steps(sum: LookupSteps, steps: LookupSteps) -> LookupSteps
     requires { Fits32 (plus_steps sum steps) }
     ensures { result ≡ plus_steps sum steps }
@@ -38,7 +29,7 @@ pub fn sum_with(error: Error, sum: LookupSteps) -> LookupSteps
 {
     match error {
         Error::GlyphNotFound(_) => sum,
-        _ => no_steps(),
+        _ => LookupSteps::default(),
     }
 }
 
@@ -48,7 +39,7 @@ pub fn refused(error: Error) -> Report<RenderedDimensions>
 {
     Report {
         result: Err(error),
-        steps: no_steps(),
+        steps: LookupSteps::default(),
     }
 }
 

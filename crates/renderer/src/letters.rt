@@ -11,12 +11,13 @@ use checks::origin::Pen;
 use font_reader::opened::OpenedFont;
 use glyph_renderer::render_glyph;
 use layout::steps::{NEWLINE, add_answer, add_newline, get_next_bounding_box};
-use lookup_sums::{add_steps, no_steps, sum_with};
+use lookup_sums::{add_steps, sum_with};
 use types::error::Error;
 use types::framebuffer::Framebuffer;
 use types::geometry::{Point, RenderedDimensions};
 use types::glyph_reader::GlyphReader;
 use types::results::Report;
+use types::steps::LookupSteps;
 use types::style::FontColor;
 use utf8::split_first_char;
 
@@ -68,7 +69,7 @@ fn draw_char(
     if ch == NEWLINE {
         return Report {
             result: Ok(add_newline(dimensions, pen.line_height)),
-            steps: no_steps(),
+            steps: LookupSteps::default(),
         };
     }
     let origin = pen.origin;
@@ -96,7 +97,7 @@ pub fn draw_text(
         buffer.new result }
 {
     let mut dimensions = before;
-    let mut steps = no_steps();
+    let mut steps = LookupSteps::default();
     let mut rest = text;
     while let Some((ch, tail)) = split_first_char(rest) {
         let drawn = draw_char(font, ch, dimensions, pen, context, &mut buffer[..]);

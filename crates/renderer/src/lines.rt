@@ -11,10 +11,11 @@ use checks::origin::Pen;
 use font_reader::opened::OpenedFont;
 use layout::steps::add_newline;
 use line_alignment::align_pen;
-use lookup_sums::{add_steps, no_steps, refused, sum_with};
+use lookup_sums::{add_steps, refused, sum_with};
 use types::framebuffer::Framebuffer;
-use types::geometry::{Point, RenderedDimensions};
+use types::geometry::RenderedDimensions;
 use types::results::Report;
+use types::steps::LookupSteps;
 use types::style::{FontColor, HorizontalAlignment};
 
 // Where a text's lines stand.
@@ -22,15 +23,6 @@ use types::style::{FontColor, HorizontalAlignment};
 pub struct LineSetting {
     pub pen: Pen,
     pub horizontal_align: HorizontalAlignment,
-}
-
-fn no_dimensions() -> RenderedDimensions
-    ensures { result ≡ start }
-{
-    RenderedDimensions {
-        advance: Point { x: 0, y: 0 },
-        bounding_box: None,
-    }
 }
 
 // Where a text's first newline is. No longer sequence of UTF-8 has its byte.
@@ -102,8 +94,8 @@ fn draw_lines(
         buffer.old buffer.new result }
 {
     let pen = setting.pen;
-    let mut dimensions = no_dimensions();
-    let mut steps = no_steps();
+    let mut dimensions = RenderedDimensions::default();
+    let mut steps = LookupSteps::default();
     let mut rest = text;
     loop {
         let (line, after) = split_line(rest);
@@ -150,7 +142,7 @@ pub fn draw_aligned(
     };
     match horizontal_align {
         HorizontalAlignment::Left => {
-            draw_text(font, text, pen, no_dimensions(), context, buffer)
+            draw_text(font, text, pen, RenderedDimensions::default(), context, buffer)
         }
         HorizontalAlignment::Center => draw_lines(font, text, setting, context, buffer),
         HorizontalAlignment::Right => draw_lines(font, text, setting, context, buffer),

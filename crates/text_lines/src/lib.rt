@@ -14,7 +14,7 @@ use checks::origin::Pen;
 use font_reader::opened::OpenedFont;
 use layout::render_actions::compute_horizontal_offset;
 use layout::steps::{NEWLINE, add_answer};
-use lookup_sums::{add_steps, no_steps, sum_with};
+use lookup_sums::{add_steps, sum_with};
 use types::error::Error;
 use types::geometry::{Point, Rectangle, RenderedDimensions};
 use types::glyph_reader::GlyphReader;
@@ -30,15 +30,6 @@ pub struct LineState {
     pub line: RenderedDimensions,
     pub advance_y: i32,
     pub bounding_box: Option<Rectangle>,
-}
-
-fn empty_line() -> RenderedDimensions
-    ensures { result ≡ start }
-{
-    RenderedDimensions {
-        advance: Point { x: 0, y: 0 },
-        bounding_box: None,
-    }
 }
 
 fn move_box(bounding_box: Option<Rectangle>, x: i32, y: i32) -> Option<Rectangle>
@@ -87,7 +78,7 @@ fn add_newline(
     ensures { as_state result ≡ next_line horizontal_align line_height origin (as_state state) }
 {
     LineState {
-        line: empty_line(),
+        line: RenderedDimensions::default(),
         advance_y: state.advance_y + (line_height as i32),
         bounding_box: end_line(state, horizontal_align, origin),
     }
@@ -121,7 +112,7 @@ fn add_char(
         let next = add_newline(state, horizontal_align, pen.line_height, origin);
         return Report {
             result: Ok(next),
-            steps: no_steps(),
+            steps: LookupSteps::default(),
         };
     }
     let answer = try_retrieve_glyph_data(font, ch, pen.ignore_unknown_chars);
@@ -162,11 +153,11 @@ pub fn measure_lines(
     ensures { TextMeasured font.now.bytes.now text.now horizontal_align pen result }
 {
     let mut state = LineState {
-        line: empty_line(),
+        line: RenderedDimensions::default(),
         advance_y: 0,
         bounding_box: None,
     };
-    let mut steps = no_steps();
+    let mut steps = LookupSteps::default();
     let mut rest = text;
     while let Some((ch, tail)) = split_first_char(rest) {
         let added = add_char(font, ch, state, horizontal_align, pen);

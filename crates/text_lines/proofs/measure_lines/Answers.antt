@@ -1,6 +1,8 @@
 -- `measure_lines` meets its contract: each character that is added leads on (`measured_next`) or stops the text (`aligned_stops`,
 -- `sum_stops`). At the end the last line is still to be moved.
 use Rattle.std.proofs.Common.{refl, sym, ap, ◌∙◌}
+use Rattle.definitions.proofs.TextLaws.{default_dimensions}
+use Rattle.definitions.proofs.SumsLaws.{default_steps}
 use Rattle.definitions.specs.Refusals.{success}
 use Rattle.utf8.proofs.SplitLaws.{split_shorter}
 use Rattle.checks.proofs.OriginLaws.{as_line}
@@ -13,7 +15,7 @@ use Rattle.text_lines.proofs.measure_lines.Goals as goal
 pub loop-ch-init : goal.loop-ch-init
 loop-ch-init c =
     let k = c.requires in
-    simp (c.empty_line.ensures, c.no_steps-steps.ensures) record { aligned = aligned_start k; summed = summed_start (checked_characters (as_line k)) }
+    simp (default_dimensions c.default.ensures, default_steps c.default-steps.ensures) record { aligned = aligned_start k; summed = summed_start (checked_characters (as_line k)) }
 
 pub add_steps-sum-requires : goal.add_steps-sum-requires
 add_steps-sum-requires c =

@@ -1,4 +1,5 @@
 -- A newline is code point 10; any other is looked up, counted and drawn.
+use Rattle.definitions.proofs.SumsLaws.{default_steps}
 use Rattle.integers.proofs.Prelude.{sym, ◌∙◌, eq-eqb, ne_eqb}
 use Rattle.answers.proofs.AnswersLaws.{runs_checked}
 use Rattle.renderer.proofs.letters.draw_char.Goals as goal
@@ -6,7 +7,7 @@ use Rattle.renderer.proofs.letters.draw_char.Goals as goal
 pub returns-then-ch-eq-NEWLINE : goal.returns-then-ch-eq-NEWLINE
 returns-then-ch-eq-NEWLINE c =
     let newline = eq-eqb _ _ c.if-ch-eq-NEWLINE.true in
-    record { counted = simp (c.add_newline.ensures, newline); shown = simp newline; brought = simp (c.no_steps.ensures, newline) }
+    record { counted = simp (c.add_newline.ensures, newline); shown = simp newline; brought = simp (default_steps c.default.ensures, newline) }
 
 pub draw_answer-requires : goal.draw_answer-requires
 draw_answer-requires c =

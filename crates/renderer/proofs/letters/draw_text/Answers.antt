@@ -1,6 +1,7 @@
 -- LetterLaws and SumLoopLaws have the loop's steps and its ends; here they are applied to the character that was read.
 use Rattle.integers.proofs.Prelude.{◌≡◌, refl, sym, ap, subst, ◌∙◌, ℕ}
 use Rattle.integers.proofs.Choices.{impossible}
+use Rattle.definitions.proofs.SumsLaws.{default_steps}
 use Rattle.definitions.specs.Vocabulary.{RenderedDimensions}
 use Rattle.definitions.specs.Refusals.{outcome}
 use Rattle.definitions.specs.Geometry.{InReach}
@@ -18,7 +19,7 @@ use Rattle.renderer.proofs.letters.draw_text.Goals.{After-draw_char-drawn}
 pub loop-ch-init : goal.loop-ch-init
 loop-ch-init c =
     let k = c.requires.checked in
-    record { drawn = drawn_start _ _ _ _ _ _ _ _ _ k c.requires.room; summed = simp c.no_steps-steps.ensures (summed_start (checked_characters k)) }
+    record { drawn = drawn_start _ _ _ _ _ _ _ _ _ k c.requires.room; summed = simp (default_steps c.default-steps.ensures) (summed_start (checked_characters k)) }
 
 pub draw_char-drawn-requires : goal.draw_char-drawn-requires
 draw_char-drawn-requires c =

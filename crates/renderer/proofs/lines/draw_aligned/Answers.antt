@@ -1,4 +1,5 @@
 -- By the alignment: Left is the plain text, the others move lines.
+use Rattle.definitions.proofs.TextLaws.{default_dimensions}
 use Rattle.integers.proofs.Prelude.{sym, subst}
 use Rattle.checks.proofs.OriginLaws.{as_line}
 use Rattle.layout.proofs.MeasureLaws.{within_start}
@@ -11,7 +12,7 @@ draw_text-requires c =
     let s = c.requires in
     record {
       checked = as_line s.checked;
-      room = simp c.no_dimensions.ensures (within_start (as_line s.checked));
+      room = simp (default_dimensions c.default.ensures) (within_start (as_line s.checked));
       fits = s.fits;
     }
 
@@ -22,4 +23,4 @@ pub draw_lines-requires-in-Right : goal.draw_lines-requires-in-Right
 draw_lines-requires-in-Right c = (c.requires, subst Moves (sym c.in-Right.is) tt)
 
 pub returns-in-Left : goal.returns-in-Left
-returns-in-Left c = plain_text c.in-Left.is c.no_dimensions.ensures c.draw_text.ensures
+returns-in-Left c = plain_text c.in-Left.is (default_dimensions c.default.ensures) c.draw_text.ensures

@@ -1,5 +1,7 @@
 -- LineLoopLaws has the loop's step and its ends; here they are applied to the line that was found.
 use Rattle.integers.proofs.Prelude.{◌≡◌, refl, ap, ◌∙◌, ◌≤◌, arith, length}
+use Rattle.definitions.proofs.TextLaws.{default_dimensions}
+use Rattle.definitions.proofs.SumsLaws.{default_steps}
 use Rattle.definitions.specs.Refusals.{outcome}
 use Rattle.definitions.specs.Utf8.{newlines}
 use Rattle.renderer.specs.Lines.{rest_of}
@@ -12,7 +14,7 @@ use Rattle.renderer.proofs.lines.draw_lines.Goals.{In-Some}
 pub loop-error-init : goal.loop-error-init
 loop-error-init c =
     let a = c.args in
-    simp (c.no_dimensions-dimensions.ensures, c.no_steps-steps.ensures)
+    simp (default_dimensions c.default-dimensions.ensures, default_steps c.default-steps.ensures)
     (lines_begin a.font.now.bytes.now a.text.now a.buffer.now a.setting a.context c.requires.0.checked)
 
 pub draw_line-drawn-requires : goal.draw_line-drawn-requires
