@@ -61,7 +61,7 @@ fn retrieve_whole_glyph(font: &OpenedFont, ch: u32) -> Report<GlyphReader>
     let Ok(glyph) = lookup.result else {
         return lookup;
     };
-    if check_runs(font.bytes, font.head, glyph) {
+    if check_runs(font, glyph) {
         return lookup;
     }
     Report {

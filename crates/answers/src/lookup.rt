@@ -9,10 +9,10 @@ use types::results::Report;
 pub fn retrieve_glyph_data(font: &OpenedFont, ch: u32) -> Report<GlyphReader>
     ensures { LookedUp font.now.bytes.now ch result }
 {
-    let found = glyph_searcher::search(font.bytes, font.head, ch);
+    let found = glyph_searcher::search(font, ch);
     match found.result {
         Ok(start) => Report {
-            result: glyph_reader::new(font.bytes, font.head, ch, start),
+            result: glyph_reader::new(font, ch, start),
             steps: found.steps,
         },
         Err(error) => Report {

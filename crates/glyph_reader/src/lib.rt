@@ -5,10 +5,9 @@ ghost use Rattle.std.specs.Prelude.{◌≡◌, ◌*◌, ◌%◌, ◌^◌, ◌≤
 ghost use Rattle.definitions.specs.Refusals.{outcome};
 ghost use Rattle.definitions.specs.Bits.{biased};
 ghost use Rattle.definitions.specs.Glyph.{fields};
-ghost use Rattle.definitions.specs.Header.{Opened};
 
+use font_reader::opened::OpenedFont;
 use types::error::Error;
-use types::font_reader::FontReader;
 use types::glyph_reader::GlyphReader;
 use window::long_at;
 
@@ -32,20 +31,21 @@ fn signed_field(bits: u64, width: u8) -> i8
 
 // The glyph of ch, whose fields begin at the byte `start` of the font: GlyphReader::new of the Rust. They have 40 bits at most, so
 // one fetch has them all. What is fetched past the font's end is zeros, and one test refuses it, as positions only grow.
-pub fn new(font: &[u8], head: FontReader, ch: u32, start: usize) -> Result<GlyphReader, Error>
-    requires { Opened font.now head × (start ≤ length font.now) }
-    ensures { outcome result ≡ fields font.now head ch (start * 8) }
+pub fn new(font: &OpenedFont, ch: u32, start: usize) -> Result<GlyphReader, Error>
+    requires { start ≤ length font.now.bytes.now }
+    ensures { outcome result ≡ fields font.now.bytes.now font.now.head ch (start * 8) }
 {
+    let head = font.head;
     let h = head.bitcnt_w;
     let x = h + head.bitcnt_h;
     let y = x + head.bitcnt_x;
     let d = y + head.bitcnt_y;
     let end = start * 8 + usize::from(d + head.bitcnt_d);
     // the Rust fetches ahead, so one bit must be left
-    if font.len() * 8 < end + 1 {
+    if font.bytes.len() * 8 < end + 1 {
         return Err(Error::FontEnds(ch));
     }
-    let bits = long_at(font, start);
+    let bits = long_at(font.bytes, start);
     Ok(GlyphReader {
         glyph_width: unsigned_field(bits, head.bitcnt_w),
         glyph_height: unsigned_field(bits >> h, head.bitcnt_h),

@@ -45,13 +45,5 @@ pub fn render_glyph(
             fg
         }
     };
-    draw_rows(
-        font.bytes,
-        font.head,
-        glyph,
-        part,
-        value,
-        framebuffer,
-        buffer,
-    );
+    draw_rows(font, glyph, part, value, framebuffer, buffer);
 }

@@ -2,10 +2,10 @@
 #![tactic(auto)]
 
 ghost use Rattle.std.specs.Prelude.{◌≡◌, ◌≤◌, Ok, length};
-ghost use Rattle.definitions.specs.Header.{Opened};
 ghost use Rattle.definitions.specs.Lookup.{missing, short, chain, chain_start, after_entries, search_table, search as lookup};
 ghost use Rattle.glyph_searcher.specs.Answers.{search_report, InLimits};
 
+use font_reader::opened::OpenedFont;
 use records::{CharWidth, OneByte, Record, TwoBytes};
 use types::error::Error;
 use types::font_reader::FontReader;
@@ -111,9 +111,8 @@ fn search_unicode(font: &[u8], table: usize, encoding: u16) -> Report<usize>
 
 // Where the glyph of a code point begins. Above 65535 no byte is looked at.
 #[tactic(auto, using(crate::proofs::SearchRules::searches))]
-pub fn search(font: &[u8], head: FontReader, ch: u32) -> Report<usize>
-    requires { Opened font.now head }
-    ensures { result ≡ search_report ch (lookup font.now ch) }
+pub fn search(font: &OpenedFont, ch: u32) -> Report<usize>
+    ensures { result ≡ search_report ch (lookup font.now.bytes.now ch) }
 {
     let Ok(encoding) = u16::try_from(ch) else {
         return Report {
@@ -122,8 +121,8 @@ pub fn search(font: &[u8], head: FontReader, ch: u32) -> Report<usize>
         };
     };
     if 255 < encoding {
-        let table = U8G2_FONT_DATA_STRUCT_SIZE + usize::from(head.array_offset_0x0100);
-        return search_unicode(font, table, encoding);
+        let table = U8G2_FONT_DATA_STRUCT_SIZE + usize::from(font.head.array_offset_0x0100);
+        return search_unicode(font.bytes, table, encoding);
     }
-    search_chain::<OneByte>(font, chain_start(head, encoding), encoding, 0)
+    search_chain::<OneByte>(font.bytes, chain_start(font.head, encoding), encoding, 0)
 }

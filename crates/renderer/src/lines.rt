@@ -142,7 +142,14 @@ pub fn draw_aligned(
     };
     match horizontal_align {
         HorizontalAlignment::Left => {
-            draw_text(font, text, pen, RenderedDimensions::default(), context, buffer)
+            draw_text(
+                font,
+                text,
+                pen,
+                RenderedDimensions::default(),
+                context,
+                buffer,
+            )
         }
         HorizontalAlignment::Center => draw_lines(font, text, setting, context, buffer),
         HorizontalAlignment::Right => draw_lines(font, text, setting, context, buffer),

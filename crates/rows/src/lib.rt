@@ -6,9 +6,9 @@ ghost use Rattle.definitions.specs.Font.{u8g2, pixels_of};
 ghost use Rattle.definitions.specs.Framebuffer.{shown};
 ghost use Rattle.rows.specs.Ones.{PartDrawable, ones_picture};
 
+use font_reader::opened::OpenedFont;
 use framebuffer::fill_columns;
 use runs::{next_pair, seek};
-use types::font_reader::FontReader;
 use types::framebuffer::Framebuffer;
 use types::glyph_reader::GlyphReader;
 use visible_part::VisiblePart;
@@ -18,21 +18,23 @@ use visible_part::VisiblePart;
 // row are passed over whole, and nothing is read after the last visible row. Neither loop goes over a range: rows end within pairs,
 // and pairs within rows.
 pub fn draw_rows(
-    font: &[u8],
-    head: FontReader,
+    font: &OpenedFont,
     glyph: GlyphReader,
     part: VisiblePart,
     value: u8,
     framebuffer: Framebuffer,
     buffer: &mut [u8],
 )
-    requires { PartDrawable font.now head glyph part framebuffer (length buffer.old) }
-    ensures { buffer.new ≡ shown framebuffer.width (ones_picture (pixels_of (u8g2 font.now) glyph)
+    requires { PartDrawable font.now.bytes.now font.now.head glyph part framebuffer (length buffer.old) }
+    ensures { buffer.new ≡ shown framebuffer.width (ones_picture (pixels_of (u8g2 font.now.bytes.now) glyph)
         glyph part value) buffer.old }
 {
+    let bytes = font.bytes;
+    let m0 = font.head.m0;
+    let m1 = font.head.m1;
     let glyph_width = usize::from(glyph.glyph_width);
     let visible = part.columns.end - part.columns.start;
-    let start = seek(font, head, glyph, part.rows.start * glyph_width);
+    let start = seek(font, glyph, part.rows.start * glyph_width);
     let mut runs = start.runs;
     let mut from = runs.zeros.saturating_sub(start.offset);
     let mut to = runs.count() - start.offset;
@@ -59,7 +61,7 @@ pub fn draw_rows(
         }
         let end = line + visible;
         fill_columns(part.columns.start, from, to, value, &mut buffer[line..end]);
-        runs = next_pair(font, head.m0, head.m1, runs);
+        runs = next_pair(bytes, m0, m1, runs);
         from = to + runs.zeros;
         to = from + runs.ones;
     }

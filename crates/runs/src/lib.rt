@@ -3,12 +3,11 @@
 
 ghost use Rattle.std.specs.Prelude.{◌≡◌, ◌+◌, ◌*◌, ◌≤◌, ◌<◌, length, drop};
 ghost use Rattle.definitions.specs.Bits.{bits as fontBits};
-ghost use Rattle.definitions.specs.Header.{Opened};
 ghost use Rattle.definitions.specs.Runs.{runs as runPixels, glyph_pixels};
 ghost use Rattle.runs.specs.RunReads.{Readable, Widths, Short, is_whole, pair_of, FirstPair, PairAfter};
 ghost use Rattle.runs.specs.Stands.{CheckedPixel, PlaceOf};
 
-use types::font_reader::FontReader;
+use font_reader::opened::OpenedFont;
 use types::glyph_reader::GlyphReader;
 use window::bytes_at;
 
@@ -94,15 +93,21 @@ fn has_pixels(font: &[u8], m0: u8, m1: u8, start: usize, pixels: usize) -> bool
 }
 
 // Whether the font has all of a glyph's runs.
-pub fn check_runs(font: &[u8], head: FontReader, glyph: GlyphReader) -> bool
-    requires { Opened font.now head × (glyph.bit_pos ≤ 8 * length font.now) }
-    ensures { result ≡ is_whole (glyph_pixels font.now head glyph) }
+pub fn check_runs(font: &OpenedFont, glyph: GlyphReader) -> bool
+    requires { glyph.bit_pos ≤ 8 * length font.now.bytes.now }
+    ensures { result ≡ is_whole (glyph_pixels font.now.bytes.now font.now.head glyph) }
 {
     let pixels = usize::from(glyph.glyph_width) * usize::from(glyph.glyph_height);
     if pixels == 0 {
         return true;
     }
-    has_pixels(font, head.m0, head.m1, glyph.bit_pos, pixels)
+    has_pixels(
+        font.bytes,
+        font.head.m0,
+        font.head.m1,
+        glyph.bit_pos,
+        pixels,
+    )
 }
 
 // A place among a glyph's pixels: so many pixels into a pair.
@@ -113,15 +118,17 @@ pub struct Place {
 }
 
 // The place of a pixel of a glyph whose runs were checked: whole pairs are passed over.
-pub fn seek(font: &[u8], head: FontReader, glyph: GlyphReader, pixel: usize) -> Place
-    requires { CheckedPixel font.now head glyph pixel }
-    ensures { PlaceOf font.now head glyph pixel result }
+pub fn seek(font: &OpenedFont, glyph: GlyphReader, pixel: usize) -> Place
+    requires { CheckedPixel font.now.bytes.now font.now.head glyph pixel }
+    ensures { PlaceOf font.now.bytes.now font.now.head glyph pixel result }
 {
-    let mut runs = first_pair(font, head.m0, head.m1, glyph.bit_pos);
+    let bytes = font.bytes;
+    let head = font.head;
+    let mut runs = first_pair(bytes, head.m0, head.m1, glyph.bit_pos);
     let mut offset = pixel;
     while runs.count() <= offset {
         offset -= runs.count();
-        runs = next_pair(font, head.m0, head.m1, runs);
+        runs = next_pair(bytes, head.m0, head.m1, runs);
     }
     Place { runs, offset }
 }

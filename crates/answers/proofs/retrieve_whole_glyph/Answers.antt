@@ -9,4 +9,4 @@ check_runs-requires c =
     let f = c.args.font.now in
     let found = sym c.retrieve_glyph_data-lookup.ensures.answered ∙ ap outcome c.in-Ok.is in
     let r = glyph_range f.bytes.now f.head c.args.ch c.in-Ok.glyph f.opened found in
-    (f.opened, omega (arith, r))
+    omega (arith, r)

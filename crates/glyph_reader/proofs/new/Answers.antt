@@ -5,7 +5,7 @@ use Rattle.glyph_reader.proofs.FieldLaws.{fields_end, fields_fetched}
 use Rattle.glyph_reader.proofs.new.Goals as goal
 
 pub returns-then-font-end : goal.returns-then-font-end
-returns-then-font-end c = let a = c.args in sym (fields_end a.font.now a.head a.ch a.start (omega arith))
+returns-then-font-end c = let a = c.args in sym (fields_end a.font.now.bytes.now a.font.now.head a.ch a.start (omega arith))
 
 pub returns : goal.returns
 returns c =
@@ -18,4 +18,4 @@ returns c =
       stored w8 c.signed_field-2.type_inv c.signed_field-2.ensures,
       stored w8 c.signed_field-3.type_inv c.signed_field-3.ensures,
     )
-    (sym (fields_fetched a.font.now a.head a.ch a.start _ c.requires.0 (omega arith) c.long_at-bits.ensures))
+    (sym (fields_fetched a.font.now.bytes.now a.font.now.head a.ch a.start _ a.font.now.opened (omega arith) c.long_at-bits.ensures))

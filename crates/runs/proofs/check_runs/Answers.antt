@@ -8,10 +8,10 @@ pub returns-then-pixels-eq0 : goal.returns-then-pixels-eq0
 returns-then-pixels-eq0 c =
     let a = c.args in
     let none = rw (c.from.ensures, c.from-2.ensures) at c.if-pixels-eq0.true in
-    sym (ap is_whole (no_pixels a.font.now a.head a.glyph none))
+    sym (ap is_whole (no_pixels a.font.now.bytes.now a.font.now.head a.glyph none))
 
 pub returns : goal.returns
 returns c =
     let a = c.args in
     let some = rw (c.from.ensures, c.from-2.ensures) at c.if-pixels-eq0.false in
-    rw (c.from.ensures, c.from-2.ensures) at c.has_pixels.ensures ∙ sym (ap is_whole (some_pixels a.font.now a.head a.glyph some))
+    rw (c.from.ensures, c.from-2.ensures) at c.has_pixels.ensures ∙ sym (ap is_whole (some_pixels a.font.now.bytes.now a.font.now.head a.glyph some))

@@ -9,7 +9,7 @@ use Rattle.runs.proofs.seek.Goals as goal
 pub next_pair-runs-requires : goal.next_pair-runs-requires
 next_pair-runs-requires c =
     let l = c.loop-offset in
-    let s : StandsAt c.args.font.now c.args.head c.args.glyph l.runs l.offset c.args.pixel =
+    let s : StandsAt c.args.font.now.bytes.now c.args.font.now.head c.args.glyph l.runs l.offset c.args.pixel =
     l.invariant.leads _ _ c.requires.within (stands_first c.requires c.first_pair-runs.ensures.read)
     in
     search rules
@@ -17,7 +17,7 @@ next_pair-runs-requires c =
 pub loop-offset-smaller : goal.loop-offset-smaller
 loop-offset-smaller c =
     let l = c.loop-offset in
-    let s : StandsAt c.args.font.now c.args.head c.args.glyph l.runs l.offset c.args.pixel =
+    let s : StandsAt c.args.font.now.bytes.now c.args.font.now.head c.args.glyph l.runs l.offset c.args.pixel =
     l.invariant.leads _ _ c.requires.within (stands_first c.requires c.first_pair-runs.ensures.read)
     in
     omega (arith, s.place, c.next_pair-runs.ensures.later)

@@ -4,7 +4,7 @@ use Rattle.runs.proofs.StandsLaws.{Leads}
 use Rattle.runs.proofs.seek.Given as goal
 
 abbrev pub invariant-loop-offset : goal.invariant-loop-offset
-invariant-loop-offset l = Leads l.font l.head.m0 l.head.m1 l.pixel l.initial.runs l.initial.offset l.runs l.offset
+invariant-loop-offset l = Leads l.font.bytes.now l.font.head.m0 l.font.head.m1 l.pixel l.initial.runs l.initial.offset l.runs l.offset
 
 abbrev pub decreases-loop-offset : goal.decreases-loop-offset
-decreases-loop-offset l = 8 * length l.font - l.runs.bit_pos
+decreases-loop-offset l = 8 * length l.font.bytes.now - l.runs.bit_pos

@@ -37,7 +37,7 @@ refused_so {c = c} short {error = error} e k is =
     brought e (ap refusal same) (ap (λ (r : Report ℕ). r.steps) k)
 
 pub new-requires : goal.new-requires
-new-requires c = (c.args.font.now.opened, search_within _ _ _ _ (sym (was_found _ _ c.search-found.ensures c.in-Ok.is)))
+new-requires c = search_within _ _ _ _ (sym (was_found _ _ c.search-found.ensures c.in-Ok.is))
 
 pub returns-in-Ok : goal.returns-in-Ok
 returns-in-Ok c =
