@@ -29,6 +29,7 @@ use renderer::render_aligned::render_aligned;
 use types::framebuffer::Framebuffer;
 use types::geometry::Point;
 use types::place::Place;
+use types::steps::LookupSteps;
 use utils::error::error_number;
 
 const BAD_ARGUMENT: u32 = 255;
