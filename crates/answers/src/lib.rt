@@ -70,7 +70,7 @@ fn retrieve_whole_glyph(font: &OpenedFont, ch: u32) -> Report<GlyphReader>
     }
 }
 
-// The answer to a code point in drawing.
+// The answer to a code point in drawing: that in measuring, of another lookup.
 pub fn retrieve_answer(
     font: &OpenedFont,
     ch: u32,

@@ -46,6 +46,7 @@ pub fn redraw_on(
         (asked trial.place new_text.now) trial.place.background
         (ground_of trial.place screen.old) }
 {
+    // a test and no closure of the caller's: without the fault it is the very step of the gauge
     let report = if trial.narrow {
         redraw_filling(font, old_text, new_text, trial.place, narrowed, screen)
     } else {

@@ -17,22 +17,13 @@ const HEADER_SIZE: usize = 23;
 
 const MAX_FONT_SIZE: usize = 1_048_576;
 
-#[tactic(auto, unfolding(integers::specs::Integers::signed8))]
-fn signed(b: u8) -> i8
-    ensures { result ≡ signed8 b }
-{
-    if b < 128 {
-        return b as i8;
-    }
-    ((b as i16) - 256) as i8
-}
-
 // A byte of the header that is signed.
+#[tactic(auto, unfolding(integers::specs::Integers::signed8))]
 fn i8_at(font: &[u8], i: usize) -> i8
     requires { i < length font.now }
     ensures { result ≡ signed_byte font.now i }
 {
-    signed(font[i])
+    font[i].cast_signed()
 }
 
 #[tactic(auto, using(integers::proofs::Laws::signed8_negative))]

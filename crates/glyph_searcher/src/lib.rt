@@ -48,7 +48,7 @@ fn font_ends(ch: u16) -> Report<usize>
 
 // The chain from the record at `start` on, of records whose codes are so wide, after so many entries of the jump table. A record
 // counts where its code was looked at: one that ends the chain by its jump does from 256 on, and does not up to 255 (amended by
-// A3).
+// A3). The loop goes by the jumps, and over no range.
 fn search_chain<W: CharWidth>(font: &[u8], start: usize, ch: u16, entries: u32) -> Report<usize>
     requires { InLimits (length font.now) start }
     ensures { result ≡ search_report ch (chain (W.says ch) (after_entries entries) 0 start font.now) }

@@ -15,33 +15,26 @@ fn box_top(baseline: i32, height: i8, y: i8) -> i32
     requires { (negsuc 127 ≤ℤ baseline) × (baseline ≤ℤ pos 128) }
     ensures { result ≡ baseline -ℤ (height +ℤ y) }
 {
-    baseline - ((height as i32) + (y as i32))
-}
-
-fn side(length: i8) -> u32
-    requires { pos 0 ≤ℤ length }
-    ensures { result ≡ nat_abs length }
-{
-    length as u32
+    baseline - (i32::from(height) + i32::from(y))
 }
 
 fn font_box(head: FontReader, vertical_pos: VerticalPosition) -> Rectangle
-    requires { (pos 0 ≤ℤ head.font_bounding_box_width) × (pos 0 ≤ℤ head.font_bounding_box_height) }
     ensures { result ≡ font_box head vertical_pos }
 {
     let baseline = compute_vertical_offset(vertical_pos, head.ascent, head.descent, 0, 0);
+    let y = box_top(
+        baseline,
+        head.font_bounding_box_height,
+        head.font_bounding_box_y_offset,
+    );
     Rectangle {
         top_left: Point {
-            x: head.font_bounding_box_x_offset as i32,
-            y: box_top(
-                baseline,
-                head.font_bounding_box_height,
-                head.font_bounding_box_y_offset,
-            ),
+            x: i32::from(head.font_bounding_box_x_offset),
+            y,
         },
         size: Size {
-            width: side(head.font_bounding_box_width),
-            height: side(head.font_bounding_box_height),
+            width: u32::from(head.font_bounding_box_width.unsigned_abs()),
+            height: u32::from(head.font_bounding_box_height.unsigned_abs()),
         },
     }
 }
@@ -53,8 +46,6 @@ pub fn get_font_bounding_box(
 ) -> Result<Rectangle, Error>
     ensures { outcome result ≡ font_bounding_box font.now vertical_pos }
 {
-    match new_from_raw_data(font) {
-        Err(error) => Err(error),
-        Ok(head) => Ok(font_box(head, vertical_pos)),
-    }
+    let head = new_from_raw_data(font)?;
+    Ok(font_box(head, vertical_pos))
 }

@@ -21,7 +21,8 @@ use types::steps::LookupSteps;
 use types::style::FontColor;
 use utf8::split_first_char;
 
-// What is drawn with, and on what.
+// What is drawn with, and on what. The framebuffer's bytes are lent beside it: a struct that held them would need two clauses more
+// in each function that draws, that the size and the borrow stay.
 #[derive(Clone, Copy)]
 pub struct Context {
     pub color: FontColor,

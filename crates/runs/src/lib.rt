@@ -74,7 +74,7 @@ pub fn next_pair(font: &[u8], m0: u8, m1: u8, runs: Runs) -> Runs
 }
 
 // Whether the font has so many pixels of a glyph whose runs begin at the bit `start`. The pixels are counted, run by run, and
-// none is looked at.
+// none is looked at. This loop and that of `seek` go over no range: each pair says where the next begins.
 fn has_pixels(font: &[u8], m0: u8, m1: u8, start: usize, pixels: usize) -> bool
     requires { Readable font.now m0 m1 start }
     ensures { result ≡ is_whole (runPixels m0 m1 pixels (drop start (fontBits font.now))) }

@@ -25,13 +25,7 @@ pub fn error_code_point(e: Error) -> u32
     ensures { result ≡ code_point e }
 {
     match e {
-        Error::FontLength => 0,
-        Error::FontHeader => 0,
-        Error::FramebufferSize => 0,
-        Error::TextEncoding => 0,
-        Error::PositionOrLineHeight => 0,
-        Error::BackgroundColorNotSupported => 0,
-        Error::GlyphNotFound(c) => c,
-        Error::FontEnds(c) => c,
+        Error::GlyphNotFound(c) | Error::FontEnds(c) => c,
+        _ => 0,
     }
 }
