@@ -8,7 +8,8 @@ ghost use Rattle.rows.specs.Ones.{PartDrawable, ones_picture};
 
 use font_reader::opened::OpenedFont;
 use framebuffer::fill_columns;
-use runs::{next_pair, seek};
+use runs::run_reader::RunReader;
+use runs::seek;
 use types::framebuffer::Framebuffer;
 use types::glyph_reader::GlyphReader;
 use visible_part::VisiblePart;
@@ -29,9 +30,7 @@ pub fn draw_rows(
     ensures { buffer.new ≡ shown framebuffer.width (ones_picture (pixels_of (u8g2 font.now.bytes.now) glyph)
         glyph part value) buffer.old }
 {
-    let bytes = font.bytes;
-    let m0 = font.head.m0;
-    let m1 = font.head.m1;
+    let reader = RunReader::new(font);
     let glyph_width = usize::from(glyph.glyph_width);
     let visible = part.columns.end - part.columns.start;
     let start = seek(font, glyph, part.rows.start * glyph_width);
@@ -61,7 +60,7 @@ pub fn draw_rows(
         }
         let end = line + visible;
         fill_columns(part.columns.start, from, to, value, &mut buffer[line..end]);
-        runs = next_pair(bytes, m0, m1, runs);
+        runs = reader.next_pair(runs);
         from = to + runs.zeros;
         to = from + runs.ones;
     }

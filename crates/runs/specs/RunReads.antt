@@ -10,13 +10,6 @@ pub data RunsRead : Type 0 where
   Pair : Runs → RunsRead
   Ends : RunsRead
 
--- what a reader of runs may count on: the widths of the runs and the place are within limits
-pub record Readable (font : List ℕ) (m0 m1 at : ℕ) : Type 0 where
-  pub zeros : m0 ≤ 8
-  pub ones : m1 ≤ 8
-  pub most : length font ≤ 1048576
-  pub place : at ≤ 8 * length font
-
 -- the widths of a pair's numbers
 pub record Widths (m0 m1 : ℕ) : Type 0 where
   pub zeros : m0 ≤ 8

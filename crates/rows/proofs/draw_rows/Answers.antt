@@ -58,12 +58,14 @@ pub pairs-preserved : goal.pairs-preserved
 pairs-preserved c =
     let l = c.loop-to in
     let wide = c.from-glyph_width.ensures in
+    let reader = c.new-reader.ensures in
     let v = c.args.part.columns.end - c.args.part.columns.start in
     let k : l.line + v - l.line ≡ v = omega arith in
     record {
       short = c.next_pair-runs.ensures.short;
       long = search rules;
-      at = at_next (part_lies c.requires.fits _ _ refl) l.invariant.at k (rw wide at c.loop-to-test.false) c.next_pair-runs.ensures.read c.fill_columns-in-pairs.ensures;
+      at = at_next (part_lies c.requires.fits _ _ refl) l.invariant.at k (rw wide at c.loop-to-test.false)
+          (rw (reader.bytes, reader.zeros, reader.ones) at c.next_pair-runs.ensures.read) c.fill_columns-in-pairs.ensures;
     }
 
 pub returns : goal.returns

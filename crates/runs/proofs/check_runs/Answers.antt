@@ -14,4 +14,5 @@ pub returns : goal.returns
 returns c =
     let a = c.args in
     let some = rw (c.from.ensures, c.from-2.ensures) at c.if-pixels-eq0.false in
-    rw (c.from.ensures, c.from-2.ensures) at c.has_pixels.ensures ∙ sym (ap is_whole (some_pixels a.font.now.bytes.now a.font.now.head a.glyph some))
+    let reader = c.new.ensures in
+    rw (c.from.ensures, c.from-2.ensures, reader.bytes, reader.zeros, reader.ones) at c.has_pixels.ensures ∙ sym (ap is_whole (some_pixels a.font.now.bytes.now a.font.now.head a.glyph some))

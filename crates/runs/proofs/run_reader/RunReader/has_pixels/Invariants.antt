@@ -2,10 +2,10 @@
 -- what is left of the font's bits is the measure. Assumes nothing.
 use Rattle.integers.proofs.Prelude.{◌-◌, ◌*◌, length}
 use Rattle.runs.proofs.RunReadsLaws.{CountedTo}
-use Rattle.runs.proofs.has_pixels.Given as goal
+use Rattle.runs.proofs.run_reader.RunReader.has_pixels.Given as goal
 
 abbrev pub invariant-loop-runs : goal.invariant-loop-runs
-invariant-loop-runs l = CountedTo l.font l.m0 l.m1 l.limit l.initial.missing l.initial.runs l.missing l.runs
+invariant-loop-runs l = CountedTo l.self.bytes.now l.self.m0 l.self.m1 l.limit l.initial.missing l.initial.runs l.missing l.runs
 
 abbrev pub decreases-loop-runs : goal.decreases-loop-runs
-decreases-loop-runs l = 8 * length l.font - l.runs.bit_pos
+decreases-loop-runs l = 8 * length l.self.bytes.now - l.runs.bit_pos
