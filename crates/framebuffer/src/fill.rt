@@ -31,7 +31,7 @@ fn fill_rows(
     ensures { buffer.new ≡ shown framebuffer.width (fill_picture color
         (Some (area columns.start columns.end rows.start rows.end))) buffer.old }
 {
-    for row in rows.start..rows.end {
+    for row in rows {
         let start = row * framebuffer.width + columns.start;
         let end = start + (columns.end - columns.start);
         buffer[start..end].fill(color);

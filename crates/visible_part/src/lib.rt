@@ -11,7 +11,7 @@ use types::geometry::Point;
 use types::glyph_reader::GlyphReader;
 
 // The columns and rows of a glyph that lie on the framebuffer, and the column and row of the framebuffer where it begins.
-#[derive(Drop)]
+#[derive(Clone, Debug, PartialEq, Eq, Drop)]
 pub struct VisiblePart {
     pub columns: Range<usize>,
     pub rows: Range<usize>,
