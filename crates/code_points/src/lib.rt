@@ -7,7 +7,7 @@ ghost use Rattle.code_points.specs.CodePoints.{code_point_text};
 use std::fmt::{self, Display, Formatter, Write};
 
 // A code point, written as in U+00B0: at least four hexadecimal digits, in upper case.
-#[derive(Clone, Copy)]
+#[derive(Clone, Copy, Debug, PartialEq, Eq)]
 pub struct CodePoint(pub u32);
 
 impl Display for CodePoint {
