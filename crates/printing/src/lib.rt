@@ -16,7 +16,7 @@ pub fn text<R: Print>(rt: &R, s: &[u8]) {
 }
 
 // A refusal: `no`, its number and its code point.
-#[derive(Clone, Copy)]
+#[derive(Clone, Copy, Debug, PartialEq, Eq)]
 pub struct Refusal(pub Error);
 
 impl fmt::Display for Refusal {
@@ -33,7 +33,7 @@ impl fmt::Display for Refusal {
 }
 
 // What a call answers: `ok` and the value, or the refusal.
-#[derive(Clone, Copy)]
+#[derive(Clone, Copy, Debug, PartialEq, Eq)]
 pub struct Answer<T>(pub Result<T, Error>);
 
 impl<T: fmt::Display> fmt::Display for Answer<T> {
@@ -48,7 +48,7 @@ impl<T: fmt::Display> fmt::Display for Answer<T> {
 }
 
 // A rectangle's place and size.
-#[derive(Clone, Copy)]
+#[derive(Clone, Copy, Debug, PartialEq, Eq)]
 pub struct Area(pub Rectangle);
 
 impl fmt::Display for Area {
@@ -65,7 +65,7 @@ impl fmt::Display for Area {
 }
 
 // A bounding box, or `none`.
-#[derive(Clone, Copy)]
+#[derive(Clone, Copy, Debug, PartialEq, Eq)]
 pub struct BoxOrNone(pub Option<Rectangle>);
 
 impl fmt::Display for BoxOrNone {
@@ -80,7 +80,7 @@ impl fmt::Display for BoxOrNone {
 }
 
 // The advance, and the bounding box.
-#[derive(Clone, Copy)]
+#[derive(Clone, Copy, Debug, PartialEq, Eq)]
 pub struct Dimensions(pub RenderedDimensions);
 
 impl fmt::Display for Dimensions {
@@ -96,7 +96,7 @@ impl fmt::Display for Dimensions {
 }
 
 // A character: by itself, where a terminal shows it in one column, and by its code point: '5' (U+0035).
-#[derive(Clone, Copy)]
+#[derive(Clone, Copy, Debug, PartialEq, Eq)]
 struct Character(u32);
 
 impl fmt::Display for Character {
@@ -110,7 +110,7 @@ impl fmt::Display for Character {
 }
 
 // Why a call is refused, in words.
-#[derive(Clone, Copy)]
+#[derive(Clone, Copy, Debug, PartialEq, Eq)]
 pub struct Cause(pub Error);
 
 impl fmt::Display for Cause {

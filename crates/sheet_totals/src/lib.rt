@@ -8,7 +8,7 @@ use sight::Sight;
 
 // How many readings are seen whole, in part and not at all on the framebuffer, how many were refused, and after how many of all
 // the screen differs.
-#[derive(Clone, Copy, Default)]
+#[derive(Clone, Copy, Debug, Default, PartialEq, Eq)]
 pub struct Totals {
     pub whole: usize,
     pub part: usize,
