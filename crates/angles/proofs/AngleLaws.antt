@@ -1,6 +1,6 @@
 -- The text of an angle, piece by piece from its start. Assumes nothing.
-use Rattle.integers.proofs.Prelude.{◌≡◌, refl, Bool, true, false, List, [], ◌∷◌, ◌++◌, append_assoc, ℕ, ◌/◌, ◌%◌, ◌≤◌, ◌<◌, ◌*◌, ◌+◌, arith, dec_lt, mod-eq_of_lt}
-use Rattle.integers.proofs.Prelude.{length, length-append, ltb, lt-ltb, le-ltb, ℤ, pos, lt_z, nat_abs}
+use Rattle.integers.proofs.Prelude.{◌≡◌, refl, ◌∙◌, Bool, true, false, List, [], ◌∷◌, ◌++◌, append_assoc, ℕ, zero, suc, ◌/◌, ◌%◌, ◌≤◌, ◌<◌, ◌*◌, ◌+◌, arith, dec_lt, mod-eq_of_lt}
+use Rattle.integers.proofs.Prelude.{add-one, drop, set, length, length-append, ltb, lt-ltb, le-ltb, ℤ, pos, lt_z, nat_abs}
 use Rattle.integers.specs.Integers.{pick}
 use Rattle.numbers.specs.Decimal.{decimal}
 use Rattle.numbers.proofs.DecimalLaws.{decimal_small, decimal_more}
@@ -38,5 +38,16 @@ two_digits n h = few_digits 1 n (omega arith)
 
 pub one_digit : (n : ℕ) → n < 10 → length (decimal n) ≤ 1
 one_digit n h = few_digits 0 n (omega arith)
+
+-- ---- written from its end
+
+front : (l : List ℕ) (i v : ℕ) → i < length l → drop i (set l i v) ≡ v ∷ drop (suc i) l
+front [] i v h = absurd (omega arith)
+front (x ∷ xs) zero v h = refl
+front (x ∷ xs) (suc i) v h = front xs i v (omega arith)
+
+-- a byte written before the text that begins at i + 1
+pub written_before : (l : List ℕ) (i v start : ℕ) → i < length l → i + 1 ≡ start → drop i (set l i v) ≡ v ∷ drop start l
+written_before l i v start h e = front l i v h ∙ rw (← e, add-one)
 
 pub ruleset angle_pieces = (in_pieces, two_digits, one_digit, length-append)

@@ -22,7 +22,7 @@ fn sign_of(tenths: i32) -> Text<ANGLE_ROOM>
     text
 }
 
-/// The text of an angle below 100 degrees.
+// The text of an angle below 100 degrees.
 #[tactic(auto, using(crate::proofs::AngleLaws::angle_pieces))]
 pub fn angle_text(tenths: i32) -> Text<ANGLE_ROOM>
     requires { (negsuc 998 ≤ℤ tenths) × (tenths ≤ℤ pos 999) }

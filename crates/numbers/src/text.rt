@@ -1,11 +1,12 @@
-ghost use Rattle.std.specs.Prelude.{◌≡◌, ◌∷◌, ◌++◌, ◌+◌, ◌≤◌, [], length};
+ghost use Rattle.std.specs.Prelude.{◌≡◌, ◌∷◌, ◌++◌, ◌+◌, ◌≤◌, [], length, take, IsUtf8};
 ghost use Rattle.numbers.specs.Decimal.{decimal, signed_decimal};
 
 use std::fmt;
 use std::fmt::Write;
 use std::marker::Model;
+use std::str;
 
-/// A text of at most `N` bytes, written from its start on.
+// A text of at most `N` bytes, written from its start on.
 #[derive(Drop)]
 pub struct Text<const N: usize> {
     bytes: [u8; N],
@@ -33,10 +34,26 @@ impl<const N: usize> Text<N> {
         }
     }
 
+    // The first bytes of a buffer.
+    pub fn of_buffer(bytes: [u8; N], len: usize) -> Self
+        requires { len ≤ N }
+        ensures { result ≡ take len bytes.entry }
+    {
+        Text { bytes, len }
+    }
+
     pub fn as_bytes(&self) -> &[u8]
         ensures { result.now ≡ self.now }
     {
         &self.bytes[..self.len]
+    }
+
+    // .. as text, or "" where they are not UTF-8
+    pub fn as_str(&self) -> &str
+        ensures text { IsUtf8 self.now → result.now ≡ self.now }
+        ensures no_text { ¬ (IsUtf8 self.now) → result.now ≡ [] }
+    {
+        str::from_utf8(self.as_bytes()).unwrap_or("")
     }
 
     pub fn push(&mut self, byte: u8)
@@ -67,7 +84,7 @@ impl<const N: usize> Text<N> {
         self.push_bytes(&digits[..count]);
     }
 
-    /// A number after a space. A u32 has at most ten digits.
+    // A number after a space. A u32 has at most ten digits.
     #[tactic(auto, using(crate::proofs::DigitsLaws::number_fits))]
     pub fn push_unsigned(&mut self, n: u32)
         requires { length self.old + 11 ≤ N }

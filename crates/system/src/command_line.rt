@@ -1,26 +1,12 @@
 // The words of the command line. They need no memory: a word has a buffer of its own.
-ghost use Rattle.std.specs.Prelude.{◌≡◌, ◌+◌, ◌-◌, ◌^◌, ◌≤◌, [], take, MatchOption, IsUtf8};
+ghost use Rattle.std.specs.Prelude.{◌≡◌, ◌+◌, ◌-◌, ◌^◌, MatchOption};
 ghost use Rattle.std.specs.Iterator.{at_most};
 
+use numbers::text::Text;
 use std::env::{Env, FillError};
-use std::str;
 
-// A word, or "" for one that is not UTF-8 or longer than 4,096 bytes.
-#[derive(Drop)]
-pub struct Word {
-    bytes: [u8; 4096],
-    length: usize,
-    ghost within: { length ≤ 4096 },
-}
-
-impl Word {
-    pub fn as_str(&self) -> &str
-        ensures text { IsUtf8 (take self.now.length self.now.bytes) → result.now ≡ take self.now.length self.now.bytes }
-        ensures no_text { ¬ (IsUtf8 (take self.now.length self.now.bytes)) → result.now ≡ [] }
-    {
-        str::from_utf8(&self.bytes[..self.length]).unwrap_or("")
-    }
-}
+// A word; one that is longer has no bytes.
+pub type Word = Text<4096>;
 
 // The arguments behind the program's own name.
 #[derive(Drop)]
@@ -54,6 +40,6 @@ impl<R: Env> Iterator for Args<'_, R> {
             Err(FillError::NotPresent) => return None,
         };
         self.next += 1;
-        Some(Word { bytes, length })
+        Some(Word::of_buffer(bytes, length))
     }
 }
