@@ -13,7 +13,7 @@ use types::geometry::{Rectangle, RenderedDimensions, Size};
 use types::place::Place;
 
 // What is tried: the place of the readings, and whether with a fault put in, one column too few being filled.
-#[derive(Clone, Copy)]
+#[derive(Clone, Copy, Debug, PartialEq, Eq)]
 pub struct Trial {
     pub place: Place,
     pub narrow: bool,

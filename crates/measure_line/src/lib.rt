@@ -32,7 +32,7 @@ fn measured(font: &[u8], text: &[u8]) -> Result<RenderedDimensions, Error>
     get_rendered_dimensions(font, text, placement, VerticalPosition::Baseline).result
 }
 
-/// The line of a text in a font.
+// The line of a text in a font.
 #[tactic(auto, unfolding(crate::specs::Measured::measuring_line))]
 pub fn measure_line(font: &[u8], text: &[u8]) -> Text<LINE_ROOM>
     ensures { result ≡ measuring_line font.now text.now }

@@ -4,7 +4,8 @@ use Rattle.integers.proofs.Prelude.{◌≡◌, refl, sym, ap, subst, ◌∙◌, 
 use Rattle.integers.proofs.Prelude.{length}
 use Rattle.integers.proofs.Choices.{impossible}
 use Rattle.integers.specs.Integers.{pick}
-use Rattle.definitions.specs.Vocabulary.{RenderedDimensions, Transparent, Place, Option}
+use Rattle.std.specs.Prelude.{Option, None, Some}
+use Rattle.definitions.specs.Vocabulary.{RenderedDimensions, Transparent, Place}
 use Rattle.definitions.specs.Refusals.{Outcome, success, refused, Cause, any_applies, outcome}
 use Rattle.definitions.specs.Header.{font_causes}
 use Rattle.definitions.specs.Utf8.{table, row_of, first_character, decode_from}
@@ -12,7 +13,7 @@ use Rattle.definitions.specs.Font.{u8g2}
 use Rattle.definitions.specs.Framebuffer.{framebuffer_cause}
 use Rattle.definitions.specs.Limits.{text_cause, position_cause, background_cause}
 use Rattle.angles.specs.AngleText.{degrees_then, angle_text}
-use Rattle.redraw_checks.specs.Drawing.{drawn, after, ground_of}
+use Rattle.redraw_checks.specs.Drawing.{asked, drawn, after, ground_of}
 use Rattle.buffers.specs.Differences.{differences}
 use Rattle.sight.specs.declared.Sight.{Sight}
 use Rattle.sight.specs.Sights.{sight_of}
@@ -30,7 +31,7 @@ use Rattle.readings.specs.declared.values.Found.{Found}
 use Rattle.sheet_ground.specs.Readings.{reading_text, reading}
 use Rattle.sheet_ground.specs.Ground.{ClearTo}
 use Rattle.faulty_step.proofs.NarrowLaws.{faultless}
-use Rattle.readings.specs.Sheet.{SheetState, screen_of, answer_on, screen_after, wanted, differing, screen_at}
+use Rattle.readings.specs.Sheet.{SheetState, shown_text, screen_of, answer_on, screen_after, wanted, differing, screen_at}
 use Rattle.readings.specs.Sheet.{Finds, totals_to, alone_to, Sound}
 
 -- ---- the texts
@@ -66,18 +67,22 @@ module _ (narrow : Bool) (font : List ℕ) (place : Place) (ground : List ℕ) w
   abbrev in_color : ℕ → Reading
   in_color k = reading_of (reading_text k) place.style.color
 
+  -- what the screen shows with that reading standing: it alone on the ground, or the ground where there is none
+  abbrev standing : Option ℕ → List ℕ
+  standing old = reading_on font (asked place (shown_text old)) (ground_of place ground)
+
   -- ---- what is known of a screen, with the fault or without
 
   -- The reading that it is to show is `old`; where there is none, that is the text without letters.
   record Known (s : SheetState) : Type 0 where
     old : Reading
-    text_is : old.text ≡ reading_text s.old
+    text_is : old.text ≡ shown_text s.old
     sized : Sized setting ground record { old = old; bytes = s.bytes }
-    shows : reading_on font (in_setting setting old) (ground_in setting ground) ≡ wanted font place ground s.old
+    shows : reading_on font (in_setting setting old) (ground_in setting ground) ≡ standing s.old
 
-  unfoldable start_known : Known (screen_of 901 ground)
+  unfoldable start_known : Known (screen_of None ground)
   start_known = record {
-    old = reading_of (reading_text 901) (Transparent 0);
+    old = reading_of [] (Transparent 0);
     text_is = refl;
     sized = bare_sized setting ground;
     shows = nothing_shown setting ground (Transparent 0) ∙ sym (nothing_shown setting ground place.style.color);
@@ -93,28 +98,28 @@ module _ (narrow : Bool) (font : List ℕ) (place : Place) (ground : List ℕ) w
     abbrev is_taken : Bool
     is_taken = taken (alone setting ground (in_color k))
 
-    next_old : (screen_after narrow font place s k).old ≡ pick is_taken k s.old
-    next_old = ap (λ (o : Outcome RenderedDimensions). pick (taken o) k s.old) as_alone
+    next_old : (screen_after narrow font place s k).old ≡ pick is_taken (Some k) s.old
+    next_old = ap (λ (o : Outcome RenderedDimensions). pick (taken o) (Some k) s.old) as_alone
 
     next_length : length (screen_after narrow font place s k).bytes ≡ length s.bytes
     unfolding step_buffer
     next_length =
-        length_left setting ground (in_color k) s.bytes (any_applies (redraw_causes font (reading_text s.old) (reading place k) (ground_of place s.bytes)))
-        (to_fill narrow (alone setting s.bytes (reading_of (reading_text s.old) place.style.color)))
+        length_left setting ground (in_color k) s.bytes (any_applies (redraw_causes font (shown_text s.old) (reading place k) (ground_of place s.bytes)))
+        (to_fill narrow (alone setting s.bytes (reading_of (shown_text s.old) place.style.color)))
 
     unfoldable next_known : Known (screen_after narrow font place s k)
     next_known = record {
       old = pick is_taken (in_color k) known.old;
-      text_is = texts is_taken ∙ sym (ap reading_text next_old);
+      text_is = texts is_taken ∙ sym (ap shown_text next_old);
       sized = sized_next setting ground known.sized (in_color k) refl next_length;
-      shows = shown is_taken ∙ sym (ap (wanted font place ground) next_old);
+      shows = shown is_taken ∙ sym (ap standing next_old);
     }
       where
-        texts : (b : Bool) → (pick b (in_color k) known.old).text ≡ reading_text (pick b k s.old)
+        texts : (b : Bool) → (pick b (in_color k) known.old).text ≡ shown_text (pick b (Some k) s.old)
         texts true = refl
         texts false = known.text_is
 
-        shown : (b : Bool) → reading_on font (in_setting setting (pick b (in_color k) known.old)) (ground_in setting ground) ≡ wanted font place ground (pick b k s.old)
+        shown : (b : Bool) → reading_on font (in_setting setting (pick b (in_color k) known.old)) (ground_in setting ground) ≡ standing (pick b (Some k) s.old)
         shown true = refl
         shown false = known.shows
 
@@ -122,8 +127,8 @@ module _ (narrow : Bool) (font : List ℕ) (place : Place) (ground : List ℕ) w
     module _ (honest : narrow ≡ false) (clear : ClearFor setting ground (in_color k)) (h : Shown setting ground record { old = known.old; bytes = s.bytes }) where
       next_bytes_are : (screen_after narrow font place s k).bytes ≡ (pick is_taken (showing setting ground (in_color k)) record { old = known.old; bytes = s.bytes }).bytes
       next_bytes_are =
-          ap (λ (b : Bool). step_buffer b font (reading_text s.old) (reading place k) place.background (ground_of place s.bytes)) honest
-          ∙ faultless font (reading_text s.old) (reading place k) place.background (ground_of place s.bytes)
+          ap (λ (b : Bool). step_buffer b font (shown_text s.old) (reading place k) place.background (ground_of place s.bytes)) honest
+          ∙ faultless font (shown_text s.old) (reading place k) place.background (ground_of place s.bytes)
           ∙ ap (λ (t : List ℕ). redrawn_buffer font t (reading place k) place.background (ground_of place s.bytes)) (sym known.text_is)
           ∙ ap (λ (s : Screen). s.bytes) (step_shows setting ground known.sized h (in_color k))
 
@@ -165,7 +170,7 @@ module _ (narrow : Bool) (font : List ℕ) (place : Place) (ground : List ℕ) w
       (fine j h ∙ sym (fine k i))
 
   -- Then none is taken, and the screen is to show none.
-  never_taken : {i : ℕ} → i < 901 → any_applies (causes i) ≡ true → (k : ℕ) → k ≤ 901 → (before k).old ≡ 901
+  never_taken : {i : ℕ} → i < 901 → any_applies (causes i) ≡ true → (k : ℕ) → k ≤ 901 → (before k).old ≡ None
   unfolding screen_at
   never_taken h e zero l = refl
   never_taken {i} h e (suc k) l =
@@ -177,20 +182,20 @@ module _ (narrow : Bool) (font : List ℕ) (place : Place) (ground : List ℕ) w
   not_drawn (refused n c) drawing e = refl
 
   -- So what is to be cleared next shows the same as reading k.
-  same_shown : (k : ℕ) → k < 901 → wanted font place ground (before (suc k)).old ≡ wanted font place ground k
+  same_shown : (k : ℕ) → k < 901 → standing (before (suc k)).old ≡ wanted font place ground k
   unfolding screen_at
   same_shown k h = by (any_applies (causes k)) refl
     where
-      by : (b : Bool) → any_applies (causes k) ≡ b → wanted font place ground (before (suc k)).old ≡ wanted font place ground k
+      by : (b : Bool) → any_applies (causes k) ≡ b → standing (before (suc k)).old ≡ wanted font place ground k
       by true a =
           let early = drawn_early font (reading place k) (ground_of place ground) a in
-          ap (wanted font place ground) (never_taken h a (suc k) (omega arith))
+          ap standing (never_taken h a (suc k) (omega arith))
           ∙ nothing_shown setting ground place.style.color
           ∙ sym (not_drawn (drawn font (reading place k) (ground_of place ground)) (after font (reading place k) (ground_of place ground)) early)
       by false a =
           let late = drawn_late font (reading place k) (ground_of place ground) a in
-          let this : (before (suc k)).old ≡ k = next_old (all_known k) k ∙ rw late in
-          ap (wanted font place ground) this
+          let this : (before (suc k)).old ≡ Some k = next_old (all_known k) k ∙ rw late in
+          ap standing this
 
   module _ (honest : narrow ≡ false) (clear : ClearTo 901 font place ground) where
     clear_for : (k : ℕ) → k < 901 → ClearFor setting ground (in_color k)
@@ -263,7 +268,7 @@ module _ (narrow : Bool) (font : List ℕ) (place : Place) (ground : List ℕ) w
     differing = omega (arith, ap (λ (t : Totals). t.differing) e, differing_few k);
   }
 
-  pub start_screen : screen_of 901 ground ≡ before 0
+  pub start_screen : screen_of None ground ≡ before 0
   unfolding screen_at
   start_screen = refl
 
@@ -272,7 +277,7 @@ module _ (narrow : Bool) (font : List ℕ) (place : Place) (ground : List ℕ) w
   start_totals = refl
 
   -- one reading more
-  module _ {k old : ℕ} {bytes exit : List ℕ} {found : Found} (here : screen_of old bytes ≡ before k) (finds : Finds narrow font place ground (screen_of old bytes) k found exit) where
+  module _ {k : ℕ} {old : Option ℕ} {bytes exit : List ℕ} {found : Found} (here : screen_of old bytes ≡ before k) (finds : Finds narrow font place ground (screen_of old bytes) k found exit) where
     after_is : screen_after narrow font place (screen_of old bytes) k ≡ before (k + 1)
     unfolding screen_at
     after_is =
@@ -281,7 +286,7 @@ module _ (narrow : Bool) (font : List ℕ) (place : Place) (ground : List ℕ) w
 
     pub next_screen : screen_of found.old exit ≡ before (k + 1)
     next_screen =
-        ap (λ (n : ℕ). screen_of n exit) finds.old ∙ ap (screen_of (screen_after narrow font place (screen_of old bytes) k).old) finds.bytes ∙ after_is
+        ap (λ (old : Option ℕ). screen_of old exit) finds.old ∙ ap (screen_of (screen_after narrow font place (screen_of old bytes) k).old) finds.bytes ∙ after_is
 
     pub next_totals : {t next : Totals} → t ≡ totals k
         → next ≡ tallied t (sight_of place.framebuffer (outcome found.answer)) found.differing → next ≡ totals (k + 1)

@@ -1,7 +1,7 @@
 -- The sheet: each reading drawn over the one before by the step of the gauge, and the screen compared with what it is to show.
-use Rattle.std.specs.Prelude.{◌≡◌, Bool, false, List, ℕ, zero, suc, ◌+◌, ◌<◌}
+use Rattle.std.specs.Prelude.{◌≡◌, Bool, false, List, [], ℕ, zero, suc, ◌+◌, ◌<◌, Option, None, Some}
 use Rattle.integers.specs.Integers.{pick}
-use Rattle.definitions.specs.Vocabulary.{RenderedDimensions, Place, Option}
+use Rattle.definitions.specs.Vocabulary.{RenderedDimensions, Place}
 use Rattle.definitions.specs.Refusals.{Outcome, outcome}
 use Rattle.redraw_checks.specs.Drawing.{drawn, ground_of}
 use Rattle.buffers.specs.Differences.{differences}
@@ -16,22 +16,27 @@ use Rattle.sheet_ground.specs.Readings.{reading_text, reading}
 
 -- ---- one reading after the other
 
--- what the screen holds, and the number of the reading that the next step is to clear: 901, which has no text, where there is none
+-- what the screen holds, and the number of the reading that the next step is to clear, if there is one
 pub record SheetState : Type 0 where
-  pub old : ℕ
+  pub old : Option ℕ
   pub bytes : List ℕ
 
-abbrev pub screen_of : ℕ → List ℕ → SheetState
+-- the text of that reading; where there is none, no text
+abbrev pub shown_text : Option ℕ → List ℕ
+shown_text None = []
+shown_text (Some k) = reading_text k
+
+abbrev pub screen_of : Option ℕ → List ℕ → SheetState
 screen_of old bytes = record { old = old; bytes = bytes }
 
 -- reading k over what the screen holds
 abbrev pub answer_on : List ℕ → Place → SheetState → ℕ → Outcome RenderedDimensions
-answer_on font place s k = redrawn font (reading_text s.old) (reading place k) (ground_of place s.bytes)
+answer_on font place s k = redrawn font (shown_text s.old) (reading place k) (ground_of place s.bytes)
 
 abbrev pub screen_after : Bool → List ℕ → Place → SheetState → ℕ → SheetState
 screen_after narrow font place s k = record {
-  old = pick (taken (answer_on font place s k)) k s.old;
-  bytes = step_buffer narrow font (reading_text s.old) (reading place k) place.background (ground_of place s.bytes);
+  old = pick (taken (answer_on font place s k)) (Some k) s.old;
+  bytes = step_buffer narrow font (shown_text s.old) (reading place k) place.background (ground_of place s.bytes);
 }
 
 -- what the screen is to show after reading k: that reading alone on the ground, whole, or the ground if the reading is refused
@@ -44,7 +49,7 @@ differing font place ground s k = differences s.bytes (wanted font place ground 
 
 -- the screen before reading k
 unfoldable pub screen_at : Bool → List ℕ → Place → List ℕ → ℕ → SheetState
-screen_at narrow font place ground zero = record { old = 901; bytes = ground }
+screen_at narrow font place ground zero = record { old = None; bytes = ground }
 screen_at narrow font place ground (suc k) = screen_after narrow font place (screen_at narrow font place ground k) k
 
 -- What is found of a step: its answer, the reading to clear next, and how many pixels differ.

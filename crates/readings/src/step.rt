@@ -1,38 +1,47 @@
 // The step of the gauge, watched: each reading is drawn over the one before, and compared with the reading drawn alone.
-ghost use Rattle.std.specs.Prelude.{◌≡◌, length};
+ghost use Rattle.std.specs.Prelude.{◌≡◌, length, Some};
 ghost use Rattle.integers.specs.Integers.{pick};
 ghost use Rattle.definitions.specs.Refusals.{outcome};
 ghost use Rattle.buffers.specs.Differences.{differences};
 ghost use Rattle.redraw.specs.Redraw.{redrawn, taken};
 ghost use Rattle.redraw_checks.specs.Drawing.{ground_of};
 ghost use Rattle.faulty_step.specs.Fault.{step_buffer};
-ghost use Rattle.sheet_ground.specs.Readings.{reading_text, reading};
-ghost use Rattle.readings.specs.Sheet.{screen_of, wanted, Finds};
+ghost use Rattle.sheet_ground.specs.Readings.{reading};
+ghost use Rattle.readings.specs.Sheet.{shown_text, screen_of, wanted, Finds};
 
 use crate::check::draw_alone;
 use crate::values::Found;
+use angles::ANGLE_ROOM;
 use buffers::count_differences;
 use faulty_step::{Trial, redraw_on};
+use numbers::text::Text;
 use redraw::reading::is_taken;
 use sheet_ground::texts::reading_text;
 use types::error::Error;
 use types::geometry::RenderedDimensions;
 use types::place::Place;
 
+// The text that stands on the screen: none before a reading is taken.
+fn shown_text(old: Option<usize>) -> Text<ANGLE_ROOM>
+    ensures { result ≡ shown_text old }
+{
+    old.map_or(Text::new(), reading_text)
+}
+
 // Draws reading k over the reading `old`.
 fn draw_over(
     font: &[u8],
-    old: usize,
+    old: Option<usize>,
     k: usize,
     trial: Trial,
     screen: &mut [u8],
 ) -> Result<RenderedDimensions, Error>
-    ensures answered { outcome result ≡ redrawn font.now (reading_text old) (reading trial.place k)
+    ensures answered { outcome result ≡ redrawn font.now (shown_text old) (reading trial.place k)
         (ground_of trial.place screen.old) }
-    ensures shown { screen.new ≡ step_buffer trial.narrow font.now (reading_text old)
+    ensures shown { screen.new ≡ step_buffer trial.narrow font.now (shown_text old)
         (reading trial.place k) trial.place.background (ground_of trial.place screen.old) }
 {
-    let old_text = reading_text(old);
+    let old_text = shown_text(old);
     let new_text = reading_text(k);
     redraw_on(
         font,
@@ -61,16 +70,20 @@ fn compare(
 }
 
 // The reading that the next step is to clear.
-fn next_old(answer: Result<RenderedDimensions, Error>, k: usize, old: usize) -> usize
-    ensures { result ≡ pick (taken (outcome answer)) k old }
+fn next_old(
+    answer: Result<RenderedDimensions, Error>,
+    k: usize,
+    old: Option<usize>,
+) -> Option<usize>
+    ensures { result ≡ pick (taken (outcome answer)) (Some k) old }
 {
-    if is_taken(answer) { k } else { old }
+    if is_taken(answer) { Some(k) } else { old }
 }
 
 // The step, watched.
 pub fn step(
     font: &[u8],
-    old: usize,
+    old: Option<usize>,
     k: usize,
     trial: Trial,
     ground: &[u8],
