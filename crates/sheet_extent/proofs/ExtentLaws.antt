@@ -2,7 +2,7 @@
 use Rattle.integers.proofs.Prelude.{◌≡◌, refl, sym, ap, subst, ◌∙◌, Bool, true, false, List, ℕ, zero, suc, ◌+◌, ◌-◌, ◌≤◌, ◌<◌, ◌^◌, min, max, dec_lt, arith}
 use Rattle.integers.proofs.Prelude.{ℤ, pos, negsuc, nat_abs, ◌+ℤ◌, ◌-ℤ◌, mag, lt_z, ◌≤ℤ◌, ◌<ℤ◌, w32, w64, SFits, hbits, to_z, of_z, to_z-of_z}
 use Rattle.integers.proofs.Choices.{impossible}
-use Rattle.std.specs.Prelude.{cond}
+use Rattle.std.specs.Prelude.{cond, Option}
 use Rattle.std.specs.Int.{int_min, int_max}
 use Rattle.integers.specs.Integers.{pick, min_z, max_z}
 use Rattle.integers.proofs.Laws.{zarith, up, down, plus, minus, size, min_is, max_is, range, stored}
@@ -183,6 +183,10 @@ module _ (z : ℤ) where
       by (pos n) = omega arith
       by (negsuc n) = omega arith
 
+  -- an edge before 0, or at it
+  pub before : negsuc 999 ≤ℤ z → z ≤ℤ pos 0 → nat_abs (pos 0 -ℤ z) ≡ before_zero z
+  before low high = omega (zarith, before_is z, minus (pos 0) z, size (pos 0 -ℤ z))
+
   pub clamped_side : nat_abs (int_max (pos 1) (int_min z (pos 256))) ≡ side_of z
   clamped_side =
       let low = min_z z (pos 256) in
@@ -242,6 +246,11 @@ module _ (font : List ℕ) (o : Options) (nowhere : o.at ≡ None) where
 
 pub both : {A B C : Type 0} (f : A → B → C) {a b : A} {c d : B} → a ≡ b → c ≡ d → f a c ≡ f b d
 both f {a} {b} {c} {d} e h = ap (λ x. f x c) e ∙ ap (f b) h
+
+-- where no place is asked for
+pub seen_position : {at : Option Point} (e : Extent) {x y : ℤ} → at ≡ None → x ≡ inside e.left → y ≡ inside e.top
+    → record { x = x; y = y } ≡ position_for at e
+seen_position e w h k = rw w (cc (h, k))
 
 -- a place with that framebuffer
 abbrev place_in : Framebuffer → Options → Point → Place
