@@ -1,4 +1,5 @@
-// The line that a measuring call's outcome is printed as (SPECIFICATION, Measuring program).
+// The line that a measuring call's outcome is printed as (SPECIFICATION, Measuring program). printing's Display types say the same
+// words; the line that is proved is a value, which `write!` could make only as a String, and there is no heap.
 #![tactic(auto)]
 
 ghost use Rattle.std.specs.Prelude.{◌≡◌, ◌++◌, ◌+◌, ◌≤◌, Some, length};

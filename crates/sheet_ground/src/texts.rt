@@ -14,7 +14,7 @@ use types::style::{HorizontalAlignment, Placement, VerticalPosition};
 
 pub const COUNT: usize = 901;
 
-/// The reading's text; a number past the last has none.
+// The reading's text; a number past the last has none.
 pub fn reading_text(k: usize) -> Text<ANGLE_ROOM>
     ensures { result ≡ reading_text k }
 {

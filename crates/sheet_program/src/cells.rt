@@ -26,14 +26,18 @@ fn letter(sight: Option<Sight>, differing: usize) -> u8 {
     }
 }
 
-// The file, with one reading more.
-pub fn with_cell<W: Write + Drop>(
-    mut file: W,
+// One reading more, if there is a file.
+pub fn write_cell<W: Write>(
+    cells: &mut Result<W>,
     sight: Option<Sight>,
     differing: usize,
     screen: &[u8],
-) -> Result<W> {
-    file.write_all(&[letter(sight, differing)])?;
-    file.write_all(screen)?;
-    Ok(file)
+) -> Result<()> {
+    match cells {
+        Ok(file) => {
+            file.write_all(&[letter(sight, differing)])?;
+            file.write_all(screen)
+        }
+        Err(error) => Err(*error),
+    }
 }

@@ -29,9 +29,17 @@ fn fill_sheet<R: Files + Print>(
 {
     lay_ground(font, place, &mut ground[..]);
     screen.copy_from_slice(&ground[..]);
-    let cells = cells::create(rt, place.framebuffer);
+    let mut cells = cells::create(rt, place.framebuffer);
     let trial = Trial { place, narrow };
-    run(rt, font, trial, &ground[..], screen, alone, cells)
+    run(
+        rt,
+        font,
+        trial,
+        &ground[..],
+        screen,
+        alone,
+        &mut cells,
+    )
 }
 
 // The same on buffers for the largest framebuffers, of 256 × 256 pixels. Whatever the font, the anchor, the alignment and the place,

@@ -3,7 +3,7 @@ use sheet_totals::Totals;
 use std::io::Result;
 
 // The totals, and whether all pictures were written.
-#[derive(Clone, Copy)]
+#[derive(Clone, Copy, Debug)]
 pub struct Sheet {
     pub totals: Totals,
     pub written: Result<()>,

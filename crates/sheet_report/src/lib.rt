@@ -9,7 +9,7 @@ use types::error::Error;
 use types::geometry::RenderedDimensions;
 
 // Readings one after the other that are refused for one cause, the first and the last of them.
-#[derive(Clone, Copy)]
+#[derive(Clone, Copy, Debug, PartialEq, Eq)]
 pub struct Refusals {
     first: usize,
     last: usize,

@@ -1,5 +1,6 @@
 -- The screen and the totals are those of the first k readings, and SheetLaws has what holds of all.
 use Rattle.std.proofs.Common.{rules, ◌≡◌, refl, sym, ap, subst, ◌∙◌, arith}
+use Rattle.std.specs.Prelude.{None}
 use Rattle.readings.specs.Sheet.{SheetState, screen_of, screen_at, totals_to, Sound}
 use Rattle.readings.proofs.SheetLaws.{start_screen, start_totals, few, next_screen, next_totals, sound}
 use Rattle.sheet_totals.specs.Totals.{no_totals}
@@ -12,7 +13,7 @@ loop-k-init g c =
     record {
       screen-length = refl;
       alone-length = refl;
-      here = ap (screen_of 901) c.requires.begins ∙ start_screen a.trial.narrow a.font.now a.trial.place a.ground.now;
+      here = ap (screen_of None) c.requires.begins ∙ start_screen a.trial.narrow a.font.now a.trial.place a.ground.now;
       counts = none ∙ start_totals a.trial.narrow a.font.now a.trial.place a.ground.now;
     }
 
