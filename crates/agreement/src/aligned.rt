@@ -16,7 +16,7 @@ use types::results::Report;
 use types::style::{FontStyle, HorizontalAlignment, Placement, VerticalPosition};
 
 // `render_aligned` and `get_rendered_dimensions_aligned`, with one alignment.
-#[derive(Clone, Copy)]
+#[derive(Clone, Copy, Debug, PartialEq, Eq)]
 pub struct Aligned {
     pub horizontal_align: HorizontalAlignment,
 }

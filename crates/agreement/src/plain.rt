@@ -17,7 +17,7 @@ use types::results::Report;
 use types::style::{FontStyle, Placement, VerticalPosition};
 
 // `render` and `get_rendered_dimensions`, which ask for Left.
-#[derive(Clone, Copy)]
+#[derive(Clone, Copy, Debug, PartialEq, Eq)]
 pub struct Plain;
 
 impl Calls for Plain {

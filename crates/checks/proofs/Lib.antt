@@ -1,3 +1,4 @@
 pub mod OriginLaws
 pub mod LimitLaws
 pub mod SizeLaws
+pub mod SetupLaws

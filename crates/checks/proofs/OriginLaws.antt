@@ -1,25 +1,22 @@
--- Causes 4 and 5 and the origin of a text: what a call within these limits may count on, and what a call that is refused
--- comes to. Assumes nothing.
-use Rattle.integers.proofs.Prelude.{◌≡◌, refl, sym, ap, subst, ◌∙◌, Bool, true, false, not, List, [], ◌∷◌, ℕ, ◌+◌, ◌*◌, ◌≤◌, mul-le-mul, arith, eqb, ℤ}
+-- Causes 4 and 5 and the origin of a text: what a call within these limits may count on. Assumes nothing.
+use Rattle.integers.proofs.Prelude.{◌≡◌, refl, sym, ap, ◌∙◌, Bool, true, false, not, List, [], ◌∷◌, ℕ, ◌+◌, ◌*◌, ◌≤◌, mul-le-mul, arith, eqb, ℤ}
 use Rattle.integers.proofs.Prelude.{pos, negsuc, lt_z, ◌≤ℤ◌, length, w8, SFits, ltb-false}
 use Rattle.integers.specs.Integers.{pick}
 use Rattle.integers.proofs.Laws.{zarith, plus}
 use Rattle.integers.proofs.Choices.{impossible}
 use Rattle.definitions.specs.Vocabulary.{FontReader, Point}
-use Rattle.definitions.specs.Refusals.{Outcome, success, refused, Cause, unless_refused}
-use Rattle.definitions.specs.Header.{font_causes}
+use Rattle.definitions.specs.Refusals.{Outcome, success, any_applies}
+use Rattle.definitions.specs.Header.{Opened}
 use Rattle.definitions.specs.Utf8.{decode, is_utf8, newlines}
 use Rattle.definitions.specs.VerticalOffset.{vertical_offset}
 use Rattle.definitions.specs.Limits.{text_cause, coordinate_off, position_cause}
 use Rattle.definitions.specs.Font.{u8g2}
-use Rattle.definitions.specs.Calls.{open_font, Request, measure_causes, code_points_of, origin}
-use Rattle.definitions.proofs.RefusalLaws.{or_false, none_applies, succeeded, passed as causes-passed, each_off}
-use Rattle.definitions.proofs.SumsLaws.{refused_early}
-use Rattle.definitions.proofs.ComesLaws.{comes_stopped}
-use Rattle.definitions.proofs.OpenedLaws.{passes_font, opened}
+use Rattle.definitions.specs.Calls.{open_font, Request, code_points_of, origin}
+use Rattle.definitions.proofs.RefusalLaws.{or_false, succeeded, each_off}
+use Rattle.definitions.proofs.OpenedLaws.{opened}
 use Rattle.definitions.proofs.Utf8Laws.{utf8_characters, character_count}
 use Rattle.definitions.proofs.VerticalOffsetLaws.{offset_limits}
-use Rattle.checks.specs.Origins.{origin_by, checked_origin, Checked, CheckedLine}
+use Rattle.checks.specs.Origins.{origin_by, place_causes, checked_origin, Checked, CheckedLine}
 
 -- ---- newlines
 
@@ -102,24 +99,21 @@ module _ (ascent descent : ℤ) (r : Request) where
           bottom = omega (zarith, plus r.position.y offset);
         }
 
-  abbrev causes : List Cause
-  causes = text_cause r.text ∷ position_cause r.position r.line_height ∷ []
+  -- neither cause applies
+  pub placed_checked : SFits w8 ascent → SFits w8 descent → any_applies (place_causes r) ≡ false → Checked r.text begins r.line_height
+  placed_checked f g off =
+      let q = each_off (place_causes r) off in
+      origin_checked f g (text_limits _ q.0) (position_limits _ _ q.1.0)
 
-  pub record Passed (o : Point) : Type 0 where
-    pub text_in : TextLimits r.text
-    pub place_off : (position_cause r.position r.line_height).applies ≡ false
-    pub place_in : PositionLimits r.position r.line_height
-    pub is : begins ≡ o
-
-  pub passed : (o : Point) → checked_origin ascent descent r ≡ success o → Passed o
-  passed o e =
-      let p = succeeded (success begins) o causes e in
-      let q = each_off causes p.0 in
+  pub begun : {o : Point} → checked_origin ascent descent r ≡ success o → (any_applies (place_causes r) ≡ false) × (begins ≡ o)
+  begun {o} e =
+      let p = succeeded (success begins) o (place_causes r) e in
       let f = p.1 in
-      record { text_in = text_limits _ q.0; place_off = q.1.0; place_in = position_limits _ _ q.1.0; is = cc }
+      (p.0, cc)
 
-  pub passed_checked : {o : Point} → SFits w8 ascent → SFits w8 descent → Passed o → Checked r.text o r.line_height
-  passed_checked f g p = subst (λ (o : Point). Checked r.text o r.line_height) p.is (origin_checked f g p.text_in p.place_in)
+-- what was read of the font says where it begins
+pub origin_read : {font : List ℕ} {head : FontReader} → Opened font head → (r : Request) → origin_by head.ascent head.descent r ≡ origin (u8g2 font) r
+origin_read o r = ap (λ (h : FontReader). origin_by h.ascent h.descent r) o.read
 
 -- where nothing is moved
 pub as_line : {text : List ℕ} {o : Point} {line_height : ℕ} → Checked text o line_height → CheckedLine text o line_height
@@ -133,7 +127,7 @@ as_line k = record {
   bottom = k.bottom;
 }
 
--- ---- a call that measures, on a font that opens
+-- ---- the tests, on a font that opens
 
 module _ (font : List ℕ) {head : FontReader} (opens : open_font font ≡ success head) (r : Request) where
   -- the text and its place, tested with the header that was read
@@ -141,30 +135,4 @@ module _ (font : List ℕ) {head : FontReader} (opens : open_font font ≡ succe
   tested = checked_origin head.ascent head.descent r
 
   pub origin_is : {o : Point} → tested ≡ success o → origin (u8g2 font) r ≡ o
-  origin_is {o} e =
-      ap (λ (h : FontReader). origin_by h.ascent h.descent r) (sym (opened font head opens).read)
-      ∙ (passed head.ascent head.descent r o e).is
-
-  pub request_checked : {o : Point} → SFits w8 head.ascent → SFits w8 head.descent → tested ≡ success o → Checked r.text o r.line_height
-  request_checked {o} f g e =
-      passed_checked head.ascent head.descent r f g (passed head.ascent head.descent r o e)
-
-  pub tested_early : {n c : ℕ} → tested ≡ refused n c → eqb n 7 ≡ false
-  tested_early e =
-      refused_early (origin_by head.ascent head.descent r) (text_cause r.text ∷ position_cause r.position r.line_height ∷ []) (refl, (refl, tt)) e
-
-  module _ {A : Type 0} (rest : Outcome A) where
-    abbrev after_font : List Cause
-    after_font = text_cause r.text ∷ position_cause r.position r.line_height ∷ []
-
-    abbrev start : Point
-    start = origin_by head.ascent head.descent r
-
-    font_passed : unless_refused (measure_causes (u8g2 font) r) rest ≡ unless_refused after_font rest
-    font_passed = causes-passed rest (font_causes font) after_font (passes_font font opens)
-
-    pub call_refused : {n c : ℕ} → tested ≡ refused n c → unless_refused (measure_causes (u8g2 font) r) rest ≡ refused n c
-    call_refused e = font_passed ∙ sym (comes_stopped {rest = rest} {before = []} {after = []} start after_font [] e).answered
-
-    pub call_goes_on : {o : Point} → tested ≡ success o → unless_refused (measure_causes (u8g2 font) r) rest ≡ rest
-    call_goes_on {o} e = font_passed ∙ none_applies rest after_font (succeeded (success start) o after_font e).0
+  origin_is {o} e = sym (origin_read (opened font head opens) r) ∙ (begun head.ascent head.descent r e).1

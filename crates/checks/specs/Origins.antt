@@ -1,7 +1,7 @@
 -- Where a text begins, from the ascent and the descent of the font's header, and what the checks of a call leave.
 use Rattle.std.specs.Prelude.{◌≡◌, true, List, [], ◌∷◌, ℕ, ◌*◌, ◌≤◌, ℤ, pos, negsuc, ◌+ℤ◌, length, ◌≤ℤ◌}
-use Rattle.definitions.specs.Vocabulary.{Point, FontReader}
-use Rattle.definitions.specs.Refusals.{Outcome, success, unless_refused}
+use Rattle.definitions.specs.Vocabulary.{Point, FontReader, Placement}
+use Rattle.definitions.specs.Refusals.{Outcome, success, Cause, unless_refused}
 use Rattle.definitions.specs.Header.{Opened}
 use Rattle.definitions.specs.Utf8.{decode, is_utf8, newlines}
 use Rattle.definitions.specs.VerticalOffset.{vertical_offset}
@@ -18,10 +18,17 @@ origin_by ascent descent r =
     r.position.x
     (r.position.y +ℤ vertical_offset r.anchor (pos (newlines (code_points_of r.text) * r.line_height)) ascent descent)
 
--- .. unless cause 4 or 5 applies (SPECIFICATION, Refusals)
+-- causes 4 and 5 (SPECIFICATION, Refusals)
+abbrev pub place_causes : Request → List Cause
+place_causes r = text_cause r.text ∷ position_cause r.position r.line_height ∷ []
+
+-- .. unless one of them applies
 abbrev pub checked_origin : ℤ → ℤ → Request → Outcome Point
-checked_origin ascent descent r =
-    unless_refused (text_cause r.text ∷ position_cause r.position r.line_height ∷ []) (success (origin_by ascent descent r))
+checked_origin ascent descent r = unless_refused (place_causes r) (success (origin_by ascent descent r))
+
+-- a text that begins there goes on as it was placed
+abbrev pub pen_at : Point → Placement → Pen
+pen_at origin p = record { origin = origin; line_height = p.line_height; ignore_unknown_chars = p.ignore_unknown_chars }
 
 -- the pen of a request
 abbrev pub pen_of : List ℕ → Request → Pen
@@ -29,6 +36,7 @@ pen_of font r = record { origin = origin (u8g2 font) r; line_height = r.line_hei
 
 -- What the checks of a call leave of a text and its place: the text is UTF-8 of at most 4,096 bytes, the line height at most
 -- 65,535, and the place within its limits, moved by the anchor.
+-- (It stays a clause, of a text and a pen: each line of a text is measured and drawn with the pen of all of it.)
 pub record Checked (text : List ℕ) (origin : Point) (line_height : ℕ) : Type 0 where
   pub short : length text ≤ 4096
   pub utf8 : is_utf8 (decode text) ≡ true

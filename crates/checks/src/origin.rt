@@ -3,7 +3,7 @@ ghost use Rattle.std.specs.Prelude.{◌≡◌, false};
 ghost use Rattle.definitions.specs.Refusals.{outcome};
 ghost use Rattle.definitions.specs.Limits.{text_cause, position_cause};
 ghost use Rattle.definitions.specs.Calls.{plain};
-ghost use Rattle.checks.specs.Origins.{origin_by, checked_origin};
+ghost use Rattle.checks.specs.Origins.{origin_by, checked_origin, pen_at};
 
 use crate::limits::{has_bad_position, has_bad_text};
 use content::text::get_newline_count;
@@ -15,18 +15,51 @@ use vertical_offset::compute_vertical_offset;
 
 // What a checked text is set with: where it begins, how far below a line the next one lies, and whether unknown characters are
 // skipped.
-#[derive(Clone, Copy)]
+#[derive(Clone, Copy, Debug, PartialEq, Eq)]
 pub struct Pen {
     pub origin: Point,
     pub line_height: u32,
     pub ignore_unknown_chars: bool,
 }
 
+impl Pen {
+    pub fn new(origin: Point, placement: Placement) -> Pen
+        ensures { result ≡ pen_at origin placement }
+    {
+        Pen {
+            origin,
+            line_height: placement.line_height,
+            ignore_unknown_chars: placement.ignore_unknown_chars,
+        }
+    }
+}
+
 // What a text that passed its tests is set with: its font, opened, and its pen.
-#[derive(Clone, Copy)]
+#[derive(Clone, Copy, Debug, PartialEq, Eq)]
 pub struct Setup<'a> {
     pub font: OpenedFont<'a>,
     pub pen: Pen,
+}
+
+impl<'a> Setup<'a> {
+    ghost use Rattle.checks.specs.Origins.{place_causes};
+    ghost use Rattle.checks.specs.Setups.{Tests, SetFor};
+
+    // What the text is set with in that font, or cause 4 or 5, in this order (SPECIFICATION, Refusals).
+    pub fn checked(
+        font: OpenedFont<'a>,
+        text: &[u8],
+        placement: Placement,
+        vertical_pos: VerticalPosition,
+    ) -> Result<Setup<'a>, Error>
+        ensures { Tests (place_causes (plain text.now placement vertical_pos))
+            (SetFor font.entry.bytes.now (plain text.now placement vertical_pos)) result }
+    {
+        let head = font.head;
+        let origin = checked_origin(head.ascent, head.descent, text, placement, vertical_pos)?;
+        let pen = Pen::new(origin, placement);
+        Ok(Setup { font, pen })
+    }
 }
 
 pub fn text_origin(

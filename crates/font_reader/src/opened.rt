@@ -6,7 +6,7 @@ use types::error::Error;
 use types::font_reader::FontReader;
 
 // A font's bytes, to which neither cause 1 nor cause 2 applies, and the header that was read from them.
-#[derive(Clone, Copy)]
+#[derive(Clone, Copy, Debug, PartialEq, Eq)]
 pub struct OpenedFont<'a> {
     pub bytes: &'a [u8],
     pub head: FontReader,

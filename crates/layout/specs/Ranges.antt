@@ -6,6 +6,7 @@ use Rattle.definitions.specs.Utf8.{newlines}
 use Rattle.definitions.specs.TextSteps.{next_box, LineState}
 
 -- less than 2 to the power 29: sums of two such numbers fit an i32
+-- (It stays a clause, of a plain i32: a type around it would be taken off for each sum, which need not be near, and made anew.)
 pub record Near (z : ℤ) : Type 0 where
   pub low : negsuc 536870910 ≤ℤ z
   pub high : z ≤ℤ pos 536870911
@@ -23,6 +24,7 @@ pub record Within (line_height at : ℕ) (rest : List ℕ) (d : RenderedDimensio
   pub box : InReach d.bounding_box
 
 -- the dimensions so far leave room for one more letter
+-- (It stays a clause, of two values: a text has one origin and new dimensions after each letter, and other calls answer with these.)
 pub record HasRoom (origin : Point) (d : RenderedDimensions) : Type 0 where
   pub x : Near d.advance.x
   pub y : Near d.advance.y
@@ -50,6 +52,7 @@ LineInReach None = Unit {0}
 LineInReach (Some r) = LineRectangle r
 
 -- the lines so far leave room for one more letter, and the line may end here
+-- (It stays a clause, of two values, as HasRoom: the origin stays, and the lines so far are made anew with each letter.)
 pub record LineHasRoom (origin : Point) (s : LineState) : Type 0 where
   pub left : negsuc 1048575 ≤ℤ s.line.advance.x
   pub right : s.line.advance.x ≤ℤ pos 1048575

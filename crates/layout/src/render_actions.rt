@@ -16,12 +16,12 @@ pub fn moved(x: i32, by: i8) -> i32
     x + (by as i32)
 }
 
-// The top edge: the offset counts upwards, from the place to the glyph's lowest row.
-fn top(y: i32, height: u8, offset_y: i8) -> i32
-    requires { Near y }
-    ensures { result ≡ y -ℤ (pos height +ℤ offset_y) }
+// The top edge of a box of that height: the offset counts upwards, from the place to the box's lowest row.
+pub fn top(y: i32, height: i32, offset_y: i8) -> i32
+    requires { Near y × Near height }
+    ensures { result ≡ y -ℤ (height +ℤ offset_y) }
 {
-    y - ((height as i32) + (offset_y as i32))
+    y - (height + (offset_y as i32))
 }
 
 // The bounding box of a glyph at a place. A glyph without pixels has none.
@@ -35,7 +35,7 @@ pub fn get_glyph_bounding_box(glyph: GlyphReader, x: i32, y: i32) -> Option<Rect
     Some(Rectangle {
         top_left: Point {
             x: moved(x, glyph.offset_x),
-            y: top(y, glyph.glyph_height, glyph.offset_y),
+            y: top(y, i32::from(glyph.glyph_height), glyph.offset_y),
         },
         size: Size {
             width: glyph.glyph_width as u32,

@@ -1,2 +1,1 @@
 pub mod Aligned
-pub mod Checks

@@ -1,9 +1,10 @@
 // The dimensions of an aligned text, which the public calls read their answers off.
-ghost use Rattle.definitions.specs.Calls.{plain, request};
+ghost use Rattle.definitions.specs.Font.{u8g2};
+ghost use Rattle.definitions.specs.Calls.{plain, request, measure_causes};
+ghost use Rattle.checks.specs.Setups.{Tests, SetFor};
 ghost use Rattle.measuring.specs.Aligned.{AlignedMeasured};
-ghost use Rattle.measuring.specs.Checks.{Checks};
 
-use checks::origin::{Pen, Setup, checked_origin};
+use checks::origin::Setup;
 use font_reader::opened::OpenedFont;
 use lookup_sums::refused;
 use text_lines::measure_lines;
@@ -19,17 +20,11 @@ fn check<'a>(
     placement: Placement,
     vertical_pos: VerticalPosition,
 ) -> Result<Setup<'a>, Error>
-    ensures { Checks font.now (plain text.now placement vertical_pos) result }
+    ensures { Tests (measure_causes (u8g2 font.now) (plain text.now placement vertical_pos))
+        (SetFor font.now (plain text.now placement vertical_pos)) result }
 {
     let font = OpenedFont::open(font)?;
-    let head = font.head;
-    let origin = checked_origin(head.ascent, head.descent, text, placement, vertical_pos)?;
-    let pen = Pen {
-        origin,
-        line_height: placement.line_height,
-        ignore_unknown_chars: placement.ignore_unknown_chars,
-    };
-    Ok(Setup { font, pen })
+    Setup::checked(font, text, placement, vertical_pos)
 }
 
 // The dimensions of the aligned text, or the refusal, and the steps of its lookups.
@@ -43,6 +38,7 @@ pub fn aligned_dimensions(
     ensures { AlignedMeasured font.now
         (request text.now placement vertical_pos horizontal_align) result }
 {
+    // A `Report` is no `Result`, so no `?` hands the refusal on.
     match check(font, text, placement, vertical_pos) {
         Err(error) => refused(error),
         Ok(setup) => measure_lines(&setup.font, text, horizontal_align, setup.pen),

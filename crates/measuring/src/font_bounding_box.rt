@@ -1,30 +1,23 @@
 // The font's bounding box: where the largest glyph could lie.
-ghost use Rattle.std.specs.Prelude.{◌≡◌, pos, negsuc, nat_abs, ◌+ℤ◌, ◌-ℤ◌, ◌≤ℤ◌};
+ghost use Rattle.std.specs.Prelude.{◌≡◌};
 ghost use Rattle.definitions.specs.Refusals.{outcome};
 ghost use Rattle.definitions.specs.Calls.{font_box, font_bounding_box};
 
 use font_reader::new_from_raw_data;
+use layout::render_actions::top;
 use types::error::Error;
 use types::font_reader::FontReader;
 use types::geometry::{Point, Rectangle, Size};
 use types::style::VerticalPosition;
 use vertical_offset::compute_vertical_offset;
 
-// The top edge of a box of that height, y above the baseline.
-fn box_top(baseline: i32, height: i8, y: i8) -> i32
-    requires { (negsuc 127 ≤ℤ baseline) × (baseline ≤ℤ pos 128) }
-    ensures { result ≡ baseline -ℤ (height +ℤ y) }
-{
-    baseline - (i32::from(height) + i32::from(y))
-}
-
 fn font_box(head: FontReader, vertical_pos: VerticalPosition) -> Rectangle
     ensures { result ≡ font_box head vertical_pos }
 {
     let baseline = compute_vertical_offset(vertical_pos, head.ascent, head.descent, 0, 0);
-    let y = box_top(
+    let y = top(
         baseline,
-        head.font_bounding_box_height,
+        i32::from(head.font_bounding_box_height),
         head.font_bounding_box_y_offset,
     );
     Rectangle {

@@ -19,9 +19,8 @@ use Rattle.definitions.specs.Agreement.{Ground, on, WithinLimits, pixel, KeptOut
 use Rattle.redraw_checks.specs.Drawing.{Drawing, asks, with_text, drawn, after, measured}
 use Rattle.definitions.proofs.FramebufferLaws.{length_shown, shown_at, same_pixels}
 use Rattle.definitions.proofs.PictureLaws.{covers_inside, inside_covers}
-use Rattle.definitions.proofs.RefusalLaws.{or_false, none_applies, succeeded}
+use Rattle.definitions.proofs.RefusalLaws.{or_false, none_applies, succeeded, stopped}
 use Rattle.definitions.proofs.CausesLaws.{LimitsPass, limits_pass, limits_off, draw_passes, draw_off}
-use Rattle.definitions.proofs.ComesLaws.{comes_stopped}
 use Rattle.definitions.proofs.LetterRefusals.{Late, late, late_drawn}
 use Rattle.definitions.proofs.Agreement.{alone, size}
 use Rattle.framebuffer.specs.Areas.{fill_picture}
@@ -30,7 +29,10 @@ use Rattle.redraw_checks.proofs.ChecksLaws.{StepPasses, step_passes}
 use Rattle.redraw.specs.Redraw.{whole_or, reading_on, AllOf, cleared_by, Cleared, redrawn, RedrawnFilling, redrawn_buffer, taken}
 use Rattle.renderer.specs.declared.letters.Context.{Context}
 use Rattle.renderer.specs.Texts.{counted_with, drawn_with}
-use Rattle.redraw_checks.specs.Checks.{redraw_causes, pen_of, step_of, checked_step}
+use Rattle.renderer.proofs.RenderLaws.{drawn_unrefused}
+use Rattle.checks.specs.Origins.{pen_of}
+use Rattle.checks.specs.Setups.{Refuse}
+use Rattle.redraw_checks.specs.Checks.{redraw_causes}
 
 -- the framebuffer keeps its length
 length_by : (t : Bool) (width : ℕ) (picture : Picture) (before : List ℕ) → length (pick t before (shown width picture before)) ≡ length before
@@ -191,16 +193,6 @@ module _ (font : List ℕ) (r : Drawing) (p : Ground) where
         let l = dimensions (drawn_text (u8g2 font) (asks r)) in
         rw fine (twice l causes_of)
 
-  -- a drawing to which no cause applies
-  module _ (unrefused : any_applies causes_of ≡ false) where
-    pub answer_laid : dimensions (drawn_text (u8g2 font) (asks r)) ≡ drawn font r p
-    unfolding draw
-    answer_laid = sym (none_applies (dimensions (drawn_text (u8g2 font) (asks r))) causes_of unrefused)
-
-    pub bytes_laid : shown (width p) (text_picture r.color (pixels_of (u8g2 font)) (drawn_text (u8g2 font) (asks r)).glyphs) p.before ≡ after font r p
-    unfolding draw_buffer
-    bytes_laid = rw unrefused
-
 -- ---- the step, as the code goes
 
 -- a reading with another box
@@ -214,15 +206,18 @@ own_box (refused n c) = refl
 
 module _ (font old : List ℕ) (new : Drawing) (background : ℕ) (p : Ground) where
   -- refused by one of its causes
-  module _ {n c : ℕ} (e : checked_step font old new p ≡ refused n c) where
+  module _ {n c : ℕ} (e : Refuse (redraw_causes font old new p) n c) where
+    is_refused : (any_applies (redraw_causes font old new p) ≡ true) × (unless_refused (redraw_causes font old new p) (drawn font new p) ≡ refused n c)
+    is_refused = stopped (tt {0}) (drawn font new p) (redraw_causes font old new p) e
+
     pub stops : refused n c ≡ redrawn font old new p
     unfolding redrawn
-    stops = (comes_stopped {rest = drawn font new p} {before = []} {after = []} (step_of font old new) (redraw_causes font old new p) [] e).answered
+    stops = sym is_refused.1
 
     pub stays : {fills : BoundingBox → BoundingBox → Type 0} → RedrawnFilling fills font old new background p p.before
     stays = record {
       refuses = λ on. refl;
-      clears = λ off. let z = sym (none_applies (success (step_of font old new)) (redraw_causes font old new p) off) ∙ e in impossible cc;
+      clears = λ off. (let z : false ≡ true = sym off ∙ is_refused.0 in impossible cc);
     }
 
   -- .. or by none of them
@@ -256,27 +251,28 @@ module _ (font old : List ℕ) (new : Drawing) (background : ℕ) (p : Ground) w
 
     -- what the code counts and draws: the texts by their pens
     abbrev counted : List ℕ → Outcome RenderedDimensions
-    counted text = counted_with font text new.align (pen_of font text new)
+    counted text = counted_with font text new.align (pen_of font (asks (with_text text new)))
 
     abbrev context : Context
     context = record { color = new.color; framebuffer = p.framebuffer }
 
     abbrev new_on : List ℕ → List ℕ
-    new_on bytes = drawn_with font new.text new.align (pen_of font new.text new) context bytes
+    new_on bytes = drawn_with font new.text new.align (pen_of font (asks new)) context bytes
 
     pub answers : {answer : Outcome RenderedDimensions} → answer ≡ counted new.text → answer ≡ redrawn font old new p
     unfolding redrawn
-    answers e = e ∙ answer_laid font new p new_off ∙ sym (none_applies (drawn font new p) (redraw_causes font old new p) unrefused)
+    answers e = e ∙ (drawn_unrefused font (asks new) new.color p.framebuffer p.before new_off).0 ∙ sym (none_applies (drawn font new p) (redraw_causes font old new p) unrefused)
 
     pub leaves : {fills : BoundingBox → BoundingBox → Type 0} (between : List ℕ) {exit : List ℕ} → Cleared fills (width p) background (counted old) p.before between
         → length between ≡ length p.before → exit ≡ whole_or (counted new.text) (new_on between) between
         → RedrawnFilling fills font old new background p exit
     leaves {fills} between {exit} e l h =
-        let cleared = subst (λ (o : Outcome RenderedDimensions). Cleared fills (width p) background o p.before between) (answer_laid font (with_text old new) p old_off) e in
-        let bare = on p.framebuffer between in
+        let old_drawn = drawn_unrefused font (asks (with_text old new)) new.color p.framebuffer p.before old_off in
+        let new_drawn = drawn_unrefused font (asks new) new.color p.framebuffer between (cleared_off between l) in
+        let cleared = subst (λ (o : Outcome RenderedDimensions). Cleared fills (width p) background o p.before between) old_drawn.0 e in
         let is = h
-        ∙ ap (λ (o : Outcome RenderedDimensions). whole_or o (new_on between) between) (answer_laid font new bare (cleared_off between l))
-        ∙ ap (λ (l : List ℕ). whole_or (drawn font new bare) l between) (bytes_laid font new bare (cleared_off between l)) in
+        ∙ ap (λ (o : Outcome RenderedDimensions). whole_or o (new_on between) between) new_drawn.0
+        ∙ ap (λ (l : List ℕ). whole_or (drawn font new (on p.framebuffer between)) l between) new_drawn.1 in
         record { refuses = λ on. (let z : false ≡ true = sym unrefused ∙ on in impossible cc); clears = λ off. (between, cleared, is) }
 
   -- What the step leaves where `fill` says what is filled of each box, and that makes `filled` of the old reading.

@@ -21,6 +21,7 @@ use types::place::Place;
 use types::results::Report;
 
 // Fills what `to_fill` makes of the box of a text that draws. One that does not draw has left nothing on the framebuffer.
+// The font, the text and its pen stand one by one, as the renderer takes them: its lines share the font and have texts of their own.
 fn clear_reading<F: FnOnce(Option<Rectangle>) -> Option<Rectangle>>(
     font: &OpenedFont,
     text: &[u8],
@@ -85,15 +86,12 @@ pub fn redraw_filling<F: FnOnce(Option<Rectangle>) -> Option<Rectangle>>(
     ensures summed { result.steps ≡ sums (u8g2 font.now) new_text.now (redrawn font.now
         old_text.now (asked place new_text.now) (ground_of place buffer.old)) }
 {
+    // A `Report` is no `Result`, so no `?` hands the refusal on.
     match check_step(font, old_text, new_text, place, buffer) {
         Err(error) => refused(error),
         Ok(step) => {
-            let opened = OpenedFont {
-                bytes: font,
-                head: step.head,
-            };
-            clear_reading(&opened, old_text, step.old_pen, place, to_fill, buffer);
-            draw_reading(&opened, new_text, step.new_pen, place, buffer)
+            clear_reading(&step.font, old_text, step.old_pen, place, to_fill, buffer);
+            draw_reading(&step.font, new_text, step.new_pen, place, buffer)
         }
     }
 }

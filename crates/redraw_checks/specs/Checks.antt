@@ -1,16 +1,17 @@
 -- What the step's tests leave of it.
-use Rattle.std.specs.Prelude.{false, List, [], ◌∷◌, ◌++◌, ℕ}
-use Rattle.definitions.specs.Refusals.{Outcome, success, Cause, unless_refused}
-use Rattle.definitions.specs.Header.{header, font_causes}
+use Rattle.std.specs.Prelude.{List, [], ◌∷◌, ◌++◌, ℕ, length}
+use Rattle.definitions.specs.Refusals.{Cause}
+use Rattle.definitions.specs.Header.{font_causes}
 use Rattle.definitions.specs.Framebuffer.{framebuffer_cause}
 use Rattle.definitions.specs.Limits.{text_cause, position_cause, background_cause}
 use Rattle.definitions.specs.Font.{u8g2}
-use Rattle.definitions.specs.Calls.{origin}
-use Rattle.definitions.specs.Agreement.{Ground}
-use Rattle.redraw_checks.specs.Drawing.{Drawing, asks, with_text}
+use Rattle.definitions.specs.Agreement.{Ground, width, height}
+use Rattle.framebuffer.specs.Areas.{BufferFits}
 use Rattle.checks.specs.declared.origin.Pen.{Pen}
+use Rattle.checks.specs.declared.origin.Setup.{Setup}
+use Rattle.checks.specs.Setups.{SetFor}
+use Rattle.redraw_checks.specs.Drawing.{Drawing, asks, with_text}
 use Rattle.redraw_checks.specs.declared.Step.{Step}
-use Rattle.definitions.specs.Vocabulary.{Point}
 
 -- The causes of the step, in the order of SPECIFICATION, Refusals, for both texts.
 abbrev pub redraw_causes : List ℕ → List ℕ → Drawing → Ground → List Cause
@@ -23,16 +24,12 @@ redraw_causes font old new p =
     ∷ background_cause new.color (u8g2 font).background
     ∷ []
 
--- where a text of the step begins
-abbrev pub origin_of : List ℕ → List ℕ → Drawing → Point
-origin_of font text r = origin (u8g2 font) (asks (with_text text r))
+-- one of its texts with that pen
+abbrev pub set_with : Step → Pen → Setup
+set_with s pen = record { font = s.font; pen = pen }
 
-abbrev pub pen_of : List ℕ → List ℕ → Drawing → Pen
-pen_of font text r = record { origin = origin_of font text r; line_height = r.line_height; ignore_unknown_chars = false }
-
-abbrev pub step_of : List ℕ → List ℕ → Drawing → Step
-step_of font old new = record { head = header font; old_pen = pen_of font old new; new_pen = pen_of font new.text new }
-
--- the header and the pens, unless one of the step's causes applies
-abbrev pub checked_step : List ℕ → List ℕ → Drawing → Ground → Outcome Step
-checked_step font old new p = unless_refused (redraw_causes font old new p) (success (step_of font old new))
+-- Both texts are set as they are asked, and the buffer is the framebuffer's.
+pub record ReadyFor (font old : List ℕ) (new : Drawing) (p : Ground) (s : Step) : Type 0 where
+  pub old_set : SetFor font (asks (with_text old new)) (set_with s s.old_pen)
+  pub new_set : SetFor font (asks new) (set_with s s.new_pen)
+  pub fits : BufferFits (length p.before) (width p) (height p)

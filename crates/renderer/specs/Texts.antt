@@ -72,6 +72,7 @@ Moves Center = Unit {0}
 Moves Right = Unit {0}
 
 -- A checked text, and a buffer for the framebuffer.
+-- (It stays a clause, of a text, a pen and a framebuffer whose buffer is lent beside it: no one struct has all of them.)
 pub record DrawableText (text : List ℕ) (pen : Pen) (framebuffer : Framebuffer) (bytes : ℕ) : Type 0 where
   pub checked : Checked text pen.origin pen.line_height
   pub fits : Fits bytes framebuffer

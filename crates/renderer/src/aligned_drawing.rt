@@ -1,15 +1,16 @@
 // The dimensions of a drawn text, however it is aligned, which the public calls read their answers off.
-ghost use Rattle.std.specs.Prelude.{◌≡◌};
+ghost use Rattle.std.specs.Prelude.{◌≡◌, length};
 ghost use Rattle.definitions.specs.Refusals.{outcome};
 ghost use Rattle.definitions.specs.Font.{u8g2};
-ghost use Rattle.definitions.specs.Calls.{plain, request, draw, draw_buffer};
+ghost use Rattle.definitions.specs.Calls.{plain, request, draw_causes, draw, draw_buffer};
 ghost use Rattle.definitions.specs.Sums.{sums};
-ghost use Rattle.renderer.specs.Checks.{Checks};
+ghost use Rattle.checks.specs.Setups.{Tests};
+ghost use Rattle.renderer.specs.Checks.{DrawnFor};
 
 use crate::letters::Context;
 use crate::lines::draw_aligned;
 use checks::limits::{has_bad_color, has_bad_size};
-use checks::origin::{Pen, Setup, checked_origin};
+use checks::origin::Setup;
 use font_reader::opened::OpenedFont;
 use lookup_sums::refused;
 use types::error::Error;
@@ -27,25 +28,18 @@ fn check<'a>(
     framebuffer: Framebuffer,
     buffer: &[u8],
 ) -> Result<Setup<'a>, Error>
-    ensures { Checks font.now (plain text.now placement style.vertical_pos) style.color framebuffer
-        buffer.now result }
+    ensures { Tests (draw_causes (u8g2 font.now) (plain text.now placement style.vertical_pos) style.color framebuffer buffer.now)
+        (DrawnFor font.now (plain text.now placement style.vertical_pos) framebuffer (length buffer.now)) result }
 {
     let font = OpenedFont::open(font)?;
     if has_bad_size(framebuffer, buffer) {
         return Err(Error::FramebufferSize);
     }
-    let head = font.head;
-    let vertical_pos = style.vertical_pos;
-    let origin = checked_origin(head.ascent, head.descent, text, placement, vertical_pos)?;
-    if has_bad_color(style.color, head.supports_background_color) {
+    let setup = Setup::checked(font, text, placement, style.vertical_pos)?;
+    if has_bad_color(style.color, font.head.supports_background_color) {
         return Err(Error::BackgroundColorNotSupported);
     }
-    let pen = Pen {
-        origin,
-        line_height: placement.line_height,
-        ignore_unknown_chars: placement.ignore_unknown_chars,
-    };
-    Ok(Setup { font, pen })
+    Ok(setup)
 }
 
 // Draws the aligned text where it is placed on a framebuffer of that size, or refuses to; the steps of its lookups come with
@@ -66,6 +60,7 @@ pub fn aligned_drawing(
     ensures summed { result.steps ≡ sums (u8g2 font.now) text.now (draw (u8g2 font.now)
         (request text.now placement style.vertical_pos horizontal_align) style.color framebuffer buffer.old) }
 {
+    // A `Report` is no `Result`, so no `?` hands the refusal on.
     match check(font, text, placement, style, framebuffer, &buffer[..]) {
         Err(error) => refused(error),
         Ok(setup) => {

@@ -2,8 +2,9 @@
 use crate::geometry::Point;
 
 // Which height of the font stands at the given y (SPECIFICATION, Anchors).
-#[derive(Clone, Copy, Debug, PartialEq, Eq)]
+#[derive(Clone, Copy, Debug, Default, PartialEq, Eq)]
 pub enum VerticalPosition {
+    #[default]
     Baseline,
     Top,
     Center,
@@ -11,8 +12,9 @@ pub enum VerticalPosition {
 }
 
 // Which side of each line stands at the given x.
-#[derive(Clone, Copy, Debug, PartialEq, Eq)]
+#[derive(Clone, Copy, Debug, Default, PartialEq, Eq)]
 pub enum HorizontalAlignment {
+    #[default]
     Left,
     Center,
     Right,

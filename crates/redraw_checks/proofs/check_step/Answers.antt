@@ -1,82 +1,119 @@
--- The causes are tested in the definition's order. ChecksLaws says what each test leaves of the step.
+-- The causes are tested in the definition's order: the framebuffer and the old text between the font and the new text, and the
+-- colour last.
 use Rattle.std.proofs.lemmas.Result.{err_from_is_err_and}
-use Rattle.integers.proofs.Prelude.{sym, ap, ◌∙◌, false, w8, SFits, to_z-of_z, rules}
+use Rattle.integers.proofs.Prelude.{◌≡◌, refl, sym, ap, subst, ◌∙◌, false, List, [], ◌∷◌, ℕ, w8, SFits, to_z-of_z, rules}
 use Rattle.definitions.specs.Vocabulary.{Point}
-use Rattle.definitions.specs.Refusals.{success}
-use Rattle.redraw_checks.specs.Drawing.{asks, asked, ground_of}
+use Rattle.definitions.specs.Refusals.{Cause, any_applies}
+use Rattle.definitions.specs.Header.{Opened}
+use Rattle.definitions.specs.Framebuffer.{framebuffer_cause}
+use Rattle.definitions.specs.Limits.{text_cause, background_off, background_cause}
+use Rattle.definitions.specs.Font.{u8g2}
+use Rattle.definitions.specs.Calls.{Request}
 use Rattle.definitions.proofs.OpenedLaws.{opened}
-use Rattle.checks.proofs.OriginLaws.{passed}
+use Rattle.definitions.proofs.RefusalLaws.{each_off}
+use Rattle.checks.specs.declared.origin.Setup.{Setup}
+use Rattle.checks.specs.Origins.{origin_by, place_causes, Checked}
+use Rattle.checks.specs.Setups.{SetFor}
+use Rattle.checks.proofs.OriginLaws.{origin_read, placed_checked}
 use Rattle.checks.proofs.LimitLaws.{color_is}
-use Rattle.redraw_checks.proofs.ChecksLaws.{font_refused, size_refused, old_refused, new_refused, color_refused, all_passed}
+use Rattle.checks.proofs.SizeLaws.{size_fits}
+use Rattle.checks.proofs.SetupLaws.{refused_at, refused_after, font_refused, between_refused, place_refused, last_refused, none_refused}
+use Rattle.redraw_checks.specs.Drawing.{Drawing, asks, asked, with_text}
 use Rattle.redraw_checks.proofs.check_step.Goals as goal
+use Rattle.redraw_checks.proofs.check_step.Goals.{Start, In_ok-font, Else-has_bad_size, Else-has_bad_text}
 
-pub returns-in_err-head : goal.returns-in_err-head
-returns-in_err-head c =
-    let a = c.args in
+module _ (c : Start) where
+  abbrev new : Drawing
+  new = asked c.args.place c.args.new_text.now
+
+  abbrev between : List Cause
+  between = framebuffer_cause c.args.place.framebuffer c.args.buffer.now ∷ text_cause c.args.old_text.now ∷ []
+
+  abbrev color : List Cause
+  color = background_cause c.args.place.style.color (u8g2 c.args.font.now).background ∷ []
+
+-- the framebuffer has its size, the old text can be drawn
+size_in : (c : Else-has_bad_size) → (framebuffer_cause c.args.place.framebuffer c.args.buffer.now).applies ≡ false
+size_in c = sym c.has_bad_size.ensures ∙ c.if-has_bad_size.false
+
+old_in : (c : Else-has_bad_text) → (text_cause c.args.old_text.now).applies ≡ false
+old_in c = sym c.has_bad_text.ensures ∙ c.if-has_bad_text.false
+
+-- the answer to the colour is the cause's
+color_tested : (c : In_ok-font) → let a = c.args in (background_cause a.place.style.color (u8g2 a.font.now).background).applies
+    ≡ background_off a.place.style.color c.in_ok-font.font.head.supports_background_color
+color_tested c = sym (color_is (opened _ c.in_ok-font.font.head c.in_ok-font.ensures.1) c.args.place.style.color)
+
+pub returns-in_err-font : goal.returns-in_err-font
+returns-in_err-font c =
+    let s = (goal.at.returns-in_err-font c).Start in
     let p = err_from_is_err_and c.from_residual.result c.from_residual.ensures.1 in
-    rw (p.1, p.2) (font_refused a.font.now a.old_text.now (asked a.place a.new_text.now) (ground_of a.place a.buffer.now)
-    (sym c.in_err-head.ensures))
+    rw (p.1, p.2) (font_refused c.args.font.now (between s) (asks (new s)) (color s) c.in_err-font.ensures)
 
 pub returns-then-has_bad_size : goal.returns-then-has_bad_size
 returns-then-has_bad_size c =
-    let a = c.args in
-    size_refused a.font.now a.old_text.now (asked a.place a.new_text.now) (ground_of a.place a.buffer.now) (sym c.in_ok-head.ensures)
-    (sym c.has_bad_size.ensures ∙ c.if-has_bad_size.true)
+    let s = (goal.at.returns-then-has_bad_size c).Start in
+    between_refused c.args.font.now (between s) (asks (new s)) (color s) c.in_ok-font.ensures.1
+    (refused_at (framebuffer_cause c.args.place.framebuffer c.args.buffer.now) (text_cause c.args.old_text.now ∷ [])
+    (sym c.has_bad_size.ensures ∙ c.if-has_bad_size.true))
 
 pub returns-then-has_bad_text : goal.returns-then-has_bad_text
 returns-then-has_bad_text c =
-    let a = c.args in
-    old_refused a.font.now a.old_text.now (asked a.place a.new_text.now) (ground_of a.place a.buffer.now) (sym c.in_ok-head.ensures)
-    (sym c.has_bad_size.ensures ∙ c.if-has_bad_size.false)
-    (sym c.has_bad_text.ensures ∙ c.if-has_bad_text.true)
+    let s = (goal.at.returns-then-has_bad_text c).Start in
+    let e = (goal.at.returns-then-has_bad_text c).Else-has_bad_size in
+    between_refused c.args.font.now (between s) (asks (new s)) (color s) c.in_ok-font.ensures.1
+    (refused_after (framebuffer_cause c.args.place.framebuffer c.args.buffer.now ∷ []) (text_cause c.args.old_text.now ∷ []) (rw (size_in e) refl)
+    (refused_at (text_cause c.args.old_text.now) [] (sym c.has_bad_text.ensures ∙ c.if-has_bad_text.true)))
 
-pub returns-in_err-new_origin : goal.returns-in_err-new_origin
-returns-in_err-new_origin c =
-    let a = c.args in
-    let up : SFits w8 c.in_ok-head.head.ascent = search rules in
-    let down : SFits w8 c.in_ok-head.head.descent = search rules in
-    let p = err_from_is_err_and c.from_residual-in_err-new_origin.result c.from_residual-in_err-new_origin.ensures.1 in
-    rw (p.1, p.2) (new_refused a.font.now a.old_text.now (asked a.place a.new_text.now) (ground_of a.place a.buffer.now) (sym c.in_ok-head.ensures)
-    (sym c.has_bad_size.ensures ∙ c.if-has_bad_size.false)
-    (sym c.has_bad_text.ensures ∙ c.if-has_bad_text.false)
-    (sym (simp (to_z-of_z, up, down) at c.in_err-new_origin.ensures)))
+pub returns-in_err-setup : goal.returns-in_err-setup
+returns-in_err-setup c =
+    let s = (goal.at.returns-in_err-setup c).Start in
+    let e = (goal.at.returns-in_err-setup c).Else-has_bad_size in
+    let o = (goal.at.returns-in_err-setup c).Else-has_bad_text in
+    let p = err_from_is_err_and c.from_residual-in_err-setup.result c.from_residual-in_err-setup.ensures.1 in
+    rw (p.1, p.2)
+    (place_refused c.args.font.now (between s) (asks (new s)) (color s) c.in_ok-font.ensures.1 (rw (size_in e, old_in o) refl) c.in_err-setup.ensures)
 
 pub returns-then-has_bad_color : goal.returns-then-has_bad_color
 returns-then-has_bad_color c =
-    let a = c.args in
-    let up : SFits w8 c.in_ok-head.head.ascent = search rules in
-    let down : SFits w8 c.in_ok-head.head.descent = search rules in
-    color_refused a.font.now a.old_text.now (asked a.place a.new_text.now) (ground_of a.place a.buffer.now) (sym c.in_ok-head.ensures)
-    (sym c.has_bad_size.ensures ∙ c.if-has_bad_size.false)
-    (sym c.has_bad_text.ensures ∙ c.if-has_bad_text.false)
-    (sym (simp (to_z-of_z, up, down) at c.in_ok-new_origin.ensures))
-    (sym (color_is (opened _ c.in_ok-head.head (sym c.in_ok-head.ensures)) a.place.style.color) ∙ sym c.has_bad_color.ensures ∙ c.if-has_bad_color.true)
+    let s = (goal.at.returns-then-has_bad_color c).Start in
+    let e = (goal.at.returns-then-has_bad_color c).Else-has_bad_size in
+    let o = (goal.at.returns-then-has_bad_color c).Else-has_bad_text in
+    let k = (goal.at.returns-then-has_bad_color c).In_ok-font in
+    last_refused c.args.font.now (between s) (asks (new s)) (color s) c.in_ok-font.ensures.1 (rw (size_in e, old_in o) refl) c.in_ok-setup.ensures.0
+    (refused_at (background_cause c.args.place.style.color (u8g2 c.args.font.now).background) []
+    (color_tested k ∙ sym c.has_bad_color.ensures ∙ c.if-has_bad_color.true))
 
-pub text_origin-requires : goal.text_origin-requires
-text_origin-requires c =
-    let a = c.args in
-    let head = c.in_ok-head.head in
-    let up : SFits w8 head.ascent = search rules in
-    let down : SFits w8 head.descent = search rules in (
-      sym c.has_bad_text.ensures ∙ c.if-has_bad_text.false,
-      (passed head.ascent head.descent (asks (asked a.place a.new_text.now)) _ (sym (simp (to_z-of_z, up, down) at c.in_ok-new_origin.ensures))).place_off,
-    )
+pub text_origin-old_origin-requires : goal.text_origin-old_origin-requires
+text_origin-old_origin-requires c =
+    let s = (goal.at.text_origin-old_origin-requires c).Start in
+    let o = (goal.at.text_origin-old_origin-requires c).Else-has_bad_text in
+    (old_in o, (each_off (place_causes (asks (new s))) c.in_ok-setup.ensures.0).1.0)
 
 pub returns : goal.returns
 returns c =
-    let a = c.args in
-    let head = c.in_ok-head.head in
+    let s = (goal.at.returns c).Start in
+    let e = (goal.at.returns c).Else-has_bad_size in
+    let t = (goal.at.returns c).Else-has_bad_text in
+    let k = rw c.in_ok-font.ensures.0 at c.in_ok-setup.ensures.1 in
+    let font = c.args.font.now in
+    let head = c.in_ok-font.font.head in
     let up : SFits w8 head.ascent = search rules in
     let down : SFits w8 head.descent = search rules in
-    let line = a.place.line_height in
-    let at = simp (to_z-of_z, up, down) at c.text_origin.ensures in
-    ap (λ (o : Point). success record {
-      head = head;
-      old_pen = record { origin = o; line_height = line; ignore_unknown_chars = false };
-      new_pen = record { origin = c.in_ok-new_origin.new_origin; line_height = line; ignore_unknown_chars = false };
-    }) at
-    ∙ all_passed a.font.now a.old_text.now (asked a.place a.new_text.now) (ground_of a.place a.buffer.now) (sym c.in_ok-head.ensures)
-    (sym c.has_bad_size.ensures ∙ c.if-has_bad_size.false)
-    (sym c.has_bad_text.ensures ∙ c.if-has_bad_text.false)
-    (sym (simp (to_z-of_z, up, down) at c.in_ok-new_origin.ensures))
-    (sym (color_is (opened _ head (sym c.in_ok-head.ensures)) a.place.style.color) ∙ sym c.has_bad_color.ensures ∙ c.if-has_bad_color.false)
+    let r : Request = asks (with_text c.args.old_text.now (new s)) in
+    let known : Opened font head = opened _ head c.in_ok-font.ensures.1 in
+    let placed : any_applies (place_causes r) ≡ false = rw (old_in t, (each_off (place_causes (asks (new s))) c.in_ok-setup.ensures.0).1.0) refl in
+    let is = c.new-old_pen.ensures
+    ∙ ap (λ (o : Point). record { origin = o; line_height = r.line_height; ignore_unknown_chars = false }) (simp (to_z-of_z, up, down) at c.text_origin-old_origin.ensures) in
+    let none : any_applies (color s) ≡ false = rw (color_tested (goal.at.returns c).In_ok-font ∙ sym c.has_bad_color.ensures ∙ c.if-has_bad_color.false) refl in (
+      none_refused font (between s) (asks (new s)) (color s) c.in_ok-font.ensures.1 (rw (size_in e, old_in t) refl) c.in_ok-setup.ensures.0 none,
+      record {
+        old_set = record {
+          bytes = c.in_ok-font.ensures.0;
+          pen = is ∙ ap (λ (o : Point). record { origin = o; line_height = r.line_height; ignore_unknown_chars = false }) (origin_read known r);
+          checked = rw is (placed_checked head.ascent head.descent r up down placed);
+        };
+        new_set = record { bytes = c.in_ok-font.ensures.0; pen = k.pen; checked = k.checked };
+        fits = size_fits c.args.place.framebuffer c.args.buffer.now (size_in e);
+      },
+    )

@@ -3,7 +3,7 @@ use Rattle.renderer.proofs.RenderLaws.{refused_by, drawn_as}
 use Rattle.renderer.proofs.aligned_drawing.aligned_drawing.Goals as goal
 
 pub draw_aligned-requires : goal.draw_aligned-requires
-draw_aligned-requires c = c.in-Ok.ensures.drawable
+draw_aligned-requires c = let k = c.in-Ok.ensures.1 in record { checked = k.set.checked; fits = k.fits }
 
 pub returns-in-Err : goal.returns-in-Err
 returns-in-Err c =
@@ -12,5 +12,5 @@ returns-in-Err c =
 
 pub returns-in-Ok : goal.returns-in-Ok
 returns-in-Ok c =
-    let k = drawn_as _ _ _ _ c.args.horizontal_align _ _ _ c.in-Ok.ensures c.draw_aligned.ensures in
+    let k = drawn_as _ _ _ _ c.args.horizontal_align _ _ _ c.in-Ok.ensures.0 c.in-Ok.ensures.1 c.draw_aligned.ensures in
     record { answered = k.answered; shown = k.shown; summed = k.summed }

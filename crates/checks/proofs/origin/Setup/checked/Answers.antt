@@ -1,0 +1,36 @@
+-- Causes 4 and 5 are tested by the origin, which is the font's since the header is that of its bytes.
+use Rattle.std.proofs.lemmas.Result.{err_from_is_err_and}
+use Rattle.std.proofs.Common.{rules, refl, sym, w8, FitsSigned}
+use Rattle.integers.proofs.Prelude.{to_z-of_z}
+use Rattle.definitions.specs.Refusals.{success}
+use Rattle.definitions.specs.Calls.{plain}
+use Rattle.definitions.proofs.RefusalLaws.{stopped}
+use Rattle.checks.specs.Origins.{origin_by, place_causes, checked_origin}
+use Rattle.checks.proofs.OriginLaws.{begun, placed_checked, origin_read}
+use Rattle.checks.proofs.origin.Setup.checked.Goals as goal
+
+pub returns-in_err-origin : goal.returns-in_err-origin
+returns-in_err-origin c =
+    let asked = plain c.args.text.now c.args.placement c.args.vertical_pos in
+    let head = c.args.font.head in
+    let f : FitsSigned w8 head.ascent = search rules in
+    let g : FitsSigned w8 head.descent = search rules in
+    let off = sym {b = checked_origin head.ascent head.descent asked} (simp (to_z-of_z, f, g) at c.in_err-origin.ensures) in
+    let p = err_from_is_err_and c.from_residual.result c.from_residual.ensures.1 in
+    rw (p.1, p.2) (stopped (origin_by head.ascent head.descent asked) (success (tt {0})) (place_causes asked) off).1
+
+pub returns : goal.returns
+returns c =
+    let asked = plain c.args.text.now c.args.placement c.args.vertical_pos in
+    let head = c.args.font.head in
+    let f : FitsSigned w8 head.ascent = search rules in
+    let g : FitsSigned w8 head.descent = search rules in
+    let passes = sym {b = checked_origin head.ascent head.descent asked} (simp (to_z-of_z, f, g) at c.in_ok-origin.ensures) in
+    let k = begun head.ascent head.descent asked passes in (
+      k.0,
+      record {
+        bytes = refl;
+        pen = rw (c.new-pen.ensures, ← k.1, origin_read c.args.font.opened asked) refl;
+        checked = rw (c.new-pen.ensures, ← k.1) (placed_checked head.ascent head.descent asked f g k.0);
+      },
+    )
