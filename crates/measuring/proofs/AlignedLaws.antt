@@ -1,7 +1,7 @@
 -- What the tests leave of a call. Assumes nothing.
 use Rattle.integers.proofs.Prelude.{◌≡◌, refl, sym, ap, subst, ◌∙◌, false, List, ℕ}
 use Rattle.definitions.specs.Vocabulary.{Error, Report, RenderedDimensions, HorizontalAlignment, VerticalPosition, Placement}
-use Rattle.definitions.specs.Refusals.{success, error_number, code_point, any_applies, outcome}
+use Rattle.definitions.specs.Refusals.{error_number, code_point, any_applies}
 use Rattle.definitions.specs.Text.{dimensions}
 use Rattle.definitions.specs.Font.{u8g2, measured_answer}
 use Rattle.definitions.specs.Calls.{Request, request, plain, code_points_of, origin, measure_causes, measured_text, measure}

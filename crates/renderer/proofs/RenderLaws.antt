@@ -1,5 +1,5 @@
 -- What the causes leave of a call that draws. Assumes nothing.
-use Rattle.integers.proofs.Prelude.{◌≡◌, refl, sym, ap, subst, ◌∙◌, false, List, [], ◌∷◌, ℕ, length}
+use Rattle.integers.proofs.Prelude.{◌≡◌, refl, sym, ap, subst, ◌∙◌, false, List, ℕ, length}
 use Rattle.definitions.specs.Vocabulary.{FontReader, Framebuffer, Point, RenderedDimensions, FontColor, Error, Report, HorizontalAlignment, VerticalPosition, Placement}
 use Rattle.definitions.specs.Refusals.{Outcome, success, error_number, code_point, Cause, any_applies, outcome}
 use Rattle.definitions.specs.Header.{font_causes}
@@ -7,7 +7,7 @@ use Rattle.definitions.specs.Text.{dimensions}
 use Rattle.definitions.specs.Font.{u8g2}
 use Rattle.definitions.specs.Framebuffer.{framebuffer_cause}
 use Rattle.definitions.specs.Limits.{background_cause}
-use Rattle.definitions.specs.Calls.{open_font, Request, request, plain, origin, drawn_text, draw_causes, draw, draw_buffer}
+use Rattle.definitions.specs.Calls.{open_font, Request, request, plain, drawn_text, draw_causes, draw, draw_buffer}
 use Rattle.definitions.specs.Sums.{sums}
 use Rattle.definitions.proofs.SumsLaws.{no_sums, refused_early}
 use Rattle.definitions.proofs.OpenedLaws.{passes_font}

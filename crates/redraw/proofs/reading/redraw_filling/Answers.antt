@@ -1,16 +1,13 @@
 -- A refused step is that of its causes; else the old reading is cleared and the new one drawn (RedrawLaws).
-use Rattle.integers.proofs.Prelude.{◌≡◌, sym, ap, subst, ◌∙◌, List, ℕ, rules}
+use Rattle.integers.proofs.Prelude.{sym, ap, subst, ◌∙◌, ℕ}
 use Rattle.definitions.specs.Vocabulary.{Report, RenderedDimensions}
-use Rattle.definitions.specs.Refusals.{Outcome, outcome}
+use Rattle.definitions.specs.Refusals.{outcome}
 use Rattle.definitions.specs.Font.{u8g2}
 use Rattle.definitions.specs.Sums.{sums}
 use Rattle.definitions.proofs.SumsLaws.{no_sums}
-use Rattle.checks.specs.declared.origin.Pen.{Pen}
 use Rattle.redraw_checks.specs.Drawing.{asked, ground_of}
 use Rattle.redraw_checks.proofs.ChecksLaws.{checks_early}
-use Rattle.renderer.specs.Texts.{counted_with}
 use Rattle.redraw.specs.Contexts.{FitsPlace}
-use Rattle.redraw.specs.Redraw.{Cleared, ReadingDrawn}
 use Rattle.redraw.proofs.RedrawLaws.{stops, stays, answers, leaves}
 use Rattle.redraw.proofs.reading.redraw_filling.Goals as goal
 

@@ -7,7 +7,6 @@ use Rattle.definitions.specs.Framebuffer.{framebuffer_cause}
 use Rattle.definitions.specs.Limits.{background_off, background_cause}
 use Rattle.definitions.specs.Calls.{Request, plain}
 use Rattle.definitions.proofs.OpenedLaws.{opened}
-use Rattle.checks.specs.declared.origin.Setup.{Setup}
 use Rattle.checks.specs.Setups.{SetFor}
 use Rattle.checks.proofs.LimitLaws.{color_is}
 use Rattle.checks.proofs.SizeLaws.{size_fits}
