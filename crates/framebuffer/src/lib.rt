@@ -8,6 +8,7 @@ ghost use Rattle.framebuffer.specs.Areas.{clamped};
 ghost use Rattle.framebuffer.specs.Columns.{Filled};
 
 // The nearest number from 0 to `limit`. `i64::clamp` would take the limit as an `i64`, and not each `usize` is one.
+#[tactic(auto, using(crate::proofs::ClampLaws::clamped_max))]
 pub fn clamp(z: i64, limit: usize) -> usize
     ensures { result ≡ clamped z limit }
 {

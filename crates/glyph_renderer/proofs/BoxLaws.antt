@@ -1,9 +1,9 @@
 -- A glyph's box, and the part of it that lies on the framebuffer. Assumes nothing.
-use Rattle.integers.proofs.Prelude.{◌≡◌, sym, ap, Bool, true, false, ◌||◌, List, ℕ, ◌≤◌, ◌<◌, arith, eqb, pos, length}
+use Rattle.integers.proofs.Prelude.{◌≡◌, sym, ap, subst, Bool, true, false, ◌||◌, List, ℕ, ◌≤◌, ◌<◌, arith, eqb, pos, length}
 use Rattle.integers.proofs.Choices.{impossible}
 use Rattle.integers.specs.Integers.{pick}
 use Rattle.integers.proofs.Laws.{zarith, plus}
-use Rattle.definitions.specs.Vocabulary.{None, Some, Rectangle, GlyphReader, FontColor, Framebuffer}
+use Rattle.definitions.specs.Vocabulary.{BoundingBox, None, Some, Rectangle, GlyphReader, FontColor, Framebuffer}
 use Rattle.definitions.specs.Geometry.{left, top}
 use Rattle.definitions.specs.Picture.{rectangle_picture}
 use Rattle.definitions.specs.Framebuffer.{shown}
@@ -32,6 +32,10 @@ box_area g area b =
       left = record { low = omega (zarith, c.low); high = omega (zarith, c.high, plus (left area) (pos area.size.width)) };
       top = record { low = omega (zarith, r.low); high = omega (zarith, r.high, plus (top area) (pos area.size.height)) };
     }
+
+-- the same of a box that is an area
+pub area_of_box : {g : GlyphReader} {area : Rectangle} {b : BoundingBox} → b ≡ Some area → GlyphBox g b → GlyphArea g area
+area_of_box {g} {area} e b = box_area g area (subst (λ (x : BoundingBox). GlyphBox g x) e b)
 
 module _ {g : GlyphReader} {r : Rectangle} (a : GlyphArea g r) (framebuffer : Framebuffer) {part : VisiblePart} (e : part ≡ visible_part r.top_left g framebuffer) where
   pub columns_seen : part.columns.start < part.columns.end

@@ -1,7 +1,8 @@
 -- Drawing the ones of a glyph stretch by stretch. Assumes nothing.
-use Rattle.integers.proofs.Prelude.{◌≡◌, refl, sym, ap, ◌∙◌, Bool, true, false, ◌&&◌, List, ℕ, ◌+◌, ◌-◌, ◌*◌, ◌≤◌, ◌<◌, max, mul-le-mul_right, dec_lt}
+use Rattle.integers.proofs.Prelude.{◌≡◌, refl, sym, ap, ◌∙◌, Bool, true, false, List, ℕ, ◌+◌, ◌-◌, ◌*◌, ◌≤◌, ◌<◌, max, mul-le-mul_right, dec_lt}
 use Rattle.integers.proofs.Prelude.{arith, lt-ltb, le-leb, eq-eqb, ltb-true, leb-true, eqb-true, length, get_or}
 use borrow.Rule.Slice.PartMut.{mid_of, put_mid}
+use Rattle.std.proofs.lemmas.Bool.{and_parts}
 use Rattle.integers.proofs.Choices.{impossible}
 use Rattle.integers.specs.Integers.{pick}
 use Rattle.definitions.specs.Picture.{Paint, keep, put}
@@ -21,18 +22,14 @@ pub record Hit (s : Ones) (p column y : ℕ) : Type 0 where
   pub drawn : pixel_at s column y < p
   pub one : get_or s.ps (s.start + pixel_at s column y) 0 ≡ 1
 
-both : (a b : Bool) → a && b ≡ true → (a ≡ true) × (b ≡ true)
-both true b e = (refl, e)
-both false b e = impossible cc
-
 module _ (s : Ones) (column y : ℕ) where
   is_hit : (p : ℕ) → inked s p column y ≡ true → Hit s p column y
   is_hit p e =
-      let a = both _ _ e in
-      let b = both _ _ a.1 in
-      let c = both _ _ b.1 in
-      let d = both _ _ c.1 in
-      let f = both _ _ d.1 in
+      let a = and_parts _ _ e in
+      let b = and_parts _ _ a.1 in
+      let c = and_parts _ _ b.1 in
+      let d = and_parts _ _ c.1 in
+      let f = and_parts _ _ d.1 in
       record {
         below = leb-true s.top y a.0;
         above = ltb-true y (s.top + s.rows) b.0;

@@ -1,5 +1,5 @@
 -- The visible part of a glyph lies in the glyph and on the framebuffer. Assumes nothing.
-use Rattle.integers.proofs.Prelude.{◌≡◌, refl, List, ℕ, ◌+◌, ◌-◌, ◌*◌, ◌≤◌, ◌<◌, add-mul, mul-le-mul_right, mul-le-mul, mul_comm, arith, length}
+use Rattle.integers.proofs.Prelude.{◌≡◌, refl, List, ℕ, ◌+◌, ◌-◌, ◌*◌, ◌≤◌, add-mul, mul-le-mul_right, mul-le-mul, mul_comm, arith, length}
 use Rattle.definitions.specs.Vocabulary.{FontReader, GlyphReader, Framebuffer}
 use Rattle.runs.specs.declared.Runs.{Runs}
 use Rattle.visible_part.specs.declared.VisiblePart.{VisiblePart}
@@ -17,12 +17,6 @@ module _ {g : GlyphReader} {part : VisiblePart} {framebuffer : Framebuffer} {byt
         mul_comm g.glyph_width g.glyph_height,
       )
 
-  -- the first visible row's first pixel
-  pub first_pixel : part.rows.start * g.glyph_width < g.glyph_width * g.glyph_height
-  first_pixel =
-      let k : 1 ≤ part.rows.end - part.rows.start = omega (arith, f.some_rows) in
-      omega (arith, rows_in, mul-le-mul_right g.glyph_width k, f.some_columns, f.in_width)
-
   pub part_lies : (ps : List ℕ) (value : ℕ) {entry : List ℕ} → bytes ≡ length entry
       → Lies (ones_of ps g.glyph_width part value) (g.glyph_width * g.glyph_height) framebuffer.width entry
   part_lies ps value e = record {
@@ -35,11 +29,6 @@ module _ {g : GlyphReader} {part : VisiblePart} {framebuffer : Framebuffer} {byt
 
   pub part_small : bytes ≤ 65536
   part_small = omega (arith, f.window.area, mul-le-mul f.window.wide f.window.high)
-
-  pub line_small : part.top * framebuffer.width + part.left ≤ 65536
-  line_small =
-      let k : part.top + 1 ≤ framebuffer.height = omega (arith, f.bottom, f.some_rows) in
-      omega (arith, part_small, f.window.area, mul-le-mul_right framebuffer.width k, mul_comm framebuffer.width framebuffer.height, f.right)
 
 module _ {font : List ℕ} {head : FontReader} {g : GlyphReader} {part : VisiblePart} {value : ℕ} {framebuffer : Framebuffer} {entry buffer : List ℕ}
     {runs : Runs} {from to line left : ℕ} (p : PartDrawable font head g part framebuffer (length entry))

@@ -1,5 +1,5 @@
 -- The reading of runs pair by pair gives the glyph's pixels. Assumes nothing.
-use Rattle.integers.proofs.Prelude.{◌≡◌, refl, sym, ◌∙◌, Bool, true, false, List, [], ℕ, ◌+◌, ◌-◌, ◌*◌, ◌≤◌, ◌<◌, eqb, length, drop, le-leb, lt-leb}
+use Rattle.integers.proofs.Prelude.{◌≡◌, refl, sym, ap, ◌∙◌, Bool, true, false, List, [], ℕ, ◌+◌, ◌-◌, ◌*◌, ◌≤◌, ◌<◌, eqb, length, drop, le-leb, lt-leb}
 use Rattle.integers.proofs.Prelude.{eq-eqb, ne_eqb}
 use Rattle.integers.specs.Integers.{pick}
 use Rattle.definitions.specs.Vocabulary.{FontReader, GlyphReader}
@@ -52,6 +52,11 @@ pub record CountedTo (font : List ℕ) (m0 m1 limit n : ℕ) (first : Runs) (mis
   pub limited : limit ≡ 8 * length font
   pub short : Short runs
   pub same : whole font m0 m1 n first ≡ whole font m0 m1 missing runs
+
+-- So it is whether the font has the glyph's pixels that are missing from there on.
+pub counted_from : {font : List ℕ} {m0 m1 limit n missing : ℕ} {first r : Runs} (at : ℕ) → CountedTo font m0 m1 limit n first missing r
+    → in_font font first ≡ pair_at font m0 m1 at → is_whole (runs m0 m1 n (drop at (bits font))) ≡ whole font m0 m1 missing r
+counted_from {font} {m0} {m1} {limit} {n} at c e = ap is_whole (first_gives font m0 m1 n at) ∙ rw (sym e) c.same
 
 -- ---- whether the font has all of the runs
 

@@ -68,3 +68,8 @@ stands_first {font} {head} {g} {i} {q} p e =
     let h = had font q (given font head.m0 head.m1 n) (pixels_of (u8g2 font) g)
     (rw e (sym (some_pixels font head g (λ z. omega (arith, p.within)) ∙ first_gives font head.m0 head.m1 n g.bit_pos) ∙ all)) in
     record { before = 0; index = omega arith; rest = rw sub-zero h.1; place = h.0 }
+
+-- So the pair and the offset that the first pair leads to are at the pixel.
+pub leads_there : {font : List ℕ} {head : FontReader} {g : GlyphReader} {i offset : ℕ} {q r : Runs} → CheckedPixel font head g i
+    → in_font font q ≡ pair_at font head.m0 head.m1 g.bit_pos → Leads font head.m0 head.m1 i q i r offset → StandsAt font head g r offset i
+leads_there p e l = l.leads _ _ p.within (stands_first p e)

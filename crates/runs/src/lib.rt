@@ -34,6 +34,7 @@ impl Runs {
 }
 
 // Whether the font has all of a glyph's runs.
+#[tactic(auto, using(crate::proofs::RunReadsLaws::no_pixels, crate::proofs::RunReadsLaws::some_pixels))]
 pub fn check_runs(font: &OpenedFont, glyph: GlyphReader) -> bool
     requires { glyph.bit_pos ≤ 8 * length font.now.bytes.now }
     ensures { result ≡ is_whole (glyph_pixels font.now.bytes.now font.now.head glyph) }

@@ -7,9 +7,8 @@ use Rattle.definitions.specs.Picture.{box_picture}
 use Rattle.definitions.specs.Framebuffer.{shown}
 use Rattle.definitions.proofs.FramebufferLaws.{length_map_at, shown_blank}
 use Rattle.framebuffer.specs.Areas.{BufferFits}
-use Rattle.glyph_renderer.specs.Drawing.{GlyphBox, GlyphArea}
 use Rattle.glyph_renderer.proofs.RectangleLaws.{draws_transparent, draws_background}
-use Rattle.glyph_renderer.proofs.BoxLaws.{box_area, columns_seen, rows_seen, part_fits, beside, above_or_below}
+use Rattle.glyph_renderer.proofs.BoxLaws.{area_of_box, columns_seen, rows_seen, part_fits, beside, above_or_below}
 use Rattle.glyph_renderer.proofs.render_glyph.Goals as goal
 use Rattle.glyph_renderer.proofs.render_glyph.Goals.{then-is_empty-via-then-is_empty, then-is_empty-via-else-is_empty+then-is_empty-2, in-Transparent, in-WithBackground}
 
@@ -23,7 +22,7 @@ pub returns-then-is_empty : goal.returns-then-is_empty
 returns-then-is_empty c =
     let a = c.args in
     let ps = pixels_of (u8g2 a.font.now.bytes.now) a.glyph in
-    let g : GlyphArea a.glyph c.in-Some.area = box_area a.glyph c.in-Some.area (subst (λ (b : BoundingBox). GlyphBox a.glyph b) c.in-Some.is c.requires.box) in
+    let g = area_of_box c.in-Some.is c.requires.box in
     let e = c.get_visible_part-part.ensures in
     sym (ap (λ (b : BoundingBox). shown a.framebuffer.width (box_picture a.color ps b) a.buffer.now) c.in-Some.is
     ∙ elim c.then-is_empty.branch [
@@ -34,7 +33,7 @@ returns-then-is_empty c =
 pub draw_rows-requires : goal.draw_rows-requires
 draw_rows-requires c =
     let a = c.args in
-    let g : GlyphArea a.glyph c.in-Some.area = box_area a.glyph c.in-Some.area (subst (λ (b : BoundingBox). GlyphBox a.glyph b) c.in-Some.is c.requires.box) in
+    let g = area_of_box c.in-Some.is c.requires.box in
     -- the background keeps the buffer's length
     let same_size : length c.match-color.buffer ≡ length a.buffer.now =
     elim c.match-color.branch [ in-Transparent w ↦ ap length w.buffer-is | in-WithBackground w ↦ ap length (w.buffer-is ∙ w.fill_box.ensures) ∙ simp length_map_at ]
@@ -49,7 +48,7 @@ pub returns : goal.returns
 returns c =
     let a = c.args in
     let part = c.get_visible_part-part in
-    let g : GlyphArea a.glyph c.in-Some.area = box_area a.glyph c.in-Some.area (subst (λ (b : BoundingBox). GlyphBox a.glyph b) c.in-Some.is c.requires.box) in
+    let g = area_of_box c.in-Some.is c.requires.box in
     let x = columns_seen g a.framebuffer part.ensures (search rules) in
     let y = rows_seen g a.framebuffer part.ensures (search rules) in
     c.draw_rows.ensures

@@ -2,7 +2,7 @@
 use Rattle.integers.proofs.Prelude.{◌≡◌, refl, ap, ℕ, ◌+◌, ◌-◌, arith}
 use Rattle.std.proofs.Common.{rules}
 use Rattle.rows.proofs.StateLaws.{at_start, at_row, all_rows, at_next}
-use Rattle.rows.proofs.PartLaws.{part_lies, room, room_small}
+use Rattle.rows.proofs.PartLaws.{part_lies, room}
 use Rattle.rows.proofs.draw_rows.Goals as goal
 
 pub pairs-init : goal.pairs-init
@@ -16,14 +16,8 @@ pairs-init c =
           c.saturating_sub-from.ensures (ap (λ (k : ℕ). k - place.result.offset) c.count.ensures);
     }
 
-pub overflow_add-end : goal.overflow_add-end
-overflow_add-end c = omega (arith, room_small c.requires c.loop-to.invariant)
-
 pub slice_bounds-fill_columns-end : goal.slice_bounds-fill_columns-end
 slice_bounds-fill_columns-end c = let r = room c.requires c.loop-to.invariant in search rules
-
-pub overflow_sub-left-in-loop-to : goal.overflow_sub-left-in-loop-to
-overflow_sub-left-in-loop-to c = omega (arith, c.loop-to.invariant.at.some)
 
 pub loop-to-preserved : goal.loop-to-preserved
 loop-to-preserved c =
@@ -38,21 +32,8 @@ loop-to-preserved c =
           (at_row (part_lies c.requires.fits _ _ refl) l.invariant.at k (rw wide at c.loop-to-test.true) (omega (arith, l.invariant.at.some)) (rw wide at c.fill_columns.ensures));
     }
 
-pub overflow_add-end-in-pairs : goal.overflow_add-end-in-pairs
-overflow_add-end-in-pairs c = omega (arith, room_small c.requires c.loop-to.invariant)
-
 pub slice_bounds-fill_columns-end-in-pairs : goal.slice_bounds-fill_columns-end-in-pairs
 slice_bounds-fill_columns-end-in-pairs c = let r = room c.requires c.loop-to.invariant in search rules
-
-pub next_pair-runs-requires : goal.next_pair-runs-requires
-next_pair-runs-requires c =
-    let p = c.loop-to.invariant.at.stands.place in
-    let short = c.loop-to.invariant.short in
-    let checked = c.requires.checked in
-    search rules
-
-pub pairs-smaller : goal.pairs-smaller
-pairs-smaller c = omega (arith, c.loop-to.invariant.at.stands.place, c.next_pair-runs.ensures.later)
 
 pub pairs-preserved : goal.pairs-preserved
 pairs-preserved c =
