@@ -81,7 +81,7 @@ fn draw_input<R: Files + Print + Eprint + Alloc, I: Read>(
     let mut text = [0u8; 4097];
     let text = system::read_full(input, &mut text);
     let mut buffer = [EMPTY; 65536];
-    let align = options.align.unwrap_or(HorizontalAlignment::Left);
+    let align = options.align.unwrap_or_default();
     let color = color(options.background);
     let drawing = draw_whole(font, text, align, color, &mut buffer);
     show(rt, drawing, options, &buffer);

@@ -45,17 +45,17 @@ module _ (font : List ℕ) (r : Request) (color : FontColor) (p : Framebuffer) (
     abbrev color_cause : Cause
     color_cause = background_cause color (u8g2 font).background
 
-    abbrev pen_at : Point → Pen
-    pen_at q = record { origin = q; line_height = r.line_height; ignore_unknown_chars = r.skip }
+    abbrev pen_from : Point → Pen
+    pen_from q = record { origin = q; line_height = r.line_height; ignore_unknown_chars = r.skip }
 
     pub drawn_whole_lem : color_cause.applies ≡ false
-        → Defined (counted_with font r.text r.align (pen_at o)) (drawn_with font r.text r.align (pen_at o) context buffer)
+        → Defined (counted_with font r.text r.align (pen_from o)) (drawn_with font r.text r.align (pen_from o) context buffer)
     unfolding draw draw_buffer
     drawn_whole_lem e =
         let placed = (begun head.ascent head.descent r passes).0 in
         let whole = comes_passed (font_causes font) (passes_font font opens)
         (comes_off (framebuffer_cause p buffer) size (comes_passed (place_causes r) placed (comes_off color_cause e comes_none))) in
-        subst (λ (q : Point). Defined (counted_with font r.text r.align (pen_at q)) (drawn_with font r.text r.align (pen_at q) context buffer))
+        subst (λ (q : Point). Defined (counted_with font r.text r.align (pen_from q)) (drawn_with font r.text r.align (pen_from q) context buffer))
         (origin_is font opens r passes) (whole.answered, whole.held)
 
 -- ---- the call

@@ -1,11 +1,13 @@
 -- Causes 4 and 5 are tested by the origin, which is the font's since the header is that of its bytes.
 use Rattle.std.proofs.lemmas.Result.{err_from_is_err_and}
-use Rattle.std.proofs.Common.{rules, refl, sym, w8, FitsSigned}
+use Rattle.std.proofs.Common.{rules, ◌≡◌, refl, sym, ap, subst, ◌∙◌, w8, FitsSigned}
 use Rattle.integers.proofs.Prelude.{to_z-of_z}
+use Rattle.definitions.specs.Vocabulary.{Point}
 use Rattle.definitions.specs.Refusals.{success}
-use Rattle.definitions.specs.Calls.{plain}
+use Rattle.definitions.specs.Font.{u8g2}
+use Rattle.definitions.specs.Calls.{plain, origin}
 use Rattle.definitions.proofs.RefusalLaws.{stopped}
-use Rattle.checks.specs.Origins.{origin_by, place_causes, checked_origin}
+use Rattle.checks.specs.Origins.{origin_by, place_causes, checked_origin, Checked}
 use Rattle.checks.proofs.OriginLaws.{begun, placed_checked, origin_read}
 use Rattle.checks.proofs.origin.Setup.checked.Goals as goal
 
@@ -26,11 +28,14 @@ returns c =
     let f : FitsSigned w8 head.ascent = search rules in
     let g : FitsSigned w8 head.descent = search rules in
     let passes = sym {b = checked_origin head.ascent head.descent asked} (simp (to_z-of_z, f, g) at c.in_ok-origin.ensures) in
-    let k = begun head.ascent head.descent asked passes in (
+    let k = begun head.ascent head.descent asked passes in
+    let begins : c.in_ok-origin.origin ≡ origin (u8g2 c.args.font.bytes.now) asked = sym k.1 ∙ origin_read c.args.font.opened asked in
+    let sound = placed_checked head.ascent head.descent asked f g k.0 in (
       k.0,
       record {
         bytes = refl;
-        pen = rw (c.new-pen.ensures, ← k.1, origin_read c.args.font.opened asked) refl;
-        checked = rw (c.new-pen.ensures, ← k.1) (placed_checked head.ascent head.descent asked f g k.0);
+        pen = c.new-pen.ensures
+        ∙ ap (λ (o : Point). record { origin = o; line_height = asked.line_height; ignore_unknown_chars = asked.skip }) begins;
+        checked = rw c.new-pen.ensures (subst (λ (o : Point). Checked asked.text o asked.line_height) k.1 sound);
       },
     )
