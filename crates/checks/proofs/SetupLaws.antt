@@ -1,6 +1,6 @@
 -- What the tests of a call on a text leave of it: those of the font, then others, then those of the text and its place, then the
 -- last. Assumes nothing.
-use Rattle.integers.proofs.Prelude.{◌≡◌, refl, sym, ◌∙◌, true, false, List, [], ◌∷◌, ◌++◌, ℕ}
+use Rattle.integers.proofs.Prelude.{◌≡◌, sym, ◌∙◌, true, false, List, [], ◌∷◌, ◌++◌, ℕ}
 use Rattle.definitions.specs.Vocabulary.{FontReader}
 use Rattle.definitions.specs.Refusals.{success, refused, Cause, unless_refused, any_applies}
 use Rattle.definitions.specs.Header.{header, font_causes}

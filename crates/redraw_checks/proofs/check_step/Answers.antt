@@ -1,7 +1,7 @@
 -- The causes are tested in the definition's order: the framebuffer and the old text between the font and the new text, and the
 -- colour last.
 use Rattle.std.proofs.lemmas.Result.{err_from_is_err_and}
-use Rattle.integers.proofs.Prelude.{◌≡◌, refl, sym, ap, subst, ◌∙◌, false, List, [], ◌∷◌, ℕ, w8, SFits, to_z-of_z, rules}
+use Rattle.integers.proofs.Prelude.{◌≡◌, refl, sym, ap, ◌∙◌, false, List, [], ◌∷◌, w8, SFits, to_z-of_z, rules}
 use Rattle.definitions.specs.Vocabulary.{Point}
 use Rattle.definitions.specs.Refusals.{Cause, any_applies}
 use Rattle.definitions.specs.Header.{Opened}
@@ -11,9 +11,7 @@ use Rattle.definitions.specs.Font.{u8g2}
 use Rattle.definitions.specs.Calls.{Request}
 use Rattle.definitions.proofs.OpenedLaws.{opened}
 use Rattle.definitions.proofs.RefusalLaws.{each_off}
-use Rattle.checks.specs.declared.origin.Setup.{Setup}
-use Rattle.checks.specs.Origins.{origin_by, place_causes, Checked}
-use Rattle.checks.specs.Setups.{SetFor}
+use Rattle.checks.specs.Origins.{place_causes}
 use Rattle.checks.proofs.OriginLaws.{origin_read, placed_checked}
 use Rattle.checks.proofs.LimitLaws.{color_is}
 use Rattle.checks.proofs.SizeLaws.{size_fits}
