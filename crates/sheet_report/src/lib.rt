@@ -11,9 +11,9 @@ use types::geometry::RenderedDimensions;
 // Readings one after the other that are refused for one cause, the first and the last of them.
 #[derive(Clone, Copy, Debug, PartialEq, Eq)]
 pub struct Refusals {
-    first: usize,
-    last: usize,
-    error: Error,
+    pub first: usize,
+    pub last: usize,
+    pub error: Error,
 }
 
 impl fmt::Display for Refusals {
