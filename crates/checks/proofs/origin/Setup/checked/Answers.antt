@@ -35,7 +35,7 @@ returns c =
       record {
         bytes = refl;
         pen = c.new-pen.ensures
-        ∙ ap (λ (o : Point). record { origin = o; line_height = asked.line_height; ignore_unknown_chars = asked.skip }) begins;
+            ∙ ap (λ (o : Point). record { origin = o; line_height = asked.line_height; ignore_unknown_chars = asked.skip }) begins;
         checked = rw c.new-pen.ensures (subst (λ (o : Point). Checked asked.text o asked.line_height) k.1 sound);
       },
     )
