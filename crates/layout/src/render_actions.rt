@@ -1,5 +1,5 @@
 // Where a glyph lies, and by how much an aligned line is moved.
-ghost use Rattle.std.specs.Prelude.{◌≡◌, pos, ◌+ℤ◌, ◌-ℤ◌};
+ghost use Rattle.std.specs.Prelude.{◌≡◌, ◌+ℤ◌, ◌-ℤ◌};
 ghost use Rattle.definitions.specs.Text.{box_at, horizontal_offset};
 ghost use Rattle.layout.specs.Offsets.{center_offset};
 ghost use Rattle.layout.specs.Ranges.{Near, LineInReach};

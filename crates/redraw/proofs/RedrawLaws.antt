@@ -34,6 +34,10 @@ use Rattle.checks.specs.Origins.{pen_of}
 use Rattle.checks.specs.Setups.{Refuse}
 use Rattle.redraw_checks.specs.Checks.{redraw_causes}
 
+-- Of what `redraw` ensures: the answer, what is shown, and what that leaves of a reading.
+abbrev pub shown_by : {A B C : Type 0} → A × (B × C) → B
+shown_by ensured = ensured.1.0
+
 -- the framebuffer keeps its length
 length_by : (t : Bool) (width : ℕ) (picture : Picture) (before : List ℕ) → length (pick t before (shown width picture before)) ≡ length before
 length_by true width picture before = refl
