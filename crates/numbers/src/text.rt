@@ -1,10 +1,9 @@
 ghost use Rattle.std.specs.Prelude.{◌≡◌, ◌∷◌, ◌++◌, ◌+◌, ◌≤◌, [], length, take, IsUtf8};
 ghost use Rattle.numbers.specs.Decimal.{decimal, signed_decimal};
 
-use std::fmt;
 use std::fmt::Write;
 use std::marker::Model;
-use std::str;
+use std::{fmt, str};
 
 // A text of at most `N` bytes, written from its start on.
 #[derive(Drop)]

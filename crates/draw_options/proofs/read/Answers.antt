@@ -12,9 +12,6 @@ no_words_lem = refl
 one_more : {o : Options} (words : List (List ℕ)) (word : List ℕ) → Ok o ≡ with_words no_words words → with_word o word ≡ with_words no_words (words ++ word ∷ [])
 one_more words word e = ap (λ (r : Result Options UnknownWord). with_next r word) e ∙ sym (fold-append with_next (Ok no_words) words (word ∷ []))
 
-pub loop-word-init : goal.loop-word-init
-loop-word-init g c = (tt, tt, ([], grind arith))
-
 pub loop-word-preserved : goal.loop-word-preserved
 loop-word-preserved g c =
     let words = c.loop-word.invariant.2 in
