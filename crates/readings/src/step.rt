@@ -80,7 +80,8 @@ fn next_old(
     if is_taken(answer) { Some(k) } else { old }
 }
 
-// The step, watched.
+// The step, watched. Ground, screen and alone are three slices here and in sheet_program: of a struct of them each function would
+// have to promise besides that the references in it stay the same.
 pub fn step(
     font: &[u8],
     old: Option<usize>,

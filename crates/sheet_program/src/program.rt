@@ -31,15 +31,7 @@ fn fill_sheet<R: Files + Print>(
     screen.copy_from_slice(&ground[..]);
     let mut cells = cells::create(rt, place.framebuffer);
     let trial = Trial { place, narrow };
-    run(
-        rt,
-        font,
-        trial,
-        &ground[..],
-        screen,
-        alone,
-        &mut cells,
-    )
+    run(rt, font, trial, &ground[..], screen, alone, &mut cells)
 }
 
 // The same on buffers for the largest framebuffers, of 256 × 256 pixels. Whatever the font, the anchor, the alignment and the place,
