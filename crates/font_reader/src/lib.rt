@@ -56,7 +56,7 @@ fn get_default_line_height(font: &[u8]) -> u32
     requires { (23 ≤ length font.now) × (pos 0 ≤ℤ signed_byte font.now 10) }
     ensures { result ≡ default_line_height font.now }
 {
-    (font[10] as u32) + 1
+    u32::from(font[10]) + 1
 }
 
 #[tactic(auto, unfolding(definitions::specs::Header::header))]

@@ -13,7 +13,7 @@ pub fn moved(x: i32, by: i8) -> i32
     requires { Near x }
     ensures { result ≡ x +ℤ by }
 {
-    x + (by as i32)
+    x + i32::from(by)
 }
 
 // The top edge of a box of that height: the offset counts upwards, from the place to the box's lowest row.
@@ -21,7 +21,7 @@ pub fn top(y: i32, height: i32, offset_y: i8) -> i32
     requires { Near y × Near height }
     ensures { result ≡ y -ℤ (height +ℤ offset_y) }
 {
-    y - (height + (offset_y as i32))
+    y - (height + i32::from(offset_y))
 }
 
 // The bounding box of a glyph at a place. A glyph without pixels has none.
@@ -38,8 +38,8 @@ pub fn get_glyph_bounding_box(glyph: GlyphReader, x: i32, y: i32) -> Option<Rect
             y: top(y, i32::from(glyph.glyph_height), glyph.offset_y),
         },
         size: Size {
-            width: glyph.glyph_width as u32,
-            height: glyph.glyph_height as u32,
+            width: u32::from(glyph.glyph_width),
+            height: u32::from(glyph.glyph_height),
         },
     })
 }

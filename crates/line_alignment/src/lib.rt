@@ -26,8 +26,7 @@ fn move_pen(pen: Pen, x: i32) -> Pen
             x: origin.x + x,
             y: origin.y,
         },
-        line_height: pen.line_height,
-        ignore_unknown_chars: pen.ignore_unknown_chars,
+        ..pen
     }
 }
 
@@ -45,8 +44,7 @@ pub fn align_pen(
 {
     let start = Pen {
         origin: Point { x: 0, y: 0 },
-        line_height: pen.line_height,
-        ignore_unknown_chars: pen.ignore_unknown_chars,
+        ..pen
     };
     let measured = measure_lines(font, line, HorizontalAlignment::Left, start);
     match measured.result {

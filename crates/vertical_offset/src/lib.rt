@@ -17,8 +17,8 @@ pub fn compute_vertical_offset(
     requires { (newline_count ≤ 4096) × (line_height ≤ 65535) }
     ensures { result ≡ vertical_offset vertical_pos (pos (newline_count * line_height)) ascent descent }
 {
-    let ascent = ascent as i32;
-    let descent = descent as i32;
+    let ascent = i32::from(ascent);
+    let descent = i32::from(descent);
     let total_newline_advance = (newline_count * line_height) as i32;
     match vertical_pos {
         VerticalPosition::Baseline => 0,
