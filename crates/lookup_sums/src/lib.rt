@@ -6,7 +6,7 @@ ghost use Rattle.integers.specs.Integers.{pick};
 ghost use Rattle.definitions.specs.Refusals.{error_number};
 ghost use Rattle.definitions.specs.Lookup.{no_steps};
 ghost use Rattle.definitions.specs.Sums.{plus_steps, Fits32};
-ghost use Rattle.lookup_sums.specs.Reports.{refused_report, box_report};
+ghost use Rattle.lookup_sums.specs.Reports.{stopped_report, refused_report, box_report};
 
 use types::error::Error;
 use types::geometry::{Rectangle, RenderedDimensions};
@@ -30,6 +30,16 @@ pub fn sum_with(error: Error, sum: LookupSteps) -> LookupSteps
     match error {
         Error::GlyphNotFound(_) => sum,
         _ => LookupSteps::default(),
+    }
+}
+
+// The report of a text that a character stops, whose sum so far has the steps of that character too.
+pub fn stopped(error: Error, sum: LookupSteps) -> Report<RenderedDimensions>
+    ensures { result ≡ stopped_report error sum }
+{
+    Report {
+        result: Err(error),
+        steps: sum_with(error, sum),
     }
 }
 

@@ -1,11 +1,9 @@
 -- The search's answer decides; a glyph that is found begins within the font.
-use Rattle.std.specs.Prelude.{Ok, Err}
-use Rattle.integers.proofs.Prelude.{◌≡◌, refl, sym, ap, ◌∙◌, List, ℕ, ◌*◌}
-use Rattle.integers.proofs.Choices.{impossible}
-use Rattle.types.specs.declared.error.Error.TheVariants.{GlyphNotFound, FontEnds}
-use Rattle.definitions.specs.Refusals.{refusal, outcome}
-use Rattle.definitions.specs.Vocabulary.{Error, FontReader, GlyphReader, Report}
-use Rattle.definitions.specs.Header.{header, Opened}
+use Rattle.std.specs.Prelude.{Result, Err, IfOk, MatchResult}
+use Rattle.integers.proofs.Prelude.{◌≡◌, refl, sym, ap, ◌∙◌, List, ℕ, ◌≤◌, ◌*◌, length}
+use Rattle.definitions.specs.Refusals.{outcome}
+use Rattle.definitions.specs.Vocabulary.{Error, FontReader, GlyphReader}
+use Rattle.definitions.specs.Header.{Opened}
 use Rattle.definitions.specs.Lookup.{Search, found, missing, short, search as lookup, steps_of}
 use Rattle.definitions.specs.Glyph.{fields, from_search, glyph}
 use Rattle.definitions.proofs.LookupLaws.{search_within}
@@ -14,36 +12,25 @@ use Rattle.answers.specs.Lookups.{LookedUp}
 use Rattle.answers.proofs.lookup.retrieve_glyph_data.Goals as goal
 
 -- What the search answers is what the lookup brings.
-module _ {font : List ℕ} {c : ℕ} {s : Search} (e : s ≡ lookup font c) where
-  brought : {r : Report GlyphReader} → outcome r.result ≡ from_search font c s → r.steps ≡ steps_of s → LookedUp font c r
+module _ {font : List ℕ} {head : FontReader} (o : Opened font head) {c : ℕ} {r : Result GlyphReader Error} where
+  brought : {s : Search} → s ≡ lookup font c → outcome r ≡ from_search font c s → LookedUp font c record { result = r; steps = steps_of s }
   unfolding glyph
-  brought a k = record { answered = a ∙ ap (from_search font c) e; counted = k ∙ ap steps_of e }
+  brought e a = record { answered = a ∙ ap (from_search font c) e; counted = ap steps_of e }
 
--- .. where it found a glyph,
-was_found : (s : Search) (c : ℕ) {f : Report ℕ} {start : ℕ} → f ≡ search_report c s → f.result ≡ Ok start → found start f.steps ≡ s
-was_found (found at q) c e k = cc
-was_found (missing q) c e k = impossible cc
-was_found short c e k = impossible cc
+  looked : (s : Search) → s ≡ lookup font c
+      → MatchResult (search_report c s).result (λ start. outcome r ≡ fields font head c (start * 8)) (λ e. r ≡ Err e)
+      → LookedUp font c record { result = r; steps = (search_report c s).steps }
+  looked (found at q) e m = brought e (m ∙ ap (λ (h : FontReader). fields font h c (at * 8)) o.read)
+  looked (missing q) e m = brought e (ap outcome m)
+  looked short e m = brought e (ap outcome m)
 
--- .. and where it did not.
-refused_so : {font : List ℕ} {c : ℕ} (s : Search) {f : Report ℕ} {error : Error} → s ≡ lookup font c → f ≡ search_report c s
-    → f.result ≡ Err error → LookedUp font c record { result = Err error; steps = f.steps }
-refused_so (found at q) e k is = impossible cc
-refused_so {c = c} (missing q) {error = error} e k is =
-    let same : error ≡ GlyphNotFound c = cc in
-    brought e (ap refusal same) (ap (λ (r : Report ℕ). r.steps) k)
-refused_so {c = c} short {error = error} e k is =
-    let same : error ≡ FontEnds c = cc in
-    brought e (ap refusal same) (ap (λ (r : Report ℕ). r.steps) k)
+found_within : (font : List ℕ) (c : ℕ) (s : Search) → s ≡ lookup font c → IfOk (search_report c s).result (λ start. start ≤ length font)
+found_within font c (found at q) e = search_within _ _ _ _ (sym e)
+found_within font c (missing q) e = tt
+found_within font c short e = tt
 
-pub new-requires : goal.new-requires
-new-requires c = search_within _ _ _ _ (sym (was_found _ _ c.search-found.ensures c.in-Ok.is))
+pub read_glyph-requires : goal.read_glyph-requires
+read_glyph-requires c = rw c.search-found.ensures (found_within c.args.font.now.bytes.now c.args.ch _ refl)
 
-pub returns-in-Ok : goal.returns-in-Ok
-returns-in-Ok c =
-    let a = c.args in
-    let fields_there = ap (λ (h : FontReader). fields a.font.now.bytes.now h a.ch (c.in-Ok.start * 8)) a.font.now.opened.read in
-    brought (was_found _ _ c.search-found.ensures c.in-Ok.is) (c.new.ensures ∙ fields_there) refl
-
-pub returns-in-Err : goal.returns-in-Err
-returns-in-Err c = refused_so _ refl c.search-found.ensures c.in-Err.is
+pub returns : goal.returns
+returns c = rw c.search-found.ensures (looked c.args.font.now.opened _ refl (rw c.search-found.ensures at c.read_glyph.ensures))
