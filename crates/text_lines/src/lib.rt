@@ -14,7 +14,7 @@ use checks::origin::Pen;
 use font_reader::opened::OpenedFont;
 use layout::render_actions::compute_horizontal_offset;
 use layout::steps::{NEWLINE, add_answer};
-use lookup_sums::{add_steps, sum_with};
+use lookup_sums::{add_steps, stopped};
 use types::error::Error;
 use types::geometry::{Point, Rectangle, RenderedDimensions};
 use types::glyph_reader::GlyphReader;
@@ -25,7 +25,7 @@ use utf8::split_first_char;
 use utils::combine_bounding_boxes;
 
 // The text so far: the line from its own start, how far below the origin it lies, and the box of the lines that have ended.
-#[derive(Clone, Copy)]
+#[derive(Clone, Copy, Debug, PartialEq, Eq)]
 pub struct LineState {
     pub line: RenderedDimensions,
     pub advance_y: i32,
@@ -36,17 +36,14 @@ fn move_box(bounding_box: Option<Rectangle>, x: i32, y: i32) -> Option<Rectangle
     requires { Movable bounding_box x y }
     ensures { result ≡ moved_box x y bounding_box }
 {
-    let Some(rectangle) = bounding_box else {
-        return None;
-    };
+    let rectangle = bounding_box?;
     let top_left = rectangle.top_left;
-    let size = rectangle.size;
     Some(Rectangle {
         top_left: Point {
             x: x + top_left.x,
             y: y + top_left.y,
         },
-        size,
+        ..rectangle
     })
 }
 
@@ -161,19 +158,12 @@ pub fn measure_lines(
     let mut rest = text;
     while let Some((ch, tail)) = split_first_char(rest) {
         let added = add_char(font, ch, state, horizontal_align, pen);
+        let sum = add_steps(steps, added.steps);
         match added.result {
-            Err(error) => {
-                let sum = add_steps(steps, added.steps);
-                return Report {
-                    result: Err(error),
-                    steps: sum_with(error, sum),
-                };
-            }
-            Ok(longer) => {
-                state = longer;
-                steps = add_steps(steps, added.steps);
-            }
+            Err(error) => return stopped(error, sum),
+            Ok(longer) => state = longer,
         }
+        steps = sum;
         rest = tail;
     }
     let origin = pen.origin;

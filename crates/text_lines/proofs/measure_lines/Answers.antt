@@ -17,21 +17,18 @@ loop-ch-init c =
     let k = c.requires in
     simp (default_dimensions c.default.ensures, default_steps c.default-steps.ensures) record { aligned = aligned_start k; summed = summed_start (checked_characters (as_line k)) }
 
-pub add_steps-sum-requires : goal.add_steps-sum-requires
-add_steps-sum-requires c =
-    summed_fits c.loop-ch.invariant.summed c.in-Some.ensures c.add_char-added.ensures.brought c.args.font.now.opened.least c.args.font.now.opened.most c.requires.short
-
 pub returns-in-Err : goal.returns-in-Err
 returns-in-Err c =
     let k = c.requires in
     let stops = sym c.add_char-added.ensures.added ∙ ap state_outcome c.in-Err.is in
+    rw c.stopped.ensures
     record {
       measured = aligned_stops k c.loop-ch.invariant.aligned c.in-Some.ensures stops;
-      summed = c.sum_with.ensures ∙ sum_stops k c.loop-ch.invariant c.in-Some.ensures c.add_char-added.ensures.brought c.add_steps-sum.ensures stops refl;
+      summed = sum_stops k c.loop-ch.invariant c.in-Some.ensures c.add_char-added.ensures.brought c.add_steps-sum.ensures stops refl;
     }
 
-pub add_steps-steps-requires : goal.add_steps-steps-requires
-add_steps-steps-requires c =
+pub add_steps-sum-requires : goal.add_steps-sum-requires
+add_steps-sum-requires c =
     summed_fits c.loop-ch.invariant.summed c.in-Some.ensures c.add_char-added.ensures.brought c.args.font.now.opened.least c.args.font.now.opened.most c.requires.short
 
 pub loop-ch-smaller : goal.loop-ch-smaller
@@ -39,7 +36,7 @@ loop-ch-smaller c = split_shorter c.in-Some.ensures
 
 pub loop-ch-preserved : goal.loop-ch-preserved
 loop-ch-preserved c =
-    measured_next c.requires c.loop-ch.invariant c.in-Some.ensures c.add_char-added.ensures.brought c.add_steps-steps.ensures c.args.font.now.opened
+    measured_next c.requires c.loop-ch.invariant c.in-Some.ensures c.add_char-added.ensures.brought c.add_steps-sum.ensures c.args.font.now.opened
     (sym c.add_char-added.ensures.added ∙ ap state_outcome c.in-Ok.is)
 
 pub returns : goal.returns
