@@ -11,7 +11,7 @@ use checks::origin::Pen;
 use font_reader::opened::OpenedFont;
 use glyph_renderer::render_glyph;
 use layout::steps::{NEWLINE, add_answer, add_newline, get_next_bounding_box};
-use lookup_sums::{add_steps, sum_with};
+use lookup_sums::{add_steps, stopped};
 use types::error::Error;
 use types::framebuffer::Framebuffer;
 use types::geometry::{Point, RenderedDimensions};
@@ -23,7 +23,7 @@ use utf8::split_first_char;
 
 // What is drawn with, and on what. The framebuffer's bytes are lent beside it: a struct that held them would need two clauses more
 // in each function that draws, that the size and the borrow stay.
-#[derive(Clone, Copy)]
+#[derive(Clone, Copy, Debug, PartialEq, Eq)]
 pub struct Context {
     pub color: FontColor,
     pub framebuffer: Framebuffer,
@@ -102,19 +102,12 @@ pub fn draw_text(
     let mut rest = text;
     while let Some((ch, tail)) = split_first_char(rest) {
         let drawn = draw_char(font, ch, dimensions, pen, context, &mut buffer[..]);
+        let sum = add_steps(steps, drawn.steps);
         match drawn.result {
-            Err(error) => {
-                let sum = add_steps(steps, drawn.steps);
-                return Report {
-                    result: Err(error),
-                    steps: sum_with(error, sum),
-                };
-            }
-            Ok(longer) => {
-                dimensions = longer;
-                steps = add_steps(steps, drawn.steps);
-            }
+            Err(error) => return stopped(error, sum),
+            Ok(longer) => dimensions = longer,
         }
+        steps = sum;
         rest = tail;
     }
     Report {

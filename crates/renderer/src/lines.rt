@@ -11,7 +11,7 @@ use checks::origin::Pen;
 use font_reader::opened::OpenedFont;
 use layout::steps::add_newline;
 use line_alignment::align_pen;
-use lookup_sums::{add_steps, refused, sum_with};
+use lookup_sums::{add_steps, refused, stopped};
 use types::framebuffer::Framebuffer;
 use types::geometry::RenderedDimensions;
 use types::results::Report;
@@ -100,26 +100,20 @@ fn draw_lines(
     loop {
         let (line, after) = split_line(rest);
         let drawn = draw_line(font, line, setting, dimensions, context, &mut buffer[..]);
-        match drawn.result {
-            Err(error) => {
-                let sum = add_steps(steps, drawn.steps);
-                return Report {
-                    result: Err(error),
-                    steps: sum_with(error, sum),
-                };
-            }
-            Ok(longer) => {
-                steps = add_steps(steps, drawn.steps);
-                let Some(next) = after else {
-                    return Report {
-                        result: Ok(longer),
-                        steps,
-                    };
-                };
-                dimensions = add_newline(longer, pen.line_height);
-                rest = next;
-            }
-        }
+        let sum = add_steps(steps, drawn.steps);
+        let longer = match drawn.result {
+            Err(error) => return stopped(error, sum),
+            Ok(longer) => longer,
+        };
+        let Some(next) = after else {
+            return Report {
+                result: Ok(longer),
+                steps: sum,
+            };
+        };
+        dimensions = add_newline(longer, pen.line_height);
+        steps = sum;
+        rest = next;
     }
 }
 
@@ -151,8 +145,9 @@ pub fn draw_aligned(
                 buffer,
             )
         }
-        HorizontalAlignment::Center => draw_lines(font, text, setting, context, buffer),
-        HorizontalAlignment::Right => draw_lines(font, text, setting, context, buffer),
+        HorizontalAlignment::Center | HorizontalAlignment::Right => {
+            draw_lines(font, text, setting, context, buffer)
+        }
     }
 }
 

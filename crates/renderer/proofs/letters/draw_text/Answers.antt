@@ -47,9 +47,6 @@ module _ (c : After-draw_char-drawn) where
 pub add_steps-sum-requires : goal.add_steps-sum-requires
 add_steps-sum-requires c = sum_fits (goal.at.add_steps-sum-requires c).After-draw_char-drawn
 
-pub add_steps-steps-requires : goal.add_steps-steps-requires
-add_steps-steps-requires c = sum_fits (goal.at.add_steps-steps-requires c).After-draw_char-drawn
-
 pub returns-in-Err : goal.returns-in-Err
 returns-in-Err c =
     let k = (goal.at.returns-in-Err c).After-draw_char-drawn in
@@ -57,10 +54,11 @@ returns-in-Err c =
     let i = c.loop-ch.invariant in
     let d = c.draw_char-drawn.ensures in
     let stops = sym d.counted ∙ ap outcome is in
+    rw c.stopped.ensures
     record {
       counted = sym (measured_stops c.requires.checked i.drawn.reached (first k) stops);
-      summed = c.sum_with.ensures
-          ∙ sum_stops _ i.summed (first k) (brings_it k) c.add_steps-sum.ensures c.args.pen.line_height
+      summed =
+          sum_stops _ i.summed (first k) (brings_it k) c.add_steps-sum.ensures c.args.pen.line_height
           c.args.pen.origin c.loop-ch.dimensions stops refl;
       shown = drawn_stops _ _ _ _ _ _ _ _ _ c.requires.checked i.drawn (first k) stops d.shown;
       reach = λ e h. impossible cc;
@@ -79,7 +77,7 @@ loop-ch-preserved c =
     record {
       drawn = drawn_next _ _ _ _ _ _ _ _ _ c.requires.checked i.drawn (first k) (drawn_small c.args.font.now.opened _) goes d.shown
           c.draw_char-drawn.auto.buffer;
-      summed = sum_next _ i.summed (first k) (brings_it k) c.add_steps-steps.ensures c.args.pen.line_height
+      summed = sum_next _ i.summed (first k) (brings_it k) c.add_steps-sum.ensures c.args.pen.line_height
           c.args.pen.origin c.loop-ch.dimensions goes;
     }
 

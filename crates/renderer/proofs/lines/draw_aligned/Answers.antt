@@ -1,6 +1,8 @@
 -- By the alignment: Left is the plain text, the others move lines.
 use Rattle.definitions.proofs.TextLaws.{default_dimensions}
-use Rattle.integers.proofs.Prelude.{sym, subst}
+use Rattle.integers.proofs.Prelude.{◌≡◌, sym, subst, ◌⊎◌, inl, inr}
+use Rattle.definitions.specs.Vocabulary.{HorizontalAlignment}
+use Rattle.types.specs.declared.style.HorizontalAlignment.TheVariants.{Center, Right}
 use Rattle.checks.proofs.OriginLaws.{as_line}
 use Rattle.layout.proofs.MeasureLaws.{within_start}
 use Rattle.renderer.specs.Texts.{Moves}
@@ -16,11 +18,12 @@ draw_text-requires c =
       fits = s.fits;
     }
 
-pub draw_lines-requires : goal.draw_lines-requires
-draw_lines-requires c = (c.requires, subst Moves (sym c.in-Center.is) tt)
+moves : {a : HorizontalAlignment} → (a ≡ Center) ⊎ (a ≡ Right) → Moves a
+moves (inl e) = subst Moves (sym e) tt
+moves (inr e) = subst Moves (sym e) tt
 
-pub draw_lines-requires-in-Right : goal.draw_lines-requires-in-Right
-draw_lines-requires-in-Right c = (c.requires, subst Moves (sym c.in-Right.is) tt)
+pub draw_lines-requires : goal.draw_lines-requires
+draw_lines-requires c = (c.requires, moves c.in-Center.is)
 
 pub returns-in-Left : goal.returns-in-Left
 returns-in-Left c = plain_text c.in-Left.is (default_dimensions c.default.ensures) c.draw_text.ensures

@@ -1,5 +1,5 @@
 -- LineLoopLaws has the loop's step and its ends; here they are applied to the line that was found.
-use Rattle.integers.proofs.Prelude.{◌≡◌, refl, ap, ◌∙◌, ◌≤◌, arith, length}
+use Rattle.integers.proofs.Prelude.{◌≡◌, refl, ap, ◌≤◌, arith, length}
 use Rattle.definitions.proofs.TextLaws.{default_dimensions}
 use Rattle.definitions.proofs.SumsLaws.{default_steps}
 use Rattle.definitions.specs.Refusals.{outcome}
@@ -28,22 +28,17 @@ add_steps-sum-requires c =
     let o = c.args.font.now.opened in
     line_fits _ _ _ _ _ c.loop-error.invariant c.split_line.ensures.line _ c.draw_line-drawn.ensures refl o.least o.most p.checked.short
 
-pub add_steps-steps-requires : goal.add_steps-steps-requires
-add_steps-steps-requires c =
-    let p = c.requires.0 in
-    let o = c.args.font.now.opened in
-    line_fits _ _ _ _ _ c.loop-error.invariant c.split_line.ensures.line _ c.draw_line-drawn.ensures refl o.least o.most p.checked.short
-
 pub returns-in-Err : goal.returns-in-Err
 returns-in-Err c =
     let i = c.loop-error.invariant in
     let d = c.draw_line-drawn.ensures in
     let is = c.in-Err.is in
     let stop = ap outcome is in
-    as_text _ _ _ _ _ c.requires.1 _
+    rw c.stopped.ensures
+    (as_text _ _ _ _ _ c.requires.1 _
     (stopped_counted _ _ _ _ _ i c.split_line.ensures.line _ d stop)
     (stopped_shown _ _ _ _ _ i c.split_line.ensures.line _ d stop)
-    (c.sum_with.ensures ∙ stopped_summed _ _ _ _ _ i c.split_line.ensures.line _ d stop refl c.add_steps-sum.ensures refl)
+    (stopped_summed _ _ _ _ _ i c.split_line.ensures.line _ d stop refl c.add_steps-sum.ensures refl))
 
 pub returns-in_default : goal.returns-in_default
 returns-in_default c =
@@ -53,9 +48,9 @@ returns-in_default c =
     let goes = ap outcome is in
     let over : newlines c.loop-error.rest.now ≡ 0 = rw c.in_default.is at c.split_line.ensures.after in
     as_text _ _ _ _ _ c.requires.1 _
-    (last_counted _ _ _ _ _ i c.split_line.ensures.line _ d goes refl c.add_steps-steps.ensures over)
-    (last_shown _ _ _ _ _ i c.split_line.ensures.line _ d goes refl c.add_steps-steps.ensures over)
-    (last_summed _ _ _ _ _ i c.split_line.ensures.line _ d goes refl c.add_steps-steps.ensures over)
+    (last_counted _ _ _ _ _ i c.split_line.ensures.line _ d goes refl c.add_steps-sum.ensures over)
+    (last_shown _ _ _ _ _ i c.split_line.ensures.line _ d goes refl c.add_steps-sum.ensures over)
+    (last_summed _ _ _ _ _ i c.split_line.ensures.line _ d goes refl c.add_steps-sum.ensures over)
 
 -- a newline was found
 next_line : (c : In-Some) → (1 ≤ newlines c.loop-error.rest.now) × (c.in-Some.next.now ≡ rest_of c.loop-error.rest.now)
@@ -65,7 +60,7 @@ pub add_newline-dimensions-requires : goal.add_newline-dimensions-requires
 add_newline-dimensions-requires c =
     let is = c.in-Ok.is in (
       next_near _ _ _ _ _ c.loop-error.invariant c.split_line.ensures.line _ c.draw_line-drawn.ensures (ap outcome is) refl
-          c.add_steps-steps.ensures (next_line (goal.at.add_newline-dimensions-requires c).In-Some).0,
+          c.add_steps-sum.ensures (next_line (goal.at.add_newline-dimensions-requires c).In-Some).0,
       c.requires.0.checked.line,
     )
 
@@ -78,4 +73,4 @@ pub loop-error-preserved : goal.loop-error-preserved
 loop-error-preserved c =
     let is = c.in-Ok.is in
     next_turn _ _ _ _ _ c.loop-error.invariant c.split_line.ensures.line _ c.draw_line-drawn.ensures (ap outcome is) refl
-    c.add_steps-steps.ensures (next_line (goal.at.loop-error-preserved c).In-Some).0 c.add_newline-dimensions.ensures (next_line (goal.at.loop-error-preserved c).In-Some).1
+    c.add_steps-sum.ensures (next_line (goal.at.loop-error-preserved c).In-Some).0 c.add_newline-dimensions.ensures (next_line (goal.at.loop-error-preserved c).In-Some).1
