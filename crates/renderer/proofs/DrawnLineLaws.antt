@@ -1,13 +1,13 @@
 -- A line that was measured, and is then drawn where its offset puts it. Assumes nothing.
-use Rattle.integers.proofs.Prelude.{◌≡◌, refl, sym, ap, subst, ◌∙◌, false, List, ℕ, eqb, pos}
+use Rattle.integers.proofs.Prelude.{◌≡◌, refl, sym, ap, subst, ◌∙◌, Bool, true, false, List, ℕ, eqb}
+use Rattle.integers.specs.Integers.{pick}
 use Rattle.integers.proofs.Choices.{impossible}
 use Rattle.definitions.specs.Vocabulary.{Point, RenderedDimensions, GlyphReader, LookupSteps, FontColor, HorizontalAlignment, Error, Report}
 use Rattle.types.specs.declared.style.HorizontalAlignment.TheVariants.{Left}
-use Rattle.definitions.specs.Refusals.{Outcome, success, refused, and_then, refusal, outcome}
+use Rattle.definitions.specs.Refusals.{Outcome, success, refused, and_then, refusal}
 use Rattle.definitions.specs.Lookup.{no_steps}
-use Rattle.definitions.specs.Geometry.{join}
 use Rattle.definitions.specs.Utf8.{newlines}
-use Rattle.definitions.specs.Text.{Answer, Layout, join_all, point, dimensions_of, letters, Lines, line_by_line, layout, horizontal_offset}
+use Rattle.definitions.specs.Text.{Answer, Layout, join_all, letters, Lines, line_by_line, layout, horizontal_offset}
 use Rattle.definitions.specs.TextSteps.{measure_from, draw_from, start}
 use Rattle.definitions.specs.Font.{u8g2, pixels_of}
 use Rattle.definitions.specs.Picture.{text_picture}
@@ -17,10 +17,9 @@ use Rattle.definitions.specs.Sums.{sums}
 use Rattle.definitions.proofs.SumsLaws.{no_sums}
 use Rattle.definitions.proofs.FramebufferLaws.{shown_blank}
 use Rattle.definitions.proofs.TextLaws.{lines_last, dimensions_from, measure_from_lem, draw_from_lem}
-use Rattle.definitions.proofs.LineLaws.{drawn_eight}
 use Rattle.checks.specs.declared.origin.Pen.{Pen}
 use Rattle.line_alignment.specs.Pens.{measured_line, moved_by, aligned_pen}
-use Rattle.std.specs.Prelude.{Ok, Err}
+use Rattle.lookup_sums.specs.Reports.{stopped_report}
 use Rattle.renderer.specs.declared.letters.Context.{Context}
 use Rattle.renderer.specs.declared.lines.LineSetting.{LineSetting}
 use Rattle.renderer.specs.Texts.{drawn_by, LettersDrawn, line_laid, LineDrawn, TextDrawn}
@@ -113,62 +112,37 @@ module _ (font text : List ℕ) (a : HorizontalAlignment) (pen : Pen) where
         ∙ ap (λ (l : Layout). shown width (text_picture color pixels_of l.glyphs) before)
         (one_line (drawn_by font pen) pen.line_height (pen_at m.end).origin d.advance (code_points_of text) one ∙ sym laid_there))
 
-    -- Now only runs that are cut off stop it.
-    cut_alone : {n c : ℕ} → measure_from (drawn_by font p) p.line_height p.origin d (code_points_of text) ≡ refused n c → eqb n 7 ≡ false
-    cut_alone {n} {c} e =
-        let l = line_laid font a pen d.advance (code_points_of text) in
-        let start = point (pos 0) (pos 0) in
-        let eight : n ≡ 8 = drawn_eight (u8g2 font) pen.ignore_unknown_chars (code_points_of text) (pen_at m.end).origin start m.end start m.measured d.advance
-        (ap (λ (k : Layout). k.advance) (sym laid_there) ∙ came l.advance (sym line_counted ∙ e)) in
-        rw eight refl
-      where
-        came : (o : Outcome Point) → dimensions_of (join d.bounding_box (join_all (line_laid font a pen d.advance (code_points_of text)).glyphs)) o ≡ refused n c → o ≡ refused n c
-        came (success end) k = impossible cc
-        came (refused i j) k = cc
-
 -- ---- what the line comes to
+
+-- The sums of a text that is stopped are kept with 7; with another number they are nothing.
+kept_sums : (font text : List ℕ) (n c : ℕ) {q : LookupSteps} → q ≡ sums {A = Point} (u8g2 font) text (refused n c)
+    → pick (eqb n 7) q no_steps ≡ sums {A = RenderedDimensions} (u8g2 font) text (refused n c)
+kept_sums font text n c {q} e = by (eqb n 7) refl
+  where
+    by : (t : Bool) → eqb n 7 ≡ t → pick t q no_steps ≡ sums {A = RenderedDimensions} (u8g2 font) text (refused n c)
+    by true k = e
+    by false k = no_sums {A = RenderedDimensions} (u8g2 font) text {o = refused n c} refl k
 
 module _ {font text : List ℕ} {s : LineSetting} {d : RenderedDimensions} {context : Context} {before after : List ℕ} where
   -- stopped in measuring
   pub stopped_line : {e : Error} {q : LookupSteps} → refusal e ≡ aligned_pen s.horizontal_align s.pen (line font text s.horizontal_align s.pen)
-      → q ≡ sums (u8g2 font) text (line font text s.horizontal_align s.pen).advance → after ≡ before → LineDrawn font text s d context before after record { result = Err e; steps = q }
+      → q ≡ sums (u8g2 font) text (line font text s.horizontal_align s.pen).advance → after ≡ before → LineDrawn font text s d context before after (stopped_report e q)
   stopped_line none counted kept =
       let stop = pen_stopped font text s.horizontal_align s.pen none in
       record {
         counted = stopped_counted font text s.horizontal_align s.pen stop d;
         painted = kept
             ∙ stopped_painted font text s.horizontal_align s.pen stop context.framebuffer.width context.color (pixels_of (u8g2 font)) d.advance before;
-        summed = counted ∙ ap (sums (u8g2 font) text) stop;
+        summed = kept_sums font text _ _ (counted ∙ ap (sums (u8g2 font) text) stop);
         reach = λ e k. impossible cc;
       }
 
-  module _ (one : newlines (code_points_of text) ≡ 0) {p : Pen} (m : Moved font text s.horizontal_align s.pen p)
-      {r : Report RenderedDimensions} (l : LettersDrawn font text p d context before after r) where
-    shown_there : after
-        ≡ shown context.framebuffer.width
-        (text_picture context.color (pixels_of (u8g2 font)) (line_laid font s.horizontal_align s.pen d.advance (code_points_of text)).glyphs) before
-    shown_there =
-        l.shown ∙ line_painted font text s.horizontal_align s.pen one m d context.framebuffer.width context.color (pixels_of (u8g2 font)) before
-
-    -- .. in drawing, by runs that are cut off
-    pub cut_line : {e : Error} {q : LookupSteps} → r.result ≡ Err e → q ≡ no_steps → LineDrawn font text s d context before after record { result = Err e; steps = q }
-    cut_line {e} is none =
-        let refuses = sym l.counted ∙ ap outcome is in
-        record {
-          counted = sym refuses ∙ line_counted font text s.horizontal_align s.pen one m d;
-          painted = shown_there;
-          summed = none ∙ no_sums {A = RenderedDimensions} (u8g2 font) text {o = refusal e} refl (cut_alone font text s.horizontal_align s.pen one m d refuses);
-          reach = λ x k. impossible cc;
-        }
-
-    -- .. or not at all
-    pub whole_line : {e : RenderedDimensions} {q : LookupSteps} → r.result ≡ Ok e
-        → q ≡ sums (u8g2 font) text (line font text s.horizontal_align s.pen).advance → LineDrawn font text s d context before after record { result = Ok e; steps = q }
-    whole_line {e} is counted =
-        let goes = sym l.counted ∙ ap outcome is in
-        record {
-          counted = sym goes ∙ line_counted font text s.horizontal_align s.pen one m d;
-          painted = shown_there;
-          summed = counted ∙ ap (sums (u8g2 font) text) m.measured;
-          reach = λ x k. l.reach x (ap outcome is ∙ k);
-        }
+  -- .. or drawn
+  pub drawn_line : newlines (code_points_of text) ≡ 0 → {p : Pen} → Moved font text s.horizontal_align s.pen p
+      → {r : Report RenderedDimensions} → LettersDrawn font text p d context before after r → LineDrawn font text s d context before after r
+  drawn_line one m l = record {
+    counted = l.counted ∙ line_counted font text s.horizontal_align s.pen one m d;
+    painted = l.shown ∙ line_painted font text s.horizontal_align s.pen one m d context.framebuffer.width context.color (pixels_of (u8g2 font)) before;
+    summed = l.summed;
+    reach = l.reach;
+  }

@@ -11,7 +11,7 @@ use checks::origin::Pen;
 use font_reader::opened::OpenedFont;
 use layout::steps::add_newline;
 use line_alignment::align_pen;
-use lookup_sums::{add_steps, refused, stopped};
+use lookup_sums::{add_steps, stopped};
 use types::framebuffer::Framebuffer;
 use types::geometry::RenderedDimensions;
 use types::results::Report;
@@ -45,7 +45,8 @@ fn split_line(text: &[u8]) -> (&[u8], Option<&[u8]>)
 }
 
 // One line. All of it is measured before its first letter is drawn: what stops it in measuring leaves the framebuffer as it was.
-// Drawing looks its letters up a second time, and counts none of that. It comes to what a character does: dimensions or a refusal.
+// Drawing looks its letters up a second time, in as many steps, and its steps alone are handed up. It comes to what a character
+// does: dimensions or a refusal.
 fn draw_line(
     font: &OpenedFont,
     line: &[u8],
@@ -62,20 +63,8 @@ fn draw_line(
     let horizontal_align = setting.horizontal_align;
     let aligned = align_pen(font, line, horizontal_align, pen);
     match aligned.result {
-        Err(error) => Report {
-            result: Err(error),
-            steps: aligned.steps,
-        },
-        Ok(line_pen) => {
-            let drawn = draw_text(font, line, line_pen, dimensions, context, buffer);
-            match drawn.result {
-                Err(error) => refused(error),
-                Ok(longer) => Report {
-                    result: Ok(longer),
-                    steps: aligned.steps,
-                },
-            }
-        }
+        Err(error) => stopped(error, aligned.steps),
+        Ok(line_pen) => draw_text(font, line, line_pen, dimensions, context, buffer),
     }
 }
 

@@ -4,7 +4,7 @@ use Rattle.definitions.specs.Refusals.{success, outcome}
 use Rattle.definitions.specs.Calls.{code_points_of}
 use Rattle.checks.specs.declared.origin.Pen.{Pen}
 use Rattle.layout.specs.Ranges.{Within}
-use Rattle.renderer.proofs.DrawnLineLaws.{Moved, pen_came, stopped_line, cut_line, whole_line}
+use Rattle.renderer.proofs.DrawnLineLaws.{Moved, pen_came, stopped_line, drawn_line}
 use Rattle.renderer.proofs.lines.draw_line.Goals as goal
 use Rattle.renderer.proofs.lines.draw_line.Goals.{In-Ok}
 
@@ -16,26 +16,19 @@ module _ (c : In-Ok) where
   moved : Moved c.args.font.now.bytes.now c.args.line.now c.args.setting.horizontal_align c.args.setting.pen c.in-Ok.line_pen
   moved = pen_came _ _ _ _ c.in-Ok.line_pen (sym comes ∙ c.align_pen-aligned.ensures.aligned)
 
-pub draw_text-drawn-requires : goal.draw_text-drawn-requires
-draw_text-drawn-requires c =
+pub draw_text-requires : goal.draw_text-requires
+draw_text-requires c =
     record {
-      checked = c.align_pen-aligned.ensures.placed c.in-Ok.line_pen (comes (goal.at.draw_text-drawn-requires c).In-Ok);
-      room = subst (λ (q : Pen). Within q.line_height 0 (code_points_of c.args.line.now) c.args.dimensions) (moved (goal.at.draw_text-drawn-requires c).In-Ok).is c.requires.room;
+      checked = c.align_pen-aligned.ensures.placed c.in-Ok.line_pen (comes (goal.at.draw_text-requires c).In-Ok);
+      room = subst (λ (q : Pen). Within q.line_height 0 (code_points_of c.args.line.now) c.args.dimensions) (moved (goal.at.draw_text-requires c).In-Ok).is c.requires.room;
       fits = c.requires.fits;
     }
 
 -- stopped in measuring
 pub returns-in-Err : goal.returns-in-Err
 returns-in-Err c =
-    let is = c.in-Err.is in
-    stopped_line (sym (ap outcome is) ∙ c.align_pen-aligned.ensures.aligned) c.align_pen-aligned.ensures.counted refl
+    rw c.stopped.ensures
+    (stopped_line (sym (ap outcome c.in-Err.is) ∙ c.align_pen-aligned.ensures.aligned) c.align_pen-aligned.ensures.counted refl)
 
-pub returns-in-Err-result : goal.returns-in-Err-result
-returns-in-Err-result c =
-    rw c.refused.ensures
-    (cut_line c.requires.one (moved (goal.at.returns-in-Err-result c).In-Ok) c.draw_text-drawn.ensures c.in-Err-result.is refl)
-
-pub returns-in-Ok-result : goal.returns-in-Ok-result
-returns-in-Ok-result c =
-    whole_line c.requires.one (moved (goal.at.returns-in-Ok-result c).In-Ok) c.draw_text-drawn.ensures c.in-Ok-result.is
-    c.align_pen-aligned.ensures.counted
+pub returns-in-Ok : goal.returns-in-Ok
+returns-in-Ok c = drawn_line c.requires.one (moved (goal.at.returns-in-Ok c).In-Ok) c.draw_text.ensures
