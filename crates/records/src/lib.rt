@@ -10,7 +10,7 @@ ghost use Rattle.records.specs.Records.{as_record};
 
 use utils::big_endian::u16_at;
 
-#[derive(Clone, Copy)]
+#[derive(Clone, Copy, Debug, PartialEq, Eq)]
 pub enum Record {
     // the glyph begins so many bytes on
     Here(u8),
@@ -47,6 +47,7 @@ pub trait CharWidth {
 }
 
 // Up to 255. The jump counts before the code, as in `u8g2_font.c` and not as in the Rust (amended by A3; SPECIFICATION, Lookup).
+#[derive(Clone, Copy, Debug, PartialEq, Eq)]
 pub struct OneByte;
 
 impl CharWidth for OneByte {
@@ -73,6 +74,7 @@ impl CharWidth for OneByte {
 }
 
 // From 256 on. Code 0 ends the chain, also where its jump is missing.
+#[derive(Clone, Copy, Debug, PartialEq, Eq)]
 pub struct TwoBytes;
 
 impl CharWidth for TwoBytes {

@@ -8,7 +8,7 @@ ghost use Rattle.unicode_jumptable_reader.specs.Distances.{distance};
 use utils::big_endian::u16_at;
 
 // How far from the table the records begin, or none if the table ends before; and how many entries were read.
-#[derive(Clone, Copy)]
+#[derive(Clone, Copy, Debug, PartialEq, Eq)]
 pub struct JumpOffset {
     pub jump_offset: Option<usize>,
     pub entries: u32,

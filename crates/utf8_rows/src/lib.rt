@@ -6,7 +6,7 @@ ghost use Rattle.definitions.specs.Utf8.{row_of};
 ghost use Rattle.utf8_rows.specs.Rows.{as_row};
 
 // A row of table 3-7: how many bytes, and the range of the second.
-#[derive(Clone, Copy)]
+#[derive(Clone, Copy, Debug, PartialEq, Eq)]
 pub enum Row {
     One,
     Two(u8, u8),
