@@ -6,7 +6,8 @@ pub mod lookup;
 ghost use Rattle.std.specs.Prelude.{◌≡◌};
 ghost use Rattle.definitions.specs.Refusals.{outcome};
 ghost use Rattle.definitions.specs.Text.{answer};
-ghost use Rattle.definitions.specs.Font.{u8g2, measured_answer, drawn_answer};
+ghost use Rattle.definitions.specs.Glyph.{glyph};
+ghost use Rattle.definitions.specs.Font.{u8g2, drawable, measured_answer, drawn_answer};
 ghost use Rattle.answers.specs.Answers.{as_answer, IsAnswer, WholeLookedUp};
 
 use crate::lookup::retrieve_glyph_data;
@@ -52,20 +53,30 @@ pub fn try_retrieve_glyph_data(
     answer_of(retrieve_glyph_data(font, ch), ignore_unknown_chars)
 }
 
-// The glyph of a code point, its runs read to the last pixel. So a glyph that the font's end cuts off is refused before any
-// of it is drawn.
+// A glyph that was found, its runs read to the last pixel. So a glyph that the font's end cuts off is refused before any of it is
+// drawn.
+fn check_glyph(
+    font: &OpenedFont,
+    ch: u32,
+    found: Result<GlyphReader, Error>,
+) -> Result<GlyphReader, Error>
+    requires { outcome found ≡ glyph font.now.bytes.now ch }
+    ensures { outcome result ≡ drawable (u8g2 font.now.bytes.now) ch (outcome found) }
+{
+    let glyph = found?;
+    if check_runs(font, glyph) {
+        return Ok(glyph);
+    }
+    Err(Error::FontEnds(ch))
+}
+
+// The glyph of a code point, where all of it is there.
 fn retrieve_whole_glyph(font: &OpenedFont, ch: u32) -> Report<GlyphReader>
     ensures { WholeLookedUp font.now.bytes.now ch result }
 {
     let lookup = retrieve_glyph_data(font, ch);
-    let Ok(glyph) = lookup.result else {
-        return lookup;
-    };
-    if check_runs(font, glyph) {
-        return lookup;
-    }
     Report {
-        result: Err(Error::FontEnds(ch)),
+        result: check_glyph(font, ch, lookup.result),
         steps: lookup.steps,
     }
 }

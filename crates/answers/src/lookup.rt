@@ -10,11 +10,7 @@ use types::glyph_reader::GlyphReader;
 use types::results::Report;
 
 // The glyph of ch where the search found it.
-fn read_glyph(
-    font: &OpenedFont,
-    ch: u32,
-    found: Result<usize, Error>,
-) -> Result<GlyphReader, Error>
+fn read_glyph(font: &OpenedFont, ch: u32, found: Result<usize, Error>) -> Result<GlyphReader, Error>
     requires { IfOk found (λ start. start ≤ length font.now.bytes.now) }
     ensures { MatchResult found
         (λ start. outcome result ≡ fields font.now.bytes.now font.now.head ch (start * 8)) (λ error. result ≡ Err error) }

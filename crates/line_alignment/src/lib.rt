@@ -43,11 +43,7 @@ fn pen_by(
         ≡ and_then (outcome measured) (λ line. success (pen_of_line horizontal_align pen line)) }
 {
     let line = measured?;
-    let offset = compute_horizontal_offset(
-        horizontal_align,
-        line.bounding_box,
-        line.advance.x,
-    );
+    let offset = compute_horizontal_offset(horizontal_align, line.bounding_box, line.advance.x);
     Ok(move_pen(pen, offset))
 }
 

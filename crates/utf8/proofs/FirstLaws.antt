@@ -38,5 +38,5 @@ module _ (text : List ℕ) (at : ℕ) (h : at < length text) where
       → x ≡ first_character (drop at text)
   first_by {r} {b} {c} {d} {x} row second third fourth e =
       let whole : sequence r (get_or text at 0) b c d ≡ sequence (row_of (get_or text at 0)) (get_or text at 0) (get_or text (at + 1) 0)
-          (get_or text (at + 2) 0) (get_or text (at + 3) 0) = cc in
+      (get_or text (at + 2) 0) (get_or text (at + 3) 0) = cc in
       e ∙ whole ∙ sym first_at

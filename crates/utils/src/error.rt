@@ -1,4 +1,5 @@
-// What is answered with a refusal: a number and a code point (SPECIFICATION, Refusals).
+// What is answered with a refusal: a number and a code point (SPECIFICATION, Refusals). Functions, and no `From` or method of Error:
+// those stand in the crate of the type, below the definitions that these contracts name.
 ghost use Rattle.std.specs.Prelude.{◌≡◌};
 ghost use Rattle.definitions.specs.Refusals.{error_number, code_point};
 

@@ -2,11 +2,11 @@
 use Rattle.integers.proofs.Prelude.{sym, ap, ◌∙◌, arith}
 use Rattle.definitions.specs.Refusals.{outcome}
 use Rattle.definitions.proofs.GlyphLaws.{glyph_range}
-use Rattle.answers.proofs.retrieve_whole_glyph.Goals as goal
+use Rattle.answers.proofs.check_glyph.Goals as goal
 
 pub check_runs-requires : goal.check_runs-requires
 check_runs-requires c =
     let f = c.args.font.now in
-    let found = sym c.retrieve_glyph_data-lookup.ensures.answered ∙ ap outcome c.in-Ok.is in
-    let r = glyph_range f.bytes.now f.head c.args.ch c.in-Ok.glyph f.opened found in
+    let found = sym c.requires ∙ ap outcome c.in_ok-glyph.was in
+    let r = glyph_range f.bytes.now f.head c.args.ch c.in_ok-glyph.glyph f.opened found in
     omega (arith, r)
