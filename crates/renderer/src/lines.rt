@@ -19,7 +19,7 @@ use types::steps::LookupSteps;
 use types::style::{FontColor, HorizontalAlignment};
 
 // Where a text's lines stand.
-#[derive(Clone, Copy)]
+#[derive(Clone, Copy, Debug, PartialEq, Eq)]
 pub struct LineSetting {
     pub pen: Pen,
     pub horizontal_align: HorizontalAlignment,
