@@ -4,14 +4,15 @@
 ghost use Rattle.std.specs.Prelude.{◌≡◌, ◌+◌, ◌%◌, ◌≤◌, length, get_or};
 ghost use Rattle.window.specs.Window.{window};
 
-// The byte at i, or 0 past the font's end.
+// The byte at i, or 0 past the font's end. A function, so that what std's three calls come to is said once for three bytes.
 fn byte_or_zero(font: &[u8], i: usize) -> u8
     ensures { result ≡ get_or font.now i 0 }
 {
     font.get(i).copied().unwrap_or(0)
 }
 
-// The four bytes from i on. The compiler makes one load of it.
+// The four bytes from i on. The compiler makes one load of it. `first_chunk` of the rest is no plainer: it answers an Option,
+// where the length was tested before.
 fn word_at(font: &[u8], i: usize) -> u32
     requires { (i + 4 ≤ length font.now) × (length font.now ≤ 1048576) }
     ensures { result ≡ window 32 font.now i }
