@@ -2,13 +2,14 @@
 // and slices go in; a slice is a pointer and a length. Each call answers with a status: 0 for
 // success, the number of a refusal, 255 where a code has no meaning or `out` is too short. The
 // answer's values are stored in `out`: Replies.antt of c_values says which. bindings/c/papayahelm.h
-// declares the calls.
+// declares the calls. Six of them take numbers one by one, and not in structs, since the C interface has them so.
 #![tactic(auto)]
 
 ghost use Rattle.std.specs.Prelude.{◌≡◌, length};
 ghost use Rattle.definitions.specs.Font.{u8g2};
 ghost use Rattle.definitions.specs.Framebuffer.{sized};
-ghost use Rattle.definitions.specs.Calls.{open_font, font_bounding_box, request, plain, measure, measure_aligned, draw, draw_buffer, draw_aligned};
+ghost use Rattle.definitions.specs.Calls.{open_font, font_bounding_box, request, plain, measure, measure_aligned};
+ghost use Rattle.definitions.specs.Calls.{draw, draw_buffer, draw_aligned};
 ghost use Rattle.redraw_checks.specs.Drawing.{asked, ground_of};
 ghost use Rattle.redraw.specs.Redraw.{redrawn, redrawn_buffer};
 ghost use Rattle.c_codes.specs.Codes.{meaning_of, ink_of, placed_by};

@@ -1,4 +1,4 @@
-// What the codes of a call mean: numbers from 0 in the order of an enum's variants.
+// What the codes of a call mean: numbers from 0 in the order of an enum's variants, since C's calls take numbers.
 #![tactic(auto)]
 
 ghost use Rattle.std.specs.Prelude.{◌≡◌, ◌≤◌, OnSome};
@@ -7,11 +7,12 @@ ghost use Rattle.c_codes.specs.Codes.{anchor_of, alignment_of, flag_of, meaning_
 use types::geometry::Point;
 use types::style::{FontColor, FontStyle, HorizontalAlignment, Placement, VerticalPosition};
 
-#[derive(Clone, Copy)]
+#[derive(Clone, Copy, Debug, PartialEq, Eq)]
 pub struct Meaning {
     pub vertical_pos: VerticalPosition,
     pub horizontal_align: HorizontalAlignment,
     pub skip: bool,
+    // whether the call's `bg` counts: a flag beside its colours, since the C interface has them so
     pub background: bool,
 }
 
@@ -44,7 +45,7 @@ impl Meaning {
 }
 
 #[tactic(auto, unfolding(crate::specs::Codes::anchor_of))]
-fn known_anchor(code: u32) -> Option<VerticalPosition>
+pub fn known_anchor(code: u32) -> Option<VerticalPosition>
     ensures { result ≡ anchor_of code }
 {
     match code {
@@ -57,7 +58,7 @@ fn known_anchor(code: u32) -> Option<VerticalPosition>
 }
 
 #[tactic(auto, unfolding(crate::specs::Codes::alignment_of))]
-fn known_alignment(code: u32) -> Option<HorizontalAlignment>
+pub fn known_alignment(code: u32) -> Option<HorizontalAlignment>
     ensures { result ≡ alignment_of code }
 {
     match code {
@@ -69,7 +70,7 @@ fn known_alignment(code: u32) -> Option<HorizontalAlignment>
 }
 
 #[tactic(auto, unfolding(crate::specs::Codes::flag_of))]
-fn known_flag(code: u32) -> Option<bool>
+pub fn known_flag(code: u32) -> Option<bool>
     ensures { result ≡ flag_of code }
 {
     match code {
@@ -79,7 +80,8 @@ fn known_flag(code: u32) -> Option<bool>
     }
 }
 
-// A call hands 0 for a code that it does not have, and the length of what it stores its answer in.
+// A call hands 0 for a code that it does not have, and the length of what it stores its answer in. The kinds are numbers here
+// because the C interface needs it: a call has its codes one by one.
 #[tactic(auto, unfolding(crate::specs::Codes::meaning_of))]
 pub fn known_codes(
     anchor: u32,

@@ -8,14 +8,14 @@ use types::steps::LookupSteps;
 use utils::error::{error_code_point, error_number};
 
 // The numbers are as wide as every value that goes into them.
-#[derive(Clone, Copy)]
+#[derive(Clone, Copy, Debug, PartialEq, Eq)]
 pub struct Reply {
     pub status: u32,
     pub code_point: i64,
     // the advance
     pub x: i64,
     pub y: i64,
-    // 1 where there is a box: a flag beside its numbers, as C reads them
+    // 1 where there is a box: a flag beside its numbers, since the C interface has no Option
     pub boxed: i64,
     pub left: i64,
     pub top: i64,

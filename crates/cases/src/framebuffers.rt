@@ -1,11 +1,14 @@
 // The framebuffer of a case: what it holds before the call, and how it is printed after it.
-ghost use Rattle.std.specs.Prelude.{◌≡◌, ◌<◌, IfOk, vec_len};
+ghost use Rattle.std.specs.Prelude.{◌≡◌, ◌<◌, IfOk};
+ghost use Rattle.cases.specs.Patterns.{pattern_at, filled_with};
 
 use std::alloc::{AllocError, Global};
 use types::framebuffer::Framebuffer;
 
 // What stands at an index before the call: 0 throughout, or a pattern in which neighbours differ.
-fn pattern(fill: u8, i: usize) -> u8 {
+fn pattern(fill: u8, i: usize) -> u8
+    ensures { result ≡ pattern_at fill i }
+{
     if fill == 0 {
         0
     } else {
@@ -14,7 +17,7 @@ fn pattern(fill: u8, i: usize) -> u8 {
 }
 
 pub fn filled(alloc: Global, fill: u8, len: usize) -> Result<Vec<u8>, AllocError>
-    ensures { IfOk result (λ v. vec_len v ≡ len) }
+    ensures { IfOk result (λ v. v.items ≡ filled_with fill len) }
 {
     (0..len).map(|i| pattern(fill, i)).collect(alloc)
 }

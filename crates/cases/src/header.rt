@@ -2,7 +2,7 @@
 use std::fmt;
 use types::font_reader::FontReader;
 
-#[derive(Clone, Copy)]
+#[derive(Clone, Copy, Debug, PartialEq, Eq)]
 pub struct Header(pub FontReader);
 
 impl fmt::Display for Header {

@@ -1,8 +1,10 @@
 // The file of cases, as tools/cases.py writes it: numbers of four bytes, the low byte first, and byte
 // strings as a count of parts, each a repeat count, a length and the bytes.
-ghost use Rattle.std.specs.Prelude.{◌≡◌, take, drop, IfOk};
+ghost use Rattle.std.specs.Prelude.{◌≡◌, MatchResult};
 ghost use Rattle.std.specs.Int.{w32, from_le_bytes, cast_signed};
-ghost use Rattle.cases.specs.Reading.{Read};
+ghost use Rattle.cases.specs.declared.reader.CaseError.TheVariants.{OutOfMemory};
+ghost use Rattle.cases.specs.Reading.{Read, ReadByte};
+ghost use Rattle.cases.specs.Strings.{HasPart, IsPart, HasString, IsString};
 
 use std::alloc::{AllocError, Global};
 use std::error::Error;
@@ -11,7 +13,7 @@ use std::fmt::Write;
 use std::marker::Model;
 
 // Why a case cannot be answered.
-#[derive(Clone, Copy, Debug)]
+#[derive(Clone, Copy, Debug, PartialEq, Eq)]
 pub enum CaseError {
     EndsTooEarly,
     UnknownCode,
@@ -31,6 +33,8 @@ impl fmt::Display for CaseError {
 impl Error for CaseError {}
 
 impl From<AllocError> for CaseError {
+    ghost from_gives = { λ _ e. e ≡ OutOfMemory };
+
     fn from(_error: AllocError) -> CaseError {
         CaseError::OutOfMemory
     }
@@ -93,21 +97,28 @@ impl<'a> Reader<'a> {
 
     // A number that is a byte.
     pub fn byte(&mut self) -> Result<u8, CaseError>
-        ensures { IfOk result (λ n. (n ≡ from_le_bytes w32 (take 4 self.old)) × (self.new ≡ drop 4 self.old)) }
+        ensures { ReadByte self.old self.new result }
     {
         u8::try_from(self.number()?).map_err(|_| CaseError::UnknownCode)
     }
 
+    // A part of a byte string, as often as it stands there.
+    fn part(&mut self, alloc: Global) -> Result<Vec<u8>, CaseError>
+        ensures { MatchResult result (λ v. IsPart self.old v.items self.new) (λ e. HasPart self.old → e ≡ OutOfMemory) }
+    {
+        let times = self.number()?;
+        let len = self.number()?;
+        let piece = self.take(len as usize)?;
+        Ok(piece.repeat(alloc, times as usize)?)
+    }
+
     // A byte string.
-    pub fn bytes(&mut self, alloc: Global) -> Result<Vec<u8>, CaseError> {
+    pub fn bytes(&mut self, alloc: Global) -> Result<Vec<u8>, CaseError>
+        ensures { MatchResult result (λ v. IsString self.old v.items self.new) (λ e. HasString self.old → e ≡ OutOfMemory) }
+    {
         let mut out = Vec::new(alloc);
         for _ in 0..self.number()? {
-            let times = self.number()?;
-            let len = self.number()?;
-            let piece = self.take(len as usize)?;
-            for _ in 0..times {
-                out.extend_from_slice(piece)?;
-            }
+            out.extend_from_slice(&self.part(alloc)?)?;
         }
         Ok(out)
     }

@@ -12,7 +12,7 @@ use types::geometry::{Point, Rectangle, RenderedDimensions};
 use types::style::{FontColor, FontStyle, HorizontalAlignment, Placement, VerticalPosition};
 
 // How the lines of a text are set: how far below a line the next one lies, and which side of each stands at the text's x.
-#[derive(Clone, Copy)]
+#[derive(Clone, Copy, Debug, PartialEq, Eq)]
 pub struct Setting {
     pub line_height: u32,
     pub align: HorizontalAlignment,

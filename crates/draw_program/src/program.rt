@@ -4,6 +4,7 @@ ghost use Rattle.picture_text.specs.Marks.{IsPicture};
 ghost use Rattle.draw_program.specs.Shown.{Small, Showable};
 
 use draw_options::{Options, UnknownWord};
+use font_file::FontFileError;
 use pgm::write_image;
 use picture_text::{EMPTY, color, print_rows};
 use pictures::whole::{DrawError, Drawing, draw_whole};
@@ -26,7 +27,7 @@ fn show_pixels<R: Files + Print + Eprint + Alloc>(rt: &R, size: Size, pgm: bool,
     requires { IsPicture size.width size.height (length pixels.now) }
 {
     if pgm {
-        write_image(rt, "draw.pgm", size, pixels);
+        write_image(rt, b"draw.pgm", size, pixels);
         return;
     }
     print_rows(rt, pixels, size.width as usize, size.height as usize);
@@ -99,10 +100,13 @@ pub fn start<R: Files + Print + Eprint + Alloc, I: Read>(
             return;
         }
     };
-    let path = "font.bin";
+    let path = b"font.bin";
     let mut buffer = font_file::buffer();
     match font_file::read(rt, path, &mut buffer) {
         Ok(font) => draw_input(rt, font, options, input),
-        Err(error) => error.print(rt, path),
+        Err(FontFileError::Unreadable(error)) => system::fail(rt, path, error),
+        Err(error) => {
+            let _ = println!(rt; "{error}");
+        }
     }
 }

@@ -5,27 +5,27 @@
 
 use draw_options::{Options, UnknownWord};
 use draw_program::program::start;
-use std::fs::File;
 use std::rt::Files;
+use system::open_read;
 use types::style::HorizontalAlignment;
 
 fn run<R: Files + Print + Eprint + Alloc>(
     rt: &R,
     heading: &[u8],
-    path: &str,
+    path: &[u8],
     options: Result<Options, UnknownWord>,
 ) {
     printing::text(rt, heading);
-    match File::open(rt, path) {
+    match open_read(rt, path) {
         Ok(mut input) => start(rt, options, &mut input),
         Err(error) => system::fail(rt, path, error),
     }
 }
 
 fn print_image<R: Files + Print + Eprint + Alloc>(rt: &R) {
-    let path = "draw.pgm";
+    let path = b"draw.pgm";
     let mut image = [0u8; 65536];
-    match File::open(rt, path) {
+    match open_read(rt, path) {
         Ok(mut file) => {
             printing::text(rt, system::read_full(&mut file, &mut image));
             printing::text(rt, b"\n");
@@ -44,14 +44,14 @@ fn aligned(align: HorizontalAlignment, background: bool) -> Result<Options, Unkn
 
 fn run_aligned<R: Files + Print + Eprint + Alloc>(rt: &R) {
     let left = aligned(HorizontalAlignment::Left, false);
-    run(rt, b"left\n", "lines.txt", left);
+    run(rt, b"left\n", b"lines.txt", left);
     let center = aligned(HorizontalAlignment::Center, false);
-    run(rt, b"center\n", "lines.txt", center);
+    run(rt, b"center\n", b"lines.txt", center);
     let right = aligned(HorizontalAlignment::Right, true);
-    run(rt, b"right, background\n", "lines.txt", right);
-    run(rt, b"center, no pixel\n", "blank.txt", center);
-    run(rt, b"right, refused\n", "unknown.txt", right);
-    run(rt, b"left, padded with U+0000\n", "padded.txt", left);
+    run(rt, b"right, background\n", b"lines.txt", right);
+    run(rt, b"center, no pixel\n", b"blank.txt", center);
+    run(rt, b"right, refused\n", b"unknown.txt", right);
+    run(rt, b"left, padded with U+0000\n", b"padded.txt", left);
 }
 
 fn main(rt: HostRuntime) {
@@ -60,13 +60,13 @@ fn main(rt: HostRuntime) {
         background: true,
         ..Options::default()
     };
-    run(rt, b"background\n", "text.txt", Ok(background));
+    run(rt, b"background\n", b"text.txt", Ok(background));
     let image = Options {
         pgm: true,
         ..background
     };
-    run(rt, b"background, pgm\n", "text.txt", Ok(image));
+    run(rt, b"background, pgm\n", b"text.txt", Ok(image));
     print_image(rt);
     run_aligned(rt);
-    run(rt, b"a wrong word\n", "text.txt", Err(UnknownWord));
+    run(rt, b"a wrong word\n", b"text.txt", Err(UnknownWord));
 }

@@ -4,20 +4,36 @@
 ghost use Rattle.std.specs.Prelude.{◌≡◌, ◌<◌, length, IfOk};
 ghost use Rattle.font_file.specs.declared.FontFileError.TheVariants.{Unreadable};
 
-use std::fs::File;
-use std::io;
+use printing::{Cause, Refusal};
+use std::fmt::{Display, Formatter};
 use std::rt::Files;
-use system::Stopped;
+use std::{fmt, io};
+use system::{Stopped, open_read};
 use types::error::Error;
 
 // Why there is no font.
-#[derive(Drop)]
+#[derive(Clone, Copy, Debug)]
 pub enum FontFileError {
     // the file cannot be opened, or reading it fails
     Unreadable(io::Error),
     // it fills the buffer, and may go on
     TooLong,
 }
+
+// The system's words, or the line of a call that refuses the font.
+impl Display for FontFileError {
+    fn fmt<W: fmt::Write>(&self, f: &mut Formatter<W>) -> fmt::Result {
+        match self {
+            FontFileError::Unreadable(cause) => write!(f, "{cause}"),
+            FontFileError::TooLong => {
+                let refusal = Error::FontLength;
+                write!(f, "{}: {}", Refusal(refusal), Cause(refusal))
+            }
+        }
+    }
+}
+
+impl std::error::Error for FontFileError {}
 
 impl From<io::Error> for FontFileError {
     ghost from_gives = { λ error result. result ≡ Unreadable error };
@@ -35,16 +51,6 @@ impl From<Stopped<'_>> for FontFileError {
     }
 }
 
-impl FontFileError {
-    // Says why there is no font, as a call would.
-    pub fn print<R: Print + Eprint + Alloc>(self, rt: &R, path: &str) {
-        match self {
-            FontFileError::Unreadable(error) => system::fail(rt, path, error),
-            FontFileError::TooLong => printing::refusal_line(rt, Error::FontLength),
-        }
-    }
-}
-
 // Room for the longest font that the calls take, 1,048,576 bytes, and one byte more, which only a longer file fills.
 pub fn buffer() -> [u8; 1_048_577]
     ensures { 1048577 ≡ length result }
@@ -55,13 +61,13 @@ pub fn buffer() -> [u8; 1_048_577]
 // Reads the file of that name into the buffer, and answers the font's bytes.
 pub fn read<'a, R: Files>(
     rt: &R,
-    path: &str,
+    path: &[u8],
     buffer: &'a mut [u8],
 ) -> Result<&'a [u8], FontFileError>
     ensures { IfOk result (λ font. length font.now < length buffer.old) }
 {
     let room = buffer.len();
-    let mut file = File::open(rt, path)?;
+    let mut file = open_read(rt, path)?;
     let font = system::fill(&mut file, buffer)?;
     if font.len() == room {
         return Err(FontFileError::TooLong);

@@ -6,5 +6,5 @@
 use measure_program::measure_file;
 
 fn main(rt: HostRuntime) {
-    measure_file(&rt, "font.bin", &mut rt.reader());
+    measure_file(&rt, b"font.bin", &mut rt.reader());
 }

@@ -3,12 +3,12 @@
 #![tactic(auto)]
 
 use measure_program::measure_file;
-use std::fs::File;
 use std::rt::Files;
+use system::open_read;
 
 // Measures the text of one file in the font of another.
-fn measure<R: Files + Print + Eprint + Alloc>(rt: &R, font: &str, text: &str) {
-    match File::open(rt, text) {
+fn measure<R: Files + Print + Eprint + Alloc>(rt: &R, font: &[u8], text: &[u8]) {
+    match open_read(rt, text) {
         Ok(mut input) => measure_file(rt, font, &mut input),
         Err(error) => system::fail(rt, text, error),
     }
@@ -16,8 +16,8 @@ fn measure<R: Files + Print + Eprint + Alloc>(rt: &R, font: &str, text: &str) {
 
 fn main(rt: HostRuntime) {
     let rt = &rt;
-    measure(rt, "longest.bin", "longest.txt");
-    measure(rt, "too_long.bin", "longest.txt");
-    measure(rt, "longest.bin", "too_long.txt");
-    measure(rt, "missing.bin", "longest.txt");
+    measure(rt, b"longest.bin", b"longest.txt");
+    measure(rt, b"too_long.bin", b"longest.txt");
+    measure(rt, b"longest.bin", b"too_long.txt");
+    measure(rt, b"missing.bin", b"longest.txt");
 }

@@ -9,10 +9,9 @@ ghost use Rattle.measure_program.specs.Filled.{Filled};
 use answer_line::LINE_ROOM;
 use measure_line::measure_line;
 use numbers::text::Text;
-use std::fs::File;
 use std::io::Read;
 use std::rt::Files;
-use system::read_full;
+use system::{open_read, read_full};
 
 // Room for a byte more than is allowed, so that what is too long is seen.
 const FONT_ROOM: usize = 65_537;
@@ -20,10 +19,10 @@ const FONT_ROOM: usize = 65_537;
 const TEXT_ROOM: usize = 4_097;
 
 // What can be read of the font. A file that is missing or cannot be read is an empty font.
-fn read_font<'a, R: Files>(rt: &R, path: &str, buffer: &'a mut [u8; FONT_ROOM]) -> &'a [u8]
+fn read_font<'a, R: Files>(rt: &R, path: &[u8], buffer: &'a mut [u8; FONT_ROOM]) -> &'a [u8]
     ensures { length result.now ≤ FONT_ROOM }
 {
-    match File::open(rt, path) {
+    match open_read(rt, path) {
         Ok(mut file) => read_full(&mut file, buffer),
         Err(_) => &[],
     }
@@ -45,7 +44,7 @@ fn measure_read(font: &[u8], text: &[u8]) -> Text<LINE_ROOM>
 }
 
 // Measures the text that comes from `input` in the font of that path.
-pub fn measure_file<R: Files + Print, I: Read>(rt: &R, path: &str, input: &mut I) {
+pub fn measure_file<R: Files + Print, I: Read>(rt: &R, path: &[u8], input: &mut I) {
     let mut font = [0u8; FONT_ROOM];
     let font = read_font(rt, path, &mut font);
     let mut text = [0u8; TEXT_ROOM];

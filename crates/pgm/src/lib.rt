@@ -5,10 +5,10 @@ ghost use Rattle.std.specs.Prelude.{◌≡◌};
 ghost use Rattle.pgm.specs.Images.{pgm_head};
 
 use numbers::text::Text;
-use std::fs::File;
 use std::io;
 use std::io::Write;
 use std::rt::Files;
+use system::open_overwrite;
 use types::geometry::Size;
 
 // The longest head: `P5`, two numbers of ten digits, each after a space, and `255` between newlines.
@@ -26,14 +26,14 @@ fn head(size: Size) -> Text<HEAD_ROOM>
 }
 
 // Of the two writes the second says whether the image is written.
-fn write_file<R: Files>(rt: &R, path: &str, size: Size, pixels: &[u8]) -> io::Result<()> {
-    let mut file = File::create(rt, path)?;
+fn write_file<R: Files>(rt: &R, path: &[u8], size: Size, pixels: &[u8]) -> io::Result<()> {
+    let mut file = open_overwrite(rt, path)?;
     let _ = file.write_all(head(size).as_bytes());
     file.write_all(pixels)
 }
 
 // Writes the image to the file of that name, or says why not.
-pub fn write_image<R: Files + Eprint + Alloc>(rt: &R, path: &str, size: Size, pixels: &[u8]) {
+pub fn write_image<R: Files + Eprint + Alloc>(rt: &R, path: &[u8], size: Size, pixels: &[u8]) {
     if let Err(error) = write_file(rt, path, size, pixels) {
         system::fail(rt, path, error);
     }

@@ -14,14 +14,14 @@ use types::geometry::{Point, Rectangle, RenderedDimensions, Size};
 use types::style::{FontColor, HorizontalAlignment, Placement, VerticalPosition};
 
 // What is answered, and the framebuffer's size, if the text has a pixel. The framebuffer's pixels begin the buffer.
-#[derive(Clone, Copy)]
+#[derive(Clone, Copy, Debug, PartialEq, Eq)]
 pub struct Drawing {
     pub dimensions: RenderedDimensions,
     pub size: Option<Size>,
 }
 
 // Why a text is not drawn.
-#[derive(Clone, Copy)]
+#[derive(Clone, Copy, Debug, PartialEq, Eq)]
 pub enum DrawError {
     // its box does not fit the largest framebuffer
     TooLarge(Rectangle),

@@ -8,7 +8,7 @@ use sheet_program::program::start;
 
 fn main(rt: HostRuntime) {
     match read(&rt) {
-        Ok(options) => start(&rt, "font.bin", options),
+        Ok(options) => start(&rt, b"font.bin", options),
         Err(wrong) => {
             let _ = println!(rt; "{wrong}");
         }

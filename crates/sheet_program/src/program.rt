@@ -7,6 +7,7 @@ use crate::cells;
 use crate::run::run;
 use crate::values::Sheet;
 use faulty_step::Trial;
+use font_file::FontFileError;
 use sheet_extent::place::place_for;
 use sheet_extent::values::Options;
 use sheet_ground::ground::lay_ground;
@@ -71,10 +72,13 @@ fn show_sheet<R: Files + Print>(rt: &R, font: &[u8], options: Options) {
 }
 
 // The program, for the font in that file.
-pub fn start<R: Files + Print + Eprint + Alloc>(rt: &R, path: &str, options: Options) {
+pub fn start<R: Files + Print + Eprint + Alloc>(rt: &R, path: &[u8], options: Options) {
     let mut buffer = font_file::buffer();
     match font_file::read(rt, path, &mut buffer) {
         Ok(font) => show_sheet(rt, font, options),
-        Err(error) => error.print(rt, path),
+        Err(FontFileError::Unreadable(error)) => system::fail(rt, path, error),
+        Err(error) => {
+            let _ = println!(rt; "{error}");
+        }
     }
 }

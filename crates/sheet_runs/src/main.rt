@@ -23,7 +23,7 @@ fn top_at(x: i32, y: i32) -> Options {
 
 fn run<R: Files + Print + Eprint + Alloc>(rt: &R, heading: &[u8], options: Options) {
     printing::text(rt, heading);
-    start(rt, "gauge.bin", options);
+    start(rt, b"gauge.bin", options);
 }
 
 fn main(rt: HostRuntime) {
@@ -37,7 +37,7 @@ fn main(rt: HostRuntime) {
         },
     );
     printing::text(rt, b"top at -9 -4, in a font that ends within its 5\n");
-    start(rt, "cut.bin", top_at(-9, -4));
+    start(rt, b"cut.bin", top_at(-9, -4));
     run(
         rt,
         b"top at 232 3: long readings run off the framebuffer to the right\n",

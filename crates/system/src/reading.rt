@@ -4,7 +4,7 @@ ghost use Rattle.std.specs.Prelude.{◌≤◌, length, MatchResult};
 use std::io::{Error, Read};
 
 // A read failed, after these bytes.
-#[derive(Drop)]
+#[derive(Clone, Copy, Debug)]
 pub struct Stopped<'a> {
     pub read: &'a [u8],
     pub error: Error,
