@@ -1,11 +1,10 @@
 -- A call's answer, from what its codes mean and what it stored; and for a call that draws, what it left on the framebuffer.
 use Rattle.integers.proofs.Prelude.{◌≡◌, sym, ap, ◌∙◌, List, ℕ, ℤ}
-use Rattle.definitions.specs.Vocabulary.{Error, LookupSteps}
-use Rattle.definitions.specs.Refusals.{outcome}
-use Rattle.std.specs.Prelude.{Option, Some, Result, Ok, Err, MatchResult}
+use Rattle.definitions.specs.Vocabulary.{LookupSteps}
+use Rattle.std.specs.Prelude.{Option, Some}
 use Rattle.c_codes.specs.declared.Meaning.{Meaning}
 use Rattle.c_values.specs.declared.reply.Reply.{Reply}
-use Rattle.c_values.specs.Replies.{Counted, counted, Answers, stored, drawn_by, reply_by, error_reply}
+use Rattle.c_values.specs.Replies.{Counted, counted, Answers, stored, drawn_by}
 
 -- `read` is what the codes were read as.
 module _ {read codes : Option Meaning} (is : read ≡ codes) (answer : Meaning → Counted) (before : List ℤ) where
@@ -24,9 +23,3 @@ module _ {read codes : Option Meaning} (is : read ≡ codes) (answer : Meaning �
         → read ≡ Some m → r ≡ (answer m).reply → q ≡ (answer m).steps → Stored r q status after → left ≡ drawing m
         → Answers codes answer status before after × (left ≡ drawn_by codes drawing buffer)
     drawn k f g h d = let e = sym is ∙ k in (answers k f g h, simp e d)
-
--- What a reply is made of, by what the call answered.
-pub as_outcome : {A : Type 0} (shape : A → Reply) (answer : Result A Error) {r : Reply}
-    → MatchResult answer (λ a. r ≡ shape a) (λ e. r ≡ error_reply e) → r ≡ reply_by shape (outcome answer)
-as_outcome shape (Ok a) h = h
-as_outcome shape (Err e) h = h

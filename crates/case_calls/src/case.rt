@@ -1,4 +1,9 @@
 // A case's numbers, in the order of the file.
+ghost use Rattle.std.specs.Prelude.{◌≡◌, ok_or};
+ghost use Rattle.cases.specs.declared.reader.CaseError.TheVariants.{UnknownCode};
+ghost use Rattle.case_calls.specs.Numbers.{call_of, place_of, IsCase, IsColor, Reads};
+
+use c_codes::{known_alignment, known_anchor, known_flag};
 use cases::reader::{CaseError, Reader};
 use types::framebuffer::Framebuffer;
 use types::geometry::Point;
@@ -9,7 +14,7 @@ use types::style::{FontColor, FontStyle, HorizontalAlignment, Placement, Vertica
 const SUMS: u32 = 16;
 
 // Which call a case makes.
-#[derive(Clone, Copy)]
+#[derive(Clone, Copy, Debug, PartialEq, Eq)]
 pub enum Call {
     Open,
     FontBox,
@@ -19,7 +24,7 @@ pub enum Call {
 }
 
 // .. on a framebuffer
-#[derive(Clone, Copy)]
+#[derive(Clone, Copy, Debug, PartialEq, Eq)]
 pub enum Drawing {
     Plain,
     Aligned,
@@ -29,6 +34,9 @@ pub enum Drawing {
 impl TryFrom<u32> for Call {
     type Error = CaseError;
 
+    ghost try_from_gives = { λ code r. r ≡ ok_or (call_of code) UnknownCode };
+
+    #[tactic(auto, unfolding(crate::specs::Numbers::call_of))]
     fn try_from(code: u32) -> Result<Call, CaseError> {
         match code {
             0 => Ok(Call::Open),
@@ -43,36 +51,10 @@ impl TryFrom<u32> for Call {
     }
 }
 
-// The codes of types of another crate, which can have no TryFrom here.
-fn vertical_pos(code: u32) -> Result<VerticalPosition, CaseError> {
-    match code {
-        0 => Ok(VerticalPosition::Baseline),
-        1 => Ok(VerticalPosition::Top),
-        2 => Ok(VerticalPosition::Center),
-        3 => Ok(VerticalPosition::Bottom),
-        _ => Err(CaseError::UnknownCode),
-    }
-}
-
-fn horizontal_align(code: u32) -> Result<HorizontalAlignment, CaseError> {
-    match code {
-        0 => Ok(HorizontalAlignment::Left),
-        1 => Ok(HorizontalAlignment::Center),
-        2 => Ok(HorizontalAlignment::Right),
-        _ => Err(CaseError::UnknownCode),
-    }
-}
-
-fn flag(code: u32) -> Result<bool, CaseError> {
-    match code {
-        0 => Ok(false),
-        1 => Ok(true),
-        _ => Err(CaseError::UnknownCode),
-    }
-}
-
-fn read_color(cases: &mut Reader) -> Result<FontColor, CaseError> {
-    let has_background = flag(cases.number()?)?;
+fn read_color(cases: &mut Reader) -> Result<FontColor, CaseError>
+    ensures { Reads IsColor 3 cases.old cases.new result }
+{
+    let has_background = known_flag(cases.number()?).ok_or(CaseError::UnknownCode)?;
     let fg = cases.byte()?;
     let bg = cases.byte()?;
     Ok(if has_background {
@@ -83,7 +65,7 @@ fn read_color(cases: &mut Reader) -> Result<FontColor, CaseError> {
 }
 
 // A call, and what it is handed beside the font and the text.
-#[derive(Clone, Copy)]
+#[derive(Clone, Copy, Debug, PartialEq, Eq)]
 pub struct Case {
     pub call: Call,
     pub sums: bool,
@@ -100,18 +82,27 @@ pub struct Case {
 }
 
 impl Case {
-    pub fn read(cases: &mut Reader) -> Result<Case, CaseError> {
+    #[tactic(auto, using(crate::proofs::ShortLaws::short_behind))]
+    pub fn read(cases: &mut Reader) -> Result<Case, CaseError>
+        ensures { Reads IsCase 16 cases.old cases.new result }
+    {
         let kind = cases.number()?;
         let call = Call::try_from(kind % SUMS)?;
         let x = cases.signed_number()?;
         let y = cases.signed_number()?;
-        let vertical_pos = vertical_pos(cases.number()?)?;
-        let horizontal_align = horizontal_align(cases.number()?)?;
+        let vertical_pos = known_anchor(cases.number()?).ok_or(CaseError::UnknownCode)?;
+        let align = known_alignment(cases.number()?);
+        let horizontal_align = align.ok_or(CaseError::UnknownCode)?;
         let line_height = cases.number()?;
-        let ignore_unknown_chars = flag(cases.number()?)?;
+        let skip = known_flag(cases.number()?);
+        let ignore_unknown_chars = skip.ok_or(CaseError::UnknownCode)?;
         let color = read_color(cases)?;
         let width = cases.number()? as usize;
         let height = cases.number()? as usize;
+        let fill = cases.byte()?;
+        let len = cases.number()? as usize;
+        let old_len = cases.number()? as usize;
+        let background = cases.byte()?;
         Ok(Case {
             call,
             sums: SUMS <= kind,
@@ -126,15 +117,17 @@ impl Case {
             },
             horizontal_align,
             framebuffer: Framebuffer { width, height },
-            fill: cases.byte()?,
-            len: cases.number()? as usize,
-            old_len: cases.number()? as usize,
-            background: cases.byte()?,
+            fill,
+            len,
+            old_len,
+            background,
         })
     }
 
     // Where and how a redraw's readings are drawn.
-    pub fn place(&self) -> Place {
+    pub fn place(&self) -> Place
+        ensures { result ≡ place_of self.now }
+    {
         Place {
             position: self.placement.position,
             style: self.style,

@@ -10,7 +10,6 @@ use printing::{Answer, Area, BoxOrNone, Dimensions};
 use redraw::reading::redraw;
 use renderer::render::render;
 use renderer::render_aligned::render_aligned;
-use std::alloc::{AllocError, Global};
 use std::fmt::Display;
 use types::results::Report;
 
@@ -30,15 +29,15 @@ fn print_report<R: Print, T, D: Display + Drop, F: Fn(T) -> D>(
     }
 }
 
-// Draws on a framebuffer with the contents that the case asks for, and prints the answer and the framebuffer.
+// Draws on the framebuffer, and prints the answer and the framebuffer.
 fn answer_drawing<R: Print>(
     rt: &R,
-    alloc: Global,
     case: Case,
     drawing: Drawing,
     font: &[u8],
     text: &[u8],
-) -> Result<(), AllocError> {
+    buffer: &mut [u8],
+) {
     let Case {
         placement,
         style,
@@ -46,43 +45,27 @@ fn answer_drawing<R: Print>(
         sums,
         ..
     } = case;
-    let mut buffer = framebuffers::filled(alloc, case.fill, case.len)?;
     match drawing {
         Drawing::Plain => {
-            let report = render(font, text, placement, style, framebuffer, &mut buffer);
+            let report = render(font, text, placement, style, framebuffer, buffer);
             print_report(rt, sums, report, Dimensions);
         }
         Drawing::Aligned => {
             let align = case.horizontal_align;
-            let report = render_aligned(
-                font,
-                text,
-                placement,
-                style,
-                align,
-                framebuffer,
-                &mut buffer,
-            );
+            let report = render_aligned(font, text, placement, style, align, framebuffer, buffer);
             print_report(rt, sums, report, BoxOrNone);
         }
         Drawing::Redraw => {
             let (old_text, new_text) = text.split_at(case.old_len.min(text.len()));
-            let report = redraw(font, old_text, new_text, case.place(), &mut buffer);
+            let report = redraw(font, old_text, new_text, case.place(), buffer);
             print_report(rt, sums, report, Dimensions);
         }
     }
-    framebuffers::print(rt, &buffer, case.fill, framebuffer);
-    Ok(())
+    framebuffers::print(rt, buffer, case.fill, framebuffer);
 }
 
-// Makes the case's call and prints its answer.
-pub fn answer<R: Print>(
-    rt: &R,
-    alloc: Global,
-    case: Case,
-    font: &[u8],
-    text: &[u8],
-) -> Result<(), AllocError> {
+// Makes the case's call, if it draws on that framebuffer, and prints its answer.
+pub fn answer<R: Print>(rt: &R, case: Case, font: &[u8], text: &[u8], buffer: &mut [u8]) {
     let Case {
         placement,
         sums,
@@ -105,7 +88,6 @@ pub fn answer<R: Print>(
             let report = get_rendered_dimensions_aligned(font, text, placement, anchor, align);
             print_report(rt, sums, report, BoxOrNone);
         }
-        Call::Draw(drawing) => answer_drawing(rt, alloc, case, drawing, font, text)?,
+        Call::Draw(drawing) => answer_drawing(rt, case, drawing, font, text, buffer),
     }
-    Ok(())
 }

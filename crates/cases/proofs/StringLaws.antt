@@ -1,6 +1,6 @@
 -- Reading the parts of a byte string, one after the other. Assumes nothing.
 use Rattle.std.proofs.Common.{◌≡◌, refl, sym, subst, ◌∙◌, ℕ, suc, ◌+◌, ◌-◌, ◌≤◌, ◌<◌, List, [], ◌++◌, length, drop, append_assoc, append-nil, arith}
-use Rattle.cases.specs.Strings.{number, HasPart, IsPart, part, parts, behind_parts, HasParts, next_part, HasString, IsString}
+use Rattle.cases.specs.Strings.{number, HasPart, IsPart, part, parts, behind_parts, HasParts, next_part, IsString}
 
 -- What was read of n parts of a file, and what of the file is left, from which k parts more are to be read.
 pub record Reached (n : ℕ) (file bytes rest : List ℕ) (k : ℕ) : Type 0 where

@@ -4,6 +4,7 @@
 
 use case_calls::case::Case;
 use case_calls::request;
+use cases::framebuffers::filled;
 use cases::reader::{CaseError, Reader};
 use std::alloc::Global;
 use std::fs;
@@ -14,9 +15,10 @@ fn replay<R: Print>(rt: &R, alloc: Global, cases: &mut Reader) -> Result<(), Cas
     let font = cases.bytes(alloc)?;
     let text = cases.bytes(alloc)?;
     let case = Case::read(cases)?;
+    let mut framebuffer = filled(alloc, case.fill, case.len)?;
     printing::text(rt, &label);
     let _ = print!(rt; ": ");
-    request::answer(rt, alloc, case, &font, &text)?;
+    request::answer(rt, case, &font, &text, &mut framebuffer);
     let _ = println!(rt);
     Ok(())
 }
@@ -34,7 +36,7 @@ fn main(rt: HostRuntime) {
     let file = match fs::read(&rt, path) {
         Ok(file) => file,
         Err(error) => {
-            system::fail(&rt, path, error);
+            system::fail(&rt, path.as_bytes(), error);
             return;
         }
     };

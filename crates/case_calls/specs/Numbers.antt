@@ -1,0 +1,79 @@
+-- A case's sixteen numbers, of four bytes each, in the order of the file.
+use Rattle.std.specs.Prelude.{◌≡◌, Bool, Option, Some, None, ℕ, zero, suc, ◌*◌, ◌≤◌, ◌<◌, ◌%◌, List, length, take, drop, ℤ, eqb, leb, Result, Ok, Err}
+use Rattle.std.specs.Int.{w32, from_le_bytes, cast_signed}
+use Rattle.integers.specs.Integers.{pick}
+use Rattle.definitions.specs.Vocabulary.{FontColor, Place}
+use Rattle.c_codes.specs.Codes.{anchor_of, alignment_of, flag_of, ink_of}
+use Rattle.cases.specs.declared.reader.CaseError.{CaseError}
+use Rattle.case_calls.specs.declared.case.Call.{Call}
+use Rattle.case_calls.specs.declared.case.Call.TheVariants.{Open, FontBox, Measure, MeasureAligned, Draw}
+use Rattle.case_calls.specs.declared.case.Drawing.TheVariants.{Plain, Aligned, Redraw}
+use Rattle.case_calls.specs.declared.case.Case.{Case}
+
+-- what stands behind n numbers
+abbrev pub behind : ℕ → List ℕ → List ℕ
+behind zero file = file
+behind (suc n) file = drop 4 (behind n file)
+
+-- the number behind n others
+abbrev pub number : ℕ → List ℕ → ℕ
+number n file = from_le_bytes w32 (take 4 (behind n file))
+
+abbrev pub signed_number : ℕ → List ℕ → ℤ
+signed_number n file = cast_signed w32 (number n file)
+
+unfoldable pub call_of : ℕ → Option Call
+call_of code =
+    pick (eqb code 0) (Some Open)
+    (pick (eqb code 1) (Some FontBox)
+    (pick (eqb code 2) (Some Measure)
+    (pick (eqb code 3) (Some MeasureAligned)
+    (pick (eqb code 4) (Some (Draw Plain))
+    (pick (eqb code 5) (Some (Draw Redraw))
+    (pick (eqb code 6) (Some (Draw Aligned)) None))))))
+
+-- a flag and two bytes are a colour
+pub record IsColor (file : List ℕ) (color : FontColor) : Type 0 where
+  pub long : 4 ≤ length (behind 2 file)
+  pub background : Bool
+  pub known : flag_of (number 0 file) ≡ Some background
+  pub is : color ≡ ink_of background (number 1 file) (number 2 file)
+  pub fg : number 1 file < 256
+  pub bg : number 2 file < 256
+
+-- the numbers of a case
+pub record IsCase (file : List ℕ) (case : Case) : Type 0 where
+  pub long : 4 ≤ length (behind 15 file)
+  pub call : call_of (number 0 file % 16) ≡ Some case.call
+  pub sums : case.sums ≡ leb 16 (number 0 file)
+  pub x : case.placement.position.x ≡ signed_number 1 file
+  pub y : case.placement.position.y ≡ signed_number 2 file
+  pub anchor : anchor_of (number 3 file) ≡ Some case.style.vertical_pos
+  pub align : alignment_of (number 4 file) ≡ Some case.horizontal_align
+  pub line_height : case.placement.line_height ≡ number 5 file
+  pub skip : flag_of (number 6 file) ≡ Some case.placement.ignore_unknown_chars
+  pub color : IsColor (behind 7 file) case.style.color
+  pub width : case.framebuffer.width ≡ number 10 file
+  pub height : case.framebuffer.height ≡ number 11 file
+  pub fill : case.fill ≡ number 12 file
+  pub fill_low : number 12 file < 256
+  pub len : case.len ≡ number 13 file
+  pub old_len : case.old_len ≡ number 14 file
+  pub background : case.background ≡ number 15 file
+  pub background_low : number 15 file < 256
+
+-- A value is read of n numbers, which are passed, or they are no such value.
+abbrev pub Reads : {A : Type 0} → (List ℕ → A → Type 0) → ℕ → List ℕ → List ℕ → Result A CaseError → Type 0
+Reads Is n before after (Ok value) = Is before value × (after ≡ behind n before)
+Reads Is n before after (Err e) = (value : _) → Is before value → ⊥
+
+-- where and how a redraw's readings are drawn
+abbrev pub place_of : Case → Place
+place_of c = record {
+  position = c.placement.position;
+  style = c.style;
+  horizontal_align = c.horizontal_align;
+  line_height = c.placement.line_height;
+  background = c.background;
+  framebuffer = c.framebuffer;
+}
