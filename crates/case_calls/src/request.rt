@@ -29,7 +29,7 @@ fn print_report<R: Print, T, D: Display + Drop, F: Fn(T) -> D>(
     }
 }
 
-// Draws on the framebuffer, and prints the answer and the framebuffer.
+// Draws on the framebuffer, which holds before what the case asks for, and prints the answer and the framebuffer.
 fn answer_drawing<R: Print>(
     rt: &R,
     case: Case,
@@ -45,6 +45,7 @@ fn answer_drawing<R: Print>(
         sums,
         ..
     } = case;
+    framebuffers::fill(buffer, case.fill);
     match drawing {
         Drawing::Plain => {
             let report = render(font, text, placement, style, framebuffer, buffer);

@@ -1,8 +1,7 @@
 // The framebuffer of a case: what it holds before the call, and how it is printed after it.
-ghost use Rattle.std.specs.Prelude.{◌≡◌, ◌<◌, IfOk};
-ghost use Rattle.cases.specs.Patterns.{pattern_at, filled_with};
+ghost use Rattle.std.specs.Prelude.{◌≡◌, ◌<◌, ℕ, length, get_or};
+ghost use Rattle.cases.specs.Patterns.{pattern_at};
 
-use std::alloc::{AllocError, Global};
 use types::framebuffer::Framebuffer;
 
 // What stands at an index before the call: 0 throughout, or a pattern in which neighbours differ.
@@ -16,10 +15,12 @@ fn pattern(fill: u8, i: usize) -> u8
     }
 }
 
-pub fn filled(alloc: Global, fill: u8, len: usize) -> Result<Vec<u8>, AllocError>
-    ensures { IfOk result (λ v. v.items ≡ filled_with fill len) }
+pub fn fill(framebuffer: &mut [u8], fill: u8)
+    ensures { (i : ℕ) → i < length framebuffer.old → get_or framebuffer.new i 0 ≡ pattern_at fill i }
 {
-    (0..len).map(|i| pattern(fill, i)).collect(alloc)
+    for (i, pixel) in framebuffer.iter_mut().enumerate() {
+        *pixel = pattern(fill, i);
+    }
 }
 
 // The bytes, a line for each row.

@@ -123,3 +123,20 @@ impl<'a> Reader<'a> {
         Ok(out)
     }
 }
+
+#[cfg(test)]
+mod tests {
+    use super::*;
+    use std::test::Fail;
+
+    // two parts, "ab" three times and "c" once, and a number behind them
+    #[test]
+    fn byte_string_is_read(rt: HostRuntime) -> Result<(), Fail> {
+        let file = b"\x02\0\0\0\x03\0\0\0\x02\0\0\0ab\x01\0\0\0\x01\0\0\0c\x07\0\0\0";
+        let mut reader = Reader::new(file);
+        let string = reader.bytes(rt.alloc())?;
+        assert_eq!(rt; string.as_slice(), b"abababc".as_slice());
+        assert_eq!(rt; reader.number()?, 7);
+        Ok(())
+    }
+}

@@ -4,7 +4,6 @@
 
 use case_calls::case::Case;
 use case_calls::request;
-use cases::framebuffers::filled;
 use cases::reader::{CaseError, Reader};
 use std::alloc::Global;
 use std::fs;
@@ -15,7 +14,7 @@ fn replay<R: Print>(rt: &R, alloc: Global, cases: &mut Reader) -> Result<(), Cas
     let font = cases.bytes(alloc)?;
     let text = cases.bytes(alloc)?;
     let case = Case::read(cases)?;
-    let mut framebuffer = filled(alloc, case.fill, case.len)?;
+    let mut framebuffer = vec![in alloc; 0; case.len]?;
     printing::text(rt, &label);
     let _ = print!(rt; ": ");
     request::answer(rt, case, &font, &text, &mut framebuffer);
