@@ -20,7 +20,8 @@ pub struct Answers<T> {
 }
 
 // Draws one text on two framebuffers, on each with a font of its own, and measures it with both fonts. Whatever the input, the four
-// answers and the two framebuffers are those of the calls, and so the claim is about the calls.
+// answers and the two framebuffers are those of the calls, and so the claim is about the calls. What they are handed stands one by one,
+// as they take it: a struct that lends a buffer needs two clauses more (`Context` of crate renderer).
 pub fn draw_twice_and_measure_by<C: Calls>(
     calls: &C,
     first_font: &[u8],

@@ -83,6 +83,7 @@ impl<'a> Reader<'a> {
         Ok(*word)
     }
 
+    // Two functions: `from_le_bytes` is of each type and of no trait.
     pub fn number(&mut self) -> Result<u32, CaseError>
         ensures { Read 4 self.old self.new (λ n p. n ≡ from_le_bytes w32 p) result }
     {

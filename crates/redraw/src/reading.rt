@@ -44,7 +44,7 @@ fn clear_reading<F: FnOnce(Option<Rectangle>) -> Option<Rectangle>>(
 }
 
 // Draws a text of which every character draws, and of any other nothing.
-fn draw_reading(
+pub fn draw_reading(
     font: &OpenedFont,
     text: &[u8],
     pen: Pen,

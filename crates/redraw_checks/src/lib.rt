@@ -20,7 +20,8 @@ pub struct Step<'a> {
     pub new_pen: Pen,
 }
 
-// Causes 1 to 6 (SPECIFICATION, Refusals), in this order, for both texts. Nothing is skipped.
+// Causes 1 to 6 (SPECIFICATION, Refusals), in this order, for both texts. Nothing is skipped. The two texts stand one by one, here and
+// in redraw: a struct of them would be made for the call and taken apart in it.
 pub fn check_step<'a>(
     font: &'a [u8],
     old_text: &[u8],

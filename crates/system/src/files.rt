@@ -20,7 +20,7 @@ pub fn open_read<R: Files>(rt: &R, path: &[u8]) -> Result<R::File>
     File::open(rt, name_of(path)?)
 }
 
-// Creates the file, or empties it if it is there.
+// Creates the file, or empties it if it is there. Both are one call of std; a closure that says which would be no plainer.
 pub fn open_overwrite<R: Files>(rt: &R, path: &[u8]) -> Result<R::File>
     ensures { ¬ (IsUtf8 path.now) → IsErr result }
 {

@@ -10,7 +10,8 @@ pub struct Stopped<'a> {
     pub error: Error,
 }
 
-// Reads until the buffer is full or the input ends, and answers the bytes that were read.
+// Reads until the buffer is full or the input ends, and answers the bytes that were read. The loop goes by what each read answers:
+// `read_exact` of std does not say how far it came, and `read_to_end` takes a Vec.
 pub fn fill<'a, I: Read>(input: &mut I, buffer: &'a mut [u8]) -> Result<&'a [u8], Stopped<'a>>
     ensures { MatchResult result (λ bytes. length bytes.now ≤ length buffer.old)
         (λ stopped. length stopped.read.now ≤ length buffer.old) }

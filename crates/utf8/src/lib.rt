@@ -10,7 +10,8 @@ ghost use Rattle.utf8.specs.Splits.{FirstAndRest};
 use utf8_rows::{Row, row_of};
 use utf8_sequences::{four_bytes, three_bytes, two_bytes};
 
-// The byte at i; past the end 0, which continues no sequence.
+// The byte at i; past the end 0, which continues no sequence. Crate window has the same of a font, in one expression as here; neither
+// stands on the other.
 fn byte_at(text: &[u8], i: usize) -> u8
     ensures { result ≡ get_or text.now i 0 }
 {

@@ -5,7 +5,8 @@ ghost use Rattle.std.specs.Prelude.{◌≡◌};
 ghost use Rattle.definitions.specs.Utf8.{row_of};
 ghost use Rattle.utf8_rows.specs.Rows.{as_row};
 
-// A row of table 3-7: how many bytes, and the range of the second.
+// A row of table 3-7: how many bytes, and the range of the second, as its first and last byte: a `RangeInclusive` is not Copy, which
+// a row is.
 #[derive(Clone, Copy, Debug, PartialEq, Eq)]
 pub enum Row {
     One,
