@@ -4,7 +4,6 @@ use Rattle.definitions.specs.Vocabulary.{Place}
 use Rattle.sheet_extent.specs.declared.values.Options.{Options}
 use Rattle.sheet_extent.specs.Extent.{place_for}
 use Rattle.sheet_ground.specs.Readings.{PlaceFits}
-use Rattle.sheet_program.specs.Sheets.{SheetOf}
 use Rattle.sheet_extent.proofs.ExtentLaws.{fits_for}
 use Rattle.sheet_program.proofs.FitLaws.{place_size, front_length, buffers_fit}
 use Rattle.sheet_program.proofs.program.make_sheet.Goals as goal
@@ -35,6 +34,3 @@ slice_bounds-fill_sheet-end-6 g c = sym (front_length (fits c.args.font.now c.ar
 
 pub fill_sheet-requires : goal.fill_sheet-requires
 fill_sheet-requires g c = buffers_fit (fits c.args.font.now c.args.options c.place_for-place.ensures.place) c.args.ground.now c.args.screen.now c.args.alone.now c.requires
-
-pub returns : goal.returns
-returns g c = subst (λ (q : Place). SheetOf c.args.options.narrow c.args.font.now q c.fill_sheet.result) c.place_for-place.ensures.place c.fill_sheet.ensures
