@@ -1,5 +1,5 @@
 // The line that a measuring call's outcome is printed as (SPECIFICATION, Measuring program). printing's Display types say the same
-// words; the line that is proved is a value, which `write!` could make only as a String, and there is no heap.
+// words; but what `write!` promises holds only where it does not fail, and this line is made of every outcome.
 #![tactic(auto)]
 
 ghost use Rattle.std.specs.Prelude.{◌≡◌, ◌++◌, ◌+◌, ◌≤◌, Some, length};
