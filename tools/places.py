@@ -29,7 +29,7 @@ FN = re.compile(r"\bfn (\w+)(?:<[^>(]*>)?\(([^)]*)\)([^{]*)", re.S)
 def functions(text):
     """Name, parameters, head up to the body, and body of each function."""
     text = code_of(text)
-    for match in re.finditer(r"^( *)(?:pub )?(?:extern \"C\" )?fn (\w+)", text, re.M):
+    for match in re.finditer(r"^( *)(?:pub(?:\([^)]*\))? )?(?:extern \"C\" )?fn (\w+)", text, re.M):
         indent, name = match.group(1), match.group(2)
         end = re.search(r"^" + indent + r"\}", text[match.end():], re.M)
         whole = text[match.start(): match.end() + (end.end() if end else 0)]
@@ -82,7 +82,7 @@ def point3(top):
     for path, text in sources(top):
         for name, params, head, body in functions(text):
             for loop in re.finditer(r"^( *)(?:'\w+: )?(while [^\n]*|loop) \{\n(.*?)^\1\}", body, re.M | re.S):
-                if re.search(r"^\s*(\w+) [+-]= ", loop.group(3), re.M):
+                if re.search(r"\b(\w+) [+-]= ", loop.group(3)):
                     yield path, f"{name}: {loop.group(2)}"
 
 
@@ -100,26 +100,44 @@ def point4(top):
                 yield path, f"{name}: a method of std's"
 
 
+def conjuncts(clause):
+    """The facts of a clause, without the brackets around each."""
+    for fact in re.split(r"\s×\s", " ".join(clause.split())):
+        fact = fact.strip()
+        while fact.startswith("(") and fact.endswith(")"):
+            fact = fact[1:-1].strip()
+        yield re.sub(r"\.(now|old)\b", "", fact)
+
+
 def point5(top):
     facts = collections.defaultdict(set)
     pairs = collections.defaultdict(set)
+    where = collections.defaultdict(set)
     for path, text in sources(top):
         for name, params, head, body in functions(text):
             for clause in re.findall(r"requires(?: \w+)? \{(.*?)\}\s*(?:ensures|requires|$)", head, re.S):
-                for fact in re.split(r"\s×\s", clause):
-                    word = re.match(r"\s*\(?([A-Z]\w+)", fact)
-                    if word:
-                        facts[word.group(1)].add(f"{path} {name}")
+                for fact in conjuncts(clause):
+                    word = re.match(r"[A-Z]\w+", fact)
+                    facts[word.group(0) if word else fact].add(f"{path} {name}")
             names = [p.strip().replace("mut ", "") for p in re.split(r",\s*", params) if ":" in p]
             for i, one in enumerate(names):
+                where[one].add(f"{path} {name}")
                 for other in names[i + 1:]:
                     pairs[(one, other)].add(f"{path} {name}")
-    for fact, where in sorted(facts.items()):
-        if len(where) >= 3:
-            yield "", f"the fact {fact} in {len(where)} functions"
-    for (one, other), where in sorted(pairs.items()):
-        if len(where) >= 3:
-            yield "", f"({one}, {other}) in {len(where)} functions"
+    for fact, functions_of in sorted(facts.items()):
+        if len(functions_of) >= 3:
+            yield "", f"the fact {fact} in {len(functions_of)} functions"
+    # parameters that stand in the same functions, three or more, and in no others
+    groups = collections.defaultdict(list)
+    for param, functions_of in where.items():
+        if len(functions_of) >= 3:
+            groups[frozenset(functions_of)].append(param)
+    for functions_of, params in groups.items():
+        if len(params) > 1:
+            yield "", f"the group {', '.join(params)} in {len(functions_of)} functions"
+    for (one, other), functions_of in sorted(pairs.items()):
+        if len(functions_of) >= 3:
+            yield "", f"({one}, {other}) in {len(functions_of)} functions"
 
 
 def point6(top):
