@@ -158,12 +158,14 @@ pub fn measure_lines(
     let mut rest = text;
     while let Some((ch, tail)) = split_first_char(rest) {
         let added = add_char(font, ch, state, horizontal_align, pen);
-        let sum = add_steps(steps, added.steps);
+        // each arm adds the steps: once before both costs 10 instructions a call, and the goal of measuring is missed (BENCHMARKS)
         match added.result {
-            Err(error) => return stopped(error, sum),
-            Ok(longer) => state = longer,
+            Err(error) => return stopped(error, add_steps(steps, added.steps)),
+            Ok(longer) => {
+                state = longer;
+                steps = add_steps(steps, added.steps);
+            }
         }
-        steps = sum;
         rest = tail;
     }
     let origin = pen.origin;

@@ -24,11 +24,15 @@ returns-in-Err c =
     rw c.stopped.ensures
     record {
       measured = aligned_stops k c.loop-ch.invariant.aligned c.in-Some.ensures stops;
-      summed = sum_stops k c.loop-ch.invariant c.in-Some.ensures c.add_char-added.ensures.brought c.add_steps-sum.ensures stops refl;
+      summed = sum_stops k c.loop-ch.invariant c.in-Some.ensures c.add_char-added.ensures.brought c.add_steps.ensures stops refl;
     }
 
-pub add_steps-sum-requires : goal.add_steps-sum-requires
-add_steps-sum-requires c =
+pub add_steps-requires : goal.add_steps-requires
+add_steps-requires c =
+    summed_fits c.loop-ch.invariant.summed c.in-Some.ensures c.add_char-added.ensures.brought c.args.font.now.opened.least c.args.font.now.opened.most c.requires.short
+
+pub add_steps-steps-requires : goal.add_steps-steps-requires
+add_steps-steps-requires c =
     summed_fits c.loop-ch.invariant.summed c.in-Some.ensures c.add_char-added.ensures.brought c.args.font.now.opened.least c.args.font.now.opened.most c.requires.short
 
 pub loop-ch-smaller : goal.loop-ch-smaller
@@ -36,7 +40,7 @@ loop-ch-smaller c = split_shorter c.in-Some.ensures
 
 pub loop-ch-preserved : goal.loop-ch-preserved
 loop-ch-preserved c =
-    measured_next c.requires c.loop-ch.invariant c.in-Some.ensures c.add_char-added.ensures.brought c.add_steps-sum.ensures c.args.font.now.opened
+    measured_next c.requires c.loop-ch.invariant c.in-Some.ensures c.add_char-added.ensures.brought c.add_steps-steps.ensures c.args.font.now.opened
     (sym c.add_char-added.ensures.added ∙ ap state_outcome c.in-Ok.is)
 
 pub returns : goal.returns
