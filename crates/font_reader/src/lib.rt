@@ -4,9 +4,8 @@
 pub mod opened;
 
 ghost use Rattle.std.specs.Prelude.{◌≡◌, ◌≤◌, ◌<◌, length, pos, ◌≤ℤ◌};
-ghost use Rattle.integers.specs.Integers.{signed8};
 ghost use Rattle.definitions.specs.Refusals.{outcome};
-ghost use Rattle.definitions.specs.Header.{header, header_off, default_line_height, negative, signed_byte};
+ghost use Rattle.definitions.specs.Header.{header, header_off, default_line_height, signed_byte};
 ghost use Rattle.definitions.specs.Calls.{open_font};
 
 use types::error::Error;
@@ -26,13 +25,6 @@ fn i8_at(font: &[u8], i: usize) -> i8
     font[i].cast_signed()
 }
 
-#[tactic(auto, using(integers::proofs::Laws::signed8_negative))]
-fn is_negative(b: u8) -> bool
-    ensures { result ≡ negative (signed8 b) }
-{
-    127 < b
-}
-
 // Whether a width is off its limits, or the font's bounding box negative (cause 2 of SPECIFICATION, Refusals).
 #[tactic(auto, unfolding(definitions::specs::Header::header_off))]
 fn has_bad_header(font: &[u8]) -> bool
@@ -46,8 +38,8 @@ fn has_bad_header(font: &[u8]) -> bool
         | ((font[6] == 0) | (8 < font[6]))
         | ((font[7] == 0) | (8 < font[7]))
         | ((font[8] == 0) | (8 < font[8]))
-        | is_negative(font[9])
-        | is_negative(font[10])
+        | (i8_at(font, 9) < 0)
+        | (i8_at(font, 10) < 0)
 }
 
 // The font's bounding box height plus 1.
