@@ -88,25 +88,24 @@ fn chain_start(head: FontReader, encoding: u16) -> usize
 // Code points from 256 to 65535: the jump table begins at `table`, and leads to the chain. Each may
 // begin exactly at the font's end, but not past it.
 #[tactic(auto, using(crate::proofs::SearchRules::table_leads))]
-fn search_unicode(font: &[u8], table: usize, encoding: u16) -> Report<usize>
-    requires { (23 ≤ length font.now) × (length font.now ≤ 1048576) }
-    ensures { result ≡ search_report encoding (search_table font.now table encoding) }
+fn search_unicode(font: &OpenedFont, table: usize, encoding: u16) -> Report<usize>
+    ensures { result ≡ search_report encoding (search_table font.now.bytes.now table encoding) }
 {
-    if font.len() < table {
+    let Some(rest) = font.bytes.get(table..) else {
         return font_ends(encoding);
-    }
+    };
     let JumpOffset {
         jump_offset,
         entries,
-    } = calculate_jump_offset(font, table, encoding);
+    } = calculate_jump_offset(rest, encoding);
     let Some(jump_offset) = jump_offset else {
         let records = 0;
         return not_found(encoding, LookupSteps { records, entries });
     };
-    if font.len() - table < jump_offset {
+    if rest.len() < jump_offset {
         return font_ends(encoding);
     }
-    search_chain::<TwoBytes>(font, table + jump_offset, encoding, entries)
+    search_chain::<TwoBytes>(font.bytes, table + jump_offset, encoding, entries)
 }
 
 // Where the glyph of a code point begins. Above 65535 no byte is looked at.
@@ -122,7 +121,7 @@ pub fn search(font: &OpenedFont, ch: u32) -> Report<usize>
     };
     if 255 < encoding {
         let table = U8G2_FONT_DATA_STRUCT_SIZE + usize::from(font.head.array_offset_0x0100);
-        return search_unicode(font.bytes, table, encoding);
+        return search_unicode(font, table, encoding);
     }
     search_chain::<OneByte>(font.bytes, chain_start(font.head, encoding), encoding, 0)
 }

@@ -1,6 +1,6 @@
 -- The jump table entry by entry, in the terms of the code: what a test shows of the definition. Assumes nothing.
 use Rattle.integers.proofs.Prelude.{◌≡◌, refl, ◌∙◌, List, [], ℕ, zero, suc, ◌+◌, ◌*◌, ◌/◌, ◌≤◌, ◌<◌, arith, length, take, drop, get_or, lt-ltb, le-ltb}
-use Rattle.integers.proofs.Prelude.{◌-◌, length-drop, drop-drop, get_or-take, get_or-drop, add-zero, take_all}
+use Rattle.integers.proofs.Prelude.{length-drop, drop-drop, get_or-take, get_or-drop, add-zero}
 use Rattle.std.specs.Simd.{first_chunks}
 use Rattle.definitions.specs.Header.{big_endian16}
 use Rattle.definitions.specs.Lookup.{sum, none, jump_table}
@@ -10,10 +10,6 @@ use Rattle.definitions.proofs.LookupLaws.{table_at, table_ends}
 pub record SummedTo (table : List ℕ) (c total k : ℕ) : Type 0 where
   pub small : total ≤ 65535 * k
   pub same : jump_table c 0 0 table ≡ jump_table c total k (drop (4 * k) table)
-
--- The bytes of a font from `start` on.
-pub tail_is : (font : List ℕ) (start : ℕ) → take (length font - start) (drop start font) ≡ drop start font
-tail_is font start = take_all _ (drop start font) (omega (arith, length-drop start font))
 
 -- The whole entries of a table are its bytes, four by four.
 pub entry_is : (n k : ℕ) (table : List ℕ) → k < n → get_or (first_chunks 4 n table) k [] ≡ take 4 (drop (4 * k) table)

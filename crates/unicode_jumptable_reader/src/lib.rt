@@ -1,7 +1,7 @@
 // The jump table, which leads to the records of the code points from 256 on.
 #![tactic(auto)]
 
-ghost use Rattle.std.specs.Prelude.{◌≡◌, ◌≤◌, length, drop};
+ghost use Rattle.std.specs.Prelude.{◌≡◌, ◌≤◌, length};
 ghost use Rattle.definitions.specs.Lookup.{jump_table};
 ghost use Rattle.unicode_jumptable_reader.specs.Distances.{distance};
 
@@ -16,13 +16,13 @@ pub struct JumpOffset {
 
 // An entry is a distance and an upper limit. The sum may pass the font's end, and 32 bits, long before
 // the table answers: the move happens afterwards (SPECIFICATION, Lookup).
-pub fn calculate_jump_offset(font: &[u8], start: usize, encoding: u16) -> JumpOffset
-    requires { (length font.now ≤ 1048576) × (start ≤ length font.now) }
-    ensures { distance result ≡ jump_table encoding 0 0 (drop start font.now) }
+pub fn calculate_jump_offset(table: &[u8], encoding: u16) -> JumpOffset
+    requires { length table.now ≤ 1048576 }
+    ensures { distance result ≡ jump_table encoding 0 0 table.now }
 {
-    let (table, _) = font[start..].as_chunks::<4>();
+    let (entries, _) = table.as_chunks::<4>();
     let mut jump_offset: usize = 0;
-    for (before, entry) in table.iter().enumerate() {
+    for (before, entry) in entries.iter().enumerate() {
         jump_offset += usize::from(u16_at(entry, 0));
         if encoding <= u16_at(entry, 2) {
             return JumpOffset {
@@ -33,6 +33,6 @@ pub fn calculate_jump_offset(font: &[u8], start: usize, encoding: u16) -> JumpOf
     }
     JumpOffset {
         jump_offset: None,
-        entries: table.len() as u32,
+        entries: entries.len() as u32,
     }
 }
