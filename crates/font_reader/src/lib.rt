@@ -26,6 +26,8 @@ fn i8_at(font: &[u8], i: usize) -> i8
 }
 
 // Whether a width is off its limits, or the font's bounding box negative (cause 2 of SPECIFICATION, Refusals).
+// This function and the next two ask for 23 bytes. A `&[u8; 23]` would say so once, but the definitions take the whole font: it would
+// need laws that `header_off` and `default_line_height` read no byte behind it.
 #[tactic(auto, unfolding(definitions::specs::Header::header_off))]
 fn has_bad_header(font: &[u8]) -> bool
     requires { 23 ≤ length font.now }

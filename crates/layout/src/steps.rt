@@ -13,6 +13,7 @@ use utils::combine_bounding_boxes;
 
 pub const NEWLINE: u32 = 10;
 
+// The bound is of a plain number, here, in text_lines and in vertical_offset: a type that holds it would ask callers for more.
 pub fn add_newline(dimensions: RenderedDimensions, line_height: u32) -> RenderedDimensions
     requires { Near dimensions.advance.y × (line_height ≤ 65535) }
     ensures { result ≡ newline_step line_height dimensions }

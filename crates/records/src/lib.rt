@@ -1,5 +1,6 @@
 // What a record says of a code point. A record has a code, a jump and a glyph's data. The font's end is compared with `at` and not
-// with a byte after it, so that a loop over records has the end at hand.
+// with a byte after it, so that a loop over records has the end at hand. The place stands beside the font, as a slice from it on would
+// not say where in the font a glyph begins: the loop would carry the slice and the place.
 #![tactic(auto)]
 
 ghost use Rattle.std.specs.Prelude.{◌≡◌, ℕ, ◌≤◌, List, eqb, length, drop};

@@ -32,7 +32,8 @@ fn first_newline(text: &[u8]) -> Option<usize>
     text.iter().position(|byte| *byte == b'\n')
 }
 
-// The first line of a text, and what comes after its newline where it has one.
+// The first line of a text, and what comes after its newline where it has one. core's `slice::split` does not say which line is the
+// last, behind which no newline is added.
 #[tactic(auto, using(crate::proofs::FirstLineLaws::first_lines))]
 fn split_line(text: &[u8]) -> (&[u8], Option<&[u8]>)
     ensures line { result.0.now ≡ line_of text.now }

@@ -53,7 +53,8 @@ pub struct Place {
     pub offset: usize,
 }
 
-// The place of a pixel of a glyph whose runs were checked: whole pairs are passed over.
+// The place of a pixel of a glyph whose runs were checked: whole pairs are passed over. The loop goes over no range: each pair says
+// where the next begins.
 pub fn seek(font: &OpenedFont, glyph: GlyphReader, pixel: usize) -> Place
     requires { CheckedPixel font.now.bytes.now font.now.head glyph pixel }
     ensures { PlaceOf font.now.bytes.now font.now.head glyph pixel result }

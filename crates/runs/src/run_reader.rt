@@ -75,7 +75,7 @@ impl<'a> RunReader<'a> {
     }
 
     // Whether the font has so many pixels of a glyph whose runs begin at the bit `start`. The pixels are counted, run by run, and
-    // none is looked at. This loop and that of `seek` go over no range: each pair says where the next begins.
+    // none is looked at. The loop goes over no range: each pair says where the next begins.
     pub(crate) fn has_pixels(&self, start: usize, pixels: usize) -> bool
         requires { start ≤ 8 * length self.now.bytes.now }
         ensures { result ≡ is_whole (runPixels self.now.m0 self.now.m1 pixels (drop start (fontBits self.now.bytes.now))) }

@@ -65,6 +65,7 @@ fn end_line(
     combine_bounding_boxes(bounding_box, line_there)
 }
 
+// The bound is of a plain number: a pen has any line height, and a type that holds the bound would ask callers for more.
 fn add_newline(
     state: LineState,
     horizontal_align: HorizontalAlignment,
@@ -139,6 +140,8 @@ fn end_text(
     }
 }
 
+// Alignment and pen are two parameters, here and in line_alignment: the pen is that of the text's setup and the alignment the
+// caller's, and they part where a line is aligned: it is measured with Left and drawn by a moved pen alone.
 // The letters of a checked text, one after the other, and their steps added up. The first that stops the text is the answer.
 pub fn measure_lines(
     font: &OpenedFont,

@@ -5,8 +5,8 @@ ghost use Rattle.std.specs.Prelude.{◌≡◌};
 ghost use Rattle.definitions.specs.Utf8.{row_of};
 ghost use Rattle.utf8_rows.specs.Rows.{as_row};
 
-// A row of table 3-7: how many bytes, and the range of the second, as its first and last byte: a `RangeInclusive` is not Copy, which
-// a row is.
+// A row of table 3-7: how many bytes, and the range of the second, as its first and last byte: a row is Copy and always was, and a
+// `RangeInclusive` is not, so callers that copy one would be asked for more.
 #[derive(Clone, Copy, Debug, PartialEq, Eq)]
 pub enum Row {
     One,

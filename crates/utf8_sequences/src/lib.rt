@@ -1,6 +1,7 @@
 // The character that two, three or four bytes are: its code point and how many bytes it has. Unicode's
 // table 3-6 says how their bits make the code point: five, four or three of the first byte, then six
-// of each other.
+// of each other. The three functions differ in more than a size: one with a const parameter would choose by a match how many bits
+// the first byte gives and which bytes it reads, and is no plainer.
 #![tactic(auto)]
 
 ghost use Rattle.std.specs.Prelude.{◌≡◌, ◌%◌, if◌then◌else◌};

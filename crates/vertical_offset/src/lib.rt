@@ -6,7 +6,7 @@ ghost use Rattle.definitions.specs.VerticalOffset.{vertical_offset};
 
 use types::style::VerticalPosition;
 
-// The division rounds towards zero.
+// The division rounds towards zero. The bounds are of plain numbers: a type that holds one would ask callers for more.
 pub fn compute_vertical_offset(
     vertical_pos: VerticalPosition,
     ascent: i8,
