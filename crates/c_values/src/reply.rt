@@ -3,12 +3,12 @@ ghost use Rattle.std.specs.Prelude.{◌≡◌, ◌≤◌, length, MatchResult};
 ghost use Rattle.c_values.specs.Replies.{error_reply, rectangle_reply, dimensions_reply, bounding_box_reply, counted, stored};
 
 use types::error::Error;
-use types::geometry::{Point, Rectangle, RenderedDimensions, Size};
+use types::geometry::{Rectangle, RenderedDimensions};
 use types::steps::LookupSteps;
 use utils::error::{error_code_point, error_number};
 
 // The numbers are as wide as every value that goes into them.
-#[derive(Clone, Copy, Debug, PartialEq, Eq)]
+#[derive(Clone, Copy, Debug, Default, PartialEq, Eq)]
 pub struct Reply {
     pub status: u32,
     pub code_point: i64,
@@ -30,13 +30,7 @@ impl From<Error> for Reply {
         Reply {
             status: error_number(error),
             code_point: i64::from(error_code_point(error)),
-            x: 0,
-            y: 0,
-            boxed: 0,
-            left: 0,
-            top: 0,
-            width: 0,
-            height: 0,
+            ..Reply::default()
         }
     }
 }
@@ -50,13 +44,7 @@ impl From<RenderedDimensions> for Reply {
             bounding_box,
         } = dimensions;
         // C has no Option: zeros stand where there is no box
-        let area = bounding_box.unwrap_or(Rectangle {
-            top_left: Point { x: 0, y: 0 },
-            size: Size {
-                width: 0,
-                height: 0,
-            },
-        });
+        let area = bounding_box.unwrap_or_default();
         Reply {
             status: 0,
             code_point: 0,
@@ -77,8 +65,8 @@ impl From<Option<Rectangle>> for Reply {
 
     fn from(bounding_box: Option<Rectangle>) -> Reply {
         Reply::from(RenderedDimensions {
-            advance: Point { x: 0, y: 0 },
             bounding_box,
+            ..RenderedDimensions::default()
         })
     }
 }
