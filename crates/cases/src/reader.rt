@@ -83,7 +83,6 @@ impl<'a> Reader<'a> {
         Ok(*word)
     }
 
-    // Two functions: `from_le_bytes` is of each type and of no trait.
     pub fn number(&mut self) -> Result<u32, CaseError>
         ensures { Read 4 self.old self.new (λ n p. n ≡ from_le_bytes w32 p) result }
     {
@@ -93,7 +92,7 @@ impl<'a> Reader<'a> {
     pub fn signed_number(&mut self) -> Result<i32, CaseError>
         ensures { Read 4 self.old self.new (λ n p. n ≡ cast_signed w32 (from_le_bytes w32 p)) result }
     {
-        Ok(i32::from_le_bytes(self.word()?))
+        Ok(self.number()?.cast_signed())
     }
 
     // A number that is a byte.
