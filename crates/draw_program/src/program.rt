@@ -1,10 +1,9 @@
 // The program: draws a text in the font font.bin and prints the answer and the picture.
-ghost use Rattle.std.specs.Prelude.{◌≡◌, IfSome, length};
+ghost use Rattle.std.specs.Prelude.{IfSome, length};
 ghost use Rattle.picture_text.specs.Marks.{IsPicture};
 ghost use Rattle.draw_program.specs.Shown.{Small, Showable};
 
 use draw_options::{Options, UnknownWord};
-use font_file::FontFileError;
 use pgm::write_image;
 use picture_text::{EMPTY, color, print_rows};
 use pictures::whole::{DrawError, Drawing, draw_whole};
@@ -38,9 +37,9 @@ fn show_drawn<R: Files + Print + Eprint + Alloc>(
     rt: &R,
     drawing: Drawing,
     options: Options,
-    buffer: &[u8],
+    buffer: &[u8; 65536],
 )
-    requires { IfSome drawing.size Small × (length buffer.now ≡ 65536) }
+    requires { IfSome drawing.size Small }
 {
     answer(rt, drawing.dimensions, options.align);
     let Some(size) = drawing.size else {
@@ -50,24 +49,18 @@ fn show_drawn<R: Files + Print + Eprint + Alloc>(
     show_pixels(rt, size, options.pgm, &buffer[..n]);
 }
 
-fn show_too_large<R: Print>(rt: &R, size: Size) {
-    let Size { width, height } = size;
-    let _ = println!(rt;
-        "the text takes {width} by {height} pixels, and a framebuffer has at most 256 by 256"
-    );
-}
-
 fn show<R: Files + Print + Eprint + Alloc>(
     rt: &R,
     drawing: Result<Drawing, DrawError>,
     options: Options,
-    buffer: &[u8],
+    buffer: &[u8; 65536],
 )
-    requires { Showable drawing × (length buffer.now ≡ 65536) }
+    requires { Showable drawing }
 {
     match drawing {
-        Err(DrawError::Refused(error)) => printing::refusal_line(rt, error),
-        Err(DrawError::TooLarge(rectangle)) => show_too_large(rt, rectangle.size),
+        Err(error) => {
+            let _ = println!(rt; "{error}");
+        }
         Ok(drawing) => show_drawn(rt, drawing, options, buffer),
     }
 }
@@ -104,9 +97,6 @@ pub fn start<R: Files + Print + Eprint + Alloc, I: Read>(
     let mut buffer = font_file::buffer();
     match font_file::read(rt, path, &mut buffer) {
         Ok(font) => draw_input(rt, font, options, input),
-        Err(FontFileError::Unreadable(error)) => system::fail(rt, path, error),
-        Err(error) => {
-            let _ = println!(rt; "{error}");
-        }
+        Err(error) => font_file::report(rt, path, error),
     }
 }

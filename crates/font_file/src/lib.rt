@@ -4,7 +4,7 @@
 ghost use Rattle.std.specs.Prelude.{◌≡◌, ◌<◌, length, IfOk};
 ghost use Rattle.font_file.specs.declared.FontFileError.TheVariants.{Unreadable};
 
-use printing::{Cause, Refusal};
+use printing::RefusalLine;
 use std::fmt::{Display, Formatter};
 use std::rt::Files;
 use std::{fmt, io};
@@ -25,10 +25,7 @@ impl Display for FontFileError {
     fn fmt<W: fmt::Write>(&self, f: &mut Formatter<W>) -> fmt::Result {
         match self {
             FontFileError::Unreadable(cause) => write!(f, "{cause}"),
-            FontFileError::TooLong => {
-                let refusal = Error::FontLength;
-                write!(f, "{}: {}", Refusal(refusal), Cause(refusal))
-            }
+            FontFileError::TooLong => write!(f, "{}", RefusalLine(Error::FontLength)),
         }
     }
 }
@@ -48,6 +45,16 @@ impl From<Stopped<'_>> for FontFileError {
 
     fn from(stopped: Stopped<'_>) -> FontFileError {
         FontFileError::Unreadable(stopped.error)
+    }
+}
+
+// Says why there is no font: of a file that cannot be read on standard error, and of a longer one where the calls' answers stand.
+pub fn report<R: Print + Eprint + Alloc>(rt: &R, path: &[u8], error: FontFileError) {
+    match error {
+        FontFileError::Unreadable(cause) => system::fail(rt, path, cause),
+        FontFileError::TooLong => {
+            let _ = println!(rt; "{error}");
+        }
     }
 }
 

@@ -8,12 +8,15 @@ ghost use Rattle.pictures.specs.Drawings.{Buffered, IsDrawing};
 use corner::{Setting, draw_at_corner};
 use font_reader::new_from_raw_data;
 use measuring::aligned_dimensions::aligned_dimensions;
+use printing::RefusalLine;
+use std::fmt;
 use types::error::Error;
 use types::framebuffer::Framebuffer;
 use types::geometry::{Point, Rectangle, RenderedDimensions, Size};
 use types::style::{FontColor, HorizontalAlignment, Placement, VerticalPosition};
 
-// What is answered, and the framebuffer's size, if the text has a pixel. The framebuffer's pixels begin the buffer.
+// What is answered, and the framebuffer's size, if the text has a pixel. The framebuffer's pixels begin the buffer; a slice of them
+// would lend it out until the drawing is dropped (fixed memory: it is the caller's), and what it then holds is what is proved.
 #[derive(Clone, Copy, Debug, PartialEq, Eq)]
 pub struct Drawing {
     pub dimensions: RenderedDimensions,
@@ -27,6 +30,24 @@ pub enum DrawError {
     TooLarge(Rectangle),
     Refused(Error),
 }
+
+// What a framebuffer cannot hold, or the refusal's line.
+impl fmt::Display for DrawError {
+    fn fmt<W: fmt::Write>(&self, f: &mut fmt::Formatter<W>) -> fmt::Result {
+        match self {
+            DrawError::TooLarge(rectangle) => {
+                let Size { width, height } = rectangle.size;
+                write!(
+                    f,
+                    "the text takes {width} by {height} pixels, and a framebuffer has at most 256 by 256"
+                )
+            }
+            DrawError::Refused(refusal) => write!(f, "{}", RefusalLine(*refusal)),
+        }
+    }
+}
+
+impl std::error::Error for DrawError {}
 
 impl From<Error> for DrawError {
     ghost from_gives = { λ error e. e ≡ Refused error };

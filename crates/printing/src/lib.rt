@@ -138,6 +138,11 @@ impl fmt::Display for Cause {
 }
 
 // A refusal's line: the number, the code point, and the cause in words.
-pub fn refusal_line<R: Print>(rt: &R, e: Error) {
-    let _ = println!(rt; "{}: {}", Refusal(e), Cause(e));
+#[derive(Clone, Copy, Debug, PartialEq, Eq)]
+pub struct RefusalLine(pub Error);
+
+impl fmt::Display for RefusalLine {
+    fn fmt<W: fmt::Write>(&self, f: &mut fmt::Formatter<W>) -> fmt::Result {
+        write!(f, "{}: {}", Refusal(self.0), Cause(self.0))
+    }
 }

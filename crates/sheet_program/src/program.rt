@@ -7,7 +7,6 @@ use crate::cells;
 use crate::run::run;
 use crate::values::Sheet;
 use faulty_step::Trial;
-use font_file::FontFileError;
 use sheet_extent::place::place_for;
 use sheet_extent::values::Options;
 use sheet_ground::ground::lay_ground;
@@ -76,9 +75,6 @@ pub fn start<R: Files + Print + Eprint + Alloc>(rt: &R, path: &[u8], options: Op
     let mut buffer = font_file::buffer();
     match font_file::read(rt, path, &mut buffer) {
         Ok(font) => show_sheet(rt, font, options),
-        Err(FontFileError::Unreadable(error)) => system::fail(rt, path, error),
-        Err(error) => {
-            let _ = println!(rt; "{error}");
-        }
+        Err(error) => font_file::report(rt, path, error),
     }
 }
