@@ -6,7 +6,7 @@
 use draw_options::{Options, UnknownWord};
 use draw_program::program::start;
 use std::rt::Files;
-use system::open_read;
+use system::opened;
 use types::style::HorizontalAlignment;
 
 fn run<R: Files + Print + Eprint + Alloc>(
@@ -16,21 +16,16 @@ fn run<R: Files + Print + Eprint + Alloc>(
     options: Result<Options, UnknownWord>,
 ) {
     printing::text(rt, heading);
-    match open_read(rt, path) {
-        Ok(mut input) => start(rt, options, &mut input),
-        Err(error) => system::fail(rt, path, error),
+    if let Some(mut input) = opened(rt, path) {
+        start(rt, options, &mut input);
     }
 }
 
 fn print_image<R: Files + Print + Eprint + Alloc>(rt: &R) {
-    let path = b"draw.pgm";
     let mut image = [0u8; 65536];
-    match open_read(rt, path) {
-        Ok(mut file) => {
-            printing::text(rt, system::read_full(&mut file, &mut image));
-            printing::text(rt, b"\n");
-        }
-        Err(error) => system::fail(rt, path, error),
+    if let Some(mut file) = opened(rt, b"draw.pgm") {
+        printing::text(rt, system::read_full(&mut file, &mut image));
+        printing::text(rt, b"\n");
     }
 }
 

@@ -4,13 +4,12 @@
 
 use measure_program::measure_file;
 use std::rt::Files;
-use system::open_read;
+use system::opened;
 
 // Measures the text of one file in the font of another.
 fn measure<R: Files + Print + Eprint + Alloc>(rt: &R, font: &[u8], text: &[u8]) {
-    match open_read(rt, text) {
-        Ok(mut input) => measure_file(rt, font, &mut input),
-        Err(error) => system::fail(rt, text, error),
+    if let Some(mut input) = opened(rt, text) {
+        measure_file(rt, font, &mut input);
     }
 }
 

@@ -1,6 +1,7 @@
 // Files by their names, which are bytes: std opens a file by a name that is UTF-8.
-ghost use Rattle.std.specs.Prelude.{◌≡◌, IsUtf8, IsErr, IsOkAnd};
+ghost use Rattle.std.specs.Prelude.{◌≡◌, IsUtf8, IsErr, IsNone, IsOkAnd};
 
+use crate::fail;
 use std::fs::File;
 use std::io::{Error, ErrorKind, Result};
 use std::rt::Files;
@@ -18,6 +19,15 @@ pub fn open_read<R: Files>(rt: &R, path: &[u8]) -> Result<R::File>
     ensures { ¬ (IsUtf8 path.now) → IsErr result }
 {
     File::open(rt, name_of(path)?)
+}
+
+// The file, opened; where that fails, `fail` has said why, and there is none.
+pub fn opened<R: Files + Eprint + Alloc>(rt: &R, path: &[u8]) -> Option<R::File>
+    ensures { ¬ (IsUtf8 path.now) → IsNone result }
+{
+    open_read(rt, path)
+        .map_err(|error| fail(rt, path, error))
+        .ok()
 }
 
 // Creates the file, or empties it if it is there. Both are one call of std; a closure that says which would be no plainer.

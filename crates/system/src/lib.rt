@@ -7,7 +7,7 @@ mod files;
 mod reading;
 
 pub use command_line::{Args, Word, arguments};
-pub use files::{open_overwrite, open_read};
+pub use files::{open_overwrite, open_read, opened};
 pub use reading::{Stopped, fill, read_full};
 use std::io::Error;
 use std::str;
