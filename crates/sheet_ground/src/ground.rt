@@ -25,7 +25,7 @@ fn clear_reading(font: &[u8], k: usize, place: Place, buffer: &mut [u8])
     ensures { buffer.new ≡ cleared_by place.framebuffer.width place.background
         (measured font.now (reading place k)) buffer.old }
 {
-    // spelled out here and in readings: a function's answer would be known by an equation, which each proof over it would carry
+    // spelled out three times (readings, redraw_checks): no plainer by a function, whose equation two callers' proofs would carry
     let placement = Placement {
         position: place.position,
         line_height: place.line_height,
