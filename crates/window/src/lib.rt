@@ -11,10 +11,10 @@ fn byte_or_zero(font: &[u8], i: usize) -> u8
     font.get(i).copied().unwrap_or(0)
 }
 
-// The four bytes from i on. The compiler makes one load of it. `first_chunk` of the rest is no plainer: it answers an Option,
-// where the length was tested before.
+// The four bytes from i on. The compiler makes one load of it. `first_chunk` of `get(i..)` is no plainer: each of the two has a test
+// and an Option of its own, where one test of the caller stands for both.
 fn word_at(font: &[u8], i: usize) -> u32
-    requires { (i + 4 ≤ length font.now) × (length font.now ≤ 1048576) }
+    requires { i + 4 ≤ length font.now }
     ensures { result ≡ window 32 font.now i }
 {
     u32::from_le_bytes([font[i], font[i + 1], font[i + 2], font[i + 3]])
@@ -36,7 +36,7 @@ fn three_bytes_at(font: &[u8], i: usize) -> u32
 
 // The bytes from i on: four of them, or three near the font's end.
 pub fn bytes_at(font: &[u8], i: usize) -> u32
-    requires { (i ≤ 16777216) × (length font.now ≤ 1048576) }
+    requires { i ≤ 16777216 }
     ensures { result % 16777216 ≡ window 24 font.now i }
 {
     if i + 4 <= font.len() {
@@ -47,7 +47,7 @@ pub fn bytes_at(font: &[u8], i: usize) -> u32
 
 // The bytes from i on: eight of them, again by one load, or six near the font's end.
 pub fn long_at(font: &[u8], i: usize) -> u64
-    requires { (i ≤ 1048576) × (length font.now ≤ 1048576) }
+    requires { i ≤ 1048576 }
     ensures { result % 281474976710656 ≡ window 48 font.now i }
 {
     if i + 8 <= font.len() {
