@@ -90,7 +90,7 @@ fn add_letter(
     requires { HasRoom (point (pos 0) (pos 0)) state.line }
     ensures { state_outcome result ≡ answer_of_line (as_state state) (as_answer answer) }
 {
-    let line = add_answer(state.line, Point { x: 0, y: 0 }, answer)?;
+    let line = add_answer(state.line, Point::default(), answer)?;
     Ok(LineState { line, ..state })
 }
 
