@@ -2,9 +2,6 @@
 use Rattle.renderer.proofs.RenderLaws.{refused_by, drawn_as}
 use Rattle.renderer.proofs.aligned_drawing.aligned_drawing.Goals as goal
 
-pub draw_aligned-requires : goal.draw_aligned-requires
-draw_aligned-requires c = let k = c.in-Ok.ensures.1 in record { checked = k.set.checked; fits = k.fits }
-
 pub returns-in-Err : goal.returns-in-Err
 returns-in-Err c =
     let k = refused_by _ _ _ _ c.args.horizontal_align _ _ _ c.refused.ensures c.in-Err.ensures in
