@@ -140,9 +140,9 @@ fn end_text(
     }
 }
 
+// The letters of a checked text, one after the other, and their steps added up. The first that stops the text is the answer.
 // Alignment and pen are two parameters, here and in line_alignment: the pen is that of the text's setup and the alignment the
 // caller's, and they part where a line is aligned: it is measured with Left and drawn by a moved pen alone.
-// The letters of a checked text, one after the other, and their steps added up. The first that stops the text is the answer.
 pub fn measure_lines(
     font: &OpenedFont,
     text: &[u8],
