@@ -2,8 +2,9 @@
 -- nothing.
 use Rattle.integers.proofs.Prelude.{◌≡◌, refl, sym, ap, ◌∙◌, List, ℕ}
 use Rattle.integers.proofs.Choices.{impossible}
-use Rattle.definitions.specs.Vocabulary.{BoundingBox, RenderedDimensions}
-use Rattle.definitions.specs.Refusals.{Outcome, success, refused}
+use Rattle.std.specs.Prelude.{true, false, Result, Ok, Err, is_err}
+use Rattle.definitions.specs.Vocabulary.{Error, BoundingBox, RenderedDimensions}
+use Rattle.definitions.specs.Refusals.{Outcome, success, refused, outcome}
 use Rattle.definitions.specs.Font.{u8g2}
 use Rattle.definitions.specs.Calls.{draw_aligned}
 use Rattle.definitions.specs.Agreement.{on, Ground}
@@ -27,11 +28,14 @@ module _ (font : List ℕ) (r : Drawing) (p : Ground) {copy : List ℕ} (copied 
       ap (λ (b : List ℕ). box_alone (drawn font r (on p.framebuffer b))) (sym copied)
       ∙ sym (answered ∙ drawn_box (u8g2 font) (asks r) r.color p.framebuffer copy)
 
-  pub drawn_alone : {exit : List ℕ} {b : BoundingBox} → exit ≡ after font r (on p.framebuffer copy) → answer ≡ success b → exit ≡ reading_on font r p
-  drawn_alone e h =
+  pub drawn_alone : {exit : List ℕ} (res : Result BoundingBox Error) → exit ≡ after font r (on p.framebuffer copy) → answer ≡ outcome res
+      → is_err res ≡ false → exit ≡ reading_on font r p
+  drawn_alone (Ok b) e h k =
       e
       ∙ ap (λ (b : List ℕ). after font r (on p.framebuffer b)) copied
       ∙ whole (drawn font r p) (after font r p) p.before (on_ground ∙ h)
+  drawn_alone (Err x) e h k = impossible cc
 
-  pub refused_alone : {n c : ℕ} → answer ≡ refused n c → p.before ≡ reading_on font r p
-  refused_alone h = none (drawn font r p) (after font r p) p.before (on_ground ∙ h)
+  pub refused_alone : (res : Result BoundingBox Error) → answer ≡ outcome res → is_err res ≡ true → p.before ≡ reading_on font r p
+  refused_alone (Ok b) h k = impossible cc
+  refused_alone (Err x) h k = none (drawn font r p) (after font r p) p.before (on_ground ∙ h)

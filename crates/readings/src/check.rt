@@ -28,7 +28,7 @@ pub fn draw_alone(font: &[u8], text: &[u8], place: Place, ground: &[u8], alone: 
         place.framebuffer,
         alone,
     );
-    if let Err(_) = drawn.result {
+    if drawn.result.is_err() {
         alone.copy_from_slice(ground);
     }
 }
