@@ -22,7 +22,7 @@ fn opposite(z: i32) -> i32
     requires { negsuc 1048575 ≤ℤ z }
     ensures { result ≡ pos 0 -ℤ z }
 {
-    0 - z
+    -z
 }
 
 // Draws a text whose box at (0, 0) is the rectangle at the opposite of its corner.

@@ -25,7 +25,7 @@ fn measured(font: &[u8], text: &[u8]) -> Result<RenderedDimensions, Error>
     }
     let head = new_from_raw_data(font)?;
     let placement = Placement {
-        position: Point { x: 0, y: 0 },
+        position: Point::default(),
         line_height: head.line_height,
         ignore_unknown_chars: false,
     };

@@ -6,6 +6,8 @@ use std::marker::Model;
 use std::{fmt, str};
 
 // A text of at most `N` bytes, written from its start on.
+// The kit's ArrayVec is no plainer: it takes several bytes only by calls that answer a Result, of a room that push_bytes' clause knows
+// to be there, and a finished buffer only whole, to be truncated. ArrayString takes UTF-8 alone, and these bytes need not be.
 #[derive(Drop)]
 pub struct Text<const N: usize> {
     bytes: [u8; N],
