@@ -82,12 +82,6 @@ returns-then-has_bad_color c =
     (refused_at (background_cause c.args.place.style.color (u8g2 c.args.font.now).background) []
     (color_tested k ∙ sym c.has_bad_color.ensures ∙ c.if-has_bad_color.true))
 
-pub text_origin-old_origin-requires : goal.text_origin-old_origin-requires
-text_origin-old_origin-requires c =
-    let s = (goal.at.text_origin-old_origin-requires c).Start in
-    let o = (goal.at.text_origin-old_origin-requires c).Else-has_bad_text in
-    (old_in o, (each_off (place_causes (asks (new s))) c.in_ok-setup.ensures.0).1.0)
-
 pub returns : goal.returns
 returns c =
     let s = (goal.at.returns c).Start in

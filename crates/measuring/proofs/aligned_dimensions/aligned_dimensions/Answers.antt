@@ -2,9 +2,6 @@
 use Rattle.measuring.proofs.AlignedLaws.{refused_by, measured_as}
 use Rattle.measuring.proofs.aligned_dimensions.aligned_dimensions.Goals as goal
 
-pub measure_lines-requires : goal.measure_lines-requires
-measure_lines-requires c = c.in-Ok.ensures.1.checked
-
 pub returns-in-Err : goal.returns-in-Err
 returns-in-Err c = refused_by _ _ _ _ c.args.horizontal_align c.refused.ensures c.in-Err.ensures
 

@@ -1,5 +1,5 @@
 -- LetterLaws and SumLoopLaws have the loop's steps and its ends; here they are applied to the character that was read.
-use Rattle.integers.proofs.Prelude.{◌≡◌, refl, sym, ap, subst, ◌∙◌, ℕ}
+use Rattle.integers.proofs.Prelude.{◌≡◌, refl, sym, ap, subst, ◌∙◌}
 use Rattle.integers.proofs.Choices.{impossible}
 use Rattle.definitions.proofs.SumsLaws.{default_steps}
 use Rattle.definitions.specs.Vocabulary.{RenderedDimensions}
@@ -9,8 +9,7 @@ use Rattle.utf8.specs.Splits.{FirstAndRest}
 use Rattle.utf8.proofs.SplitLaws.{split_shorter}
 use Rattle.definitions.specs.Font.{u8g2}
 use Rattle.definitions.specs.Sums.{plus_steps, brings, Fits32}
-use Rattle.renderer.specs.CharAnswers.{Fits}
-use Rattle.layout.proofs.MeasureLaws.{checked_characters, measured_room, measured_end, measured_stops}
+use Rattle.layout.proofs.MeasureLaws.{checked_characters, measured_end, measured_stops}
 use Rattle.layout.proofs.SumLoopLaws.{summed_start, summed_end, summed_fits}
 use Rattle.renderer.proofs.LetterLaws.{drawn_small, drawn_start, drawn_end, drawn_next, drawn_stops, sum_next, sum_stops}
 use Rattle.renderer.proofs.letters.draw_text.Goals as goal
@@ -20,15 +19,6 @@ pub loop-ch-init : goal.loop-ch-init
 loop-ch-init c =
     let k = c.requires.checked in
     record { drawn = drawn_start _ _ _ _ _ _ _ _ _ k c.requires.room; summed = simp (default_steps c.default-steps.ensures) (summed_start (checked_characters k)) }
-
-pub draw_char-drawn-requires : goal.draw_char-drawn-requires
-draw_char-drawn-requires c =
-    let i = c.loop-ch.invariant.drawn in
-    record {
-      room = measured_room c.requires.checked i.reached;
-      line = c.requires.checked.line;
-      fits = subst (λ (n : ℕ). Fits n c.args.context.framebuffer) (sym i.kept) c.requires.fits;
-    }
 
 -- the character that was read, and drawn
 module _ (c : After-draw_char-drawn) where

@@ -22,8 +22,5 @@ moves : {a : HorizontalAlignment} → (a ≡ Center) ⊎ (a ≡ Right) → Moves
 moves (inl e) = subst Moves (sym e) tt
 moves (inr e) = subst Moves (sym e) tt
 
-pub draw_lines-requires : goal.draw_lines-requires
-draw_lines-requires c = (c.requires, moves c.in-Center.is)
-
 pub returns-in-Left : goal.returns-in-Left
 returns-in-Left c = plain_text c.in-Left.is (default_dimensions c.default.ensures) c.draw_text.ensures

@@ -1,9 +1,6 @@
 -- The pen is where the definition puts the line; what it then draws is the definition's line.
-use Rattle.integers.proofs.Prelude.{◌≡◌, refl, sym, ap, subst, ◌∙◌}
+use Rattle.integers.proofs.Prelude.{◌≡◌, refl, sym, ap, ◌∙◌}
 use Rattle.definitions.specs.Refusals.{success, outcome}
-use Rattle.definitions.specs.Calls.{code_points_of}
-use Rattle.checks.specs.declared.origin.Pen.{Pen}
-use Rattle.layout.specs.Ranges.{Within}
 use Rattle.renderer.proofs.DrawnLineLaws.{Moved, pen_came, stopped_line, drawn_line}
 use Rattle.renderer.proofs.lines.draw_line.Goals as goal
 use Rattle.renderer.proofs.lines.draw_line.Goals.{In-Ok}
@@ -15,14 +12,6 @@ module _ (c : In-Ok) where
 
   moved : Moved c.args.font.now.bytes.now c.args.line.now c.args.setting.horizontal_align c.args.setting.pen c.in-Ok.line_pen
   moved = pen_came _ _ _ _ c.in-Ok.line_pen (sym comes ∙ c.align_pen-aligned.ensures.aligned)
-
-pub draw_text-requires : goal.draw_text-requires
-draw_text-requires c =
-    record {
-      checked = c.align_pen-aligned.ensures.placed c.in-Ok.line_pen (comes (goal.at.draw_text-requires c).In-Ok);
-      room = subst (λ (q : Pen). Within q.line_height 0 (code_points_of c.args.line.now) c.args.dimensions) (moved (goal.at.draw_text-requires c).In-Ok).is c.requires.room;
-      fits = c.requires.fits;
-    }
 
 -- stopped in measuring
 pub returns-in-Err : goal.returns-in-Err
