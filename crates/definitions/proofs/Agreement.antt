@@ -2,10 +2,10 @@
 -- the same glyph and the same pixels; so both texts are laid out alike and make one picture, and the framebuffer's law does
 -- the rest.
 -- Assumes nothing.
-use Rattle.integers.proofs.Prelude.{◌≡◌, refl, sym, ap, subst, ◌∙◌, Bool, false, ◌||◌, not, List, [], ◌∷◌, ◌++◌, ℕ, suc, ◌+◌, ◌*◌, ◌≤◌, ◌<◌}
-use Rattle.integers.proofs.Prelude.{mul-le-mul_right, mul_comm, arith, eqb, ℤ, pos, length, eqb-true, not-false}
+use Rattle.integers.proofs.Prelude.{◌≡◌, refl, sym, ap, subst, ◌∙◌, Bool, false, List, [], ◌∷◌, ◌++◌, ℕ, ◌*◌, ◌≤◌, ◌<◌}
+use Rattle.integers.proofs.Prelude.{arith, ℤ, pos, length}
 use Rattle.integers.proofs.Choices.{LedOn, impossible}
-use Rattle.definitions.specs.Vocabulary.{FontReader, BoundingBox, Point, RenderedDimensions, GlyphReader, FontColor}
+use Rattle.definitions.specs.Vocabulary.{PixelFormat, FontReader, BoundingBox, Point, RenderedDimensions, GlyphReader, FontColor}
 use Rattle.definitions.specs.Refusals.{Outcome, success, refused, Cause, any_applies}
 use Rattle.definitions.specs.Header.{header}
 use Rattle.definitions.specs.Lookup.{Search, found, missing, short, search, steps_of}
@@ -15,18 +15,19 @@ use Rattle.definitions.specs.Text.{Answer, shows, nothing, answer, join_all, Lay
 use Rattle.definitions.specs.Runs.{Pixels, pixels, cut}
 use Rattle.definitions.specs.Font.{Font, u8g2, measured_answer, with_runs, drawable, drawn_answer, pixel_list, pixels_of}
 use Rattle.definitions.specs.Picture.{Paint, text_picture}
-use Rattle.definitions.specs.Framebuffer.{over, side_off, framebuffer_cause}
-use Rattle.definitions.specs.Limits.{text_cause, position_cause, background_off, background_cause}
+use Rattle.definitions.specs.Framebuffer.{over, stored, byte_at, framebuffer_cause}
+use Rattle.definitions.specs.Limits.{text_cause, position_cause, color_off, color_cause, background_off, background_cause}
 use Rattle.definitions.specs.Calls.{Request, code_points_of, origin, laid, measure_causes, measured_text, measure, draw_causes, drawn_text, draw, draw_buffer}
 use Rattle.definitions.specs.Agreement.{Ground, WithinLimits, drawn, after, pixel, width, height, results, plain_box, KeptOutside, Agree, MeasuredAsDrawn}
-use Rattle.definitions.proofs.RefusalLaws.{went_on, none_applies, succeeded, NoneApplies, each_off, all_off, any_parts, parts_any, or_false}
+use Rattle.definitions.proofs.RefusalLaws.{went_on, none_applies, succeeded, NoneApplies, each_off, all_off, any_parts, parts_any}
 use Rattle.definitions.proofs.OpenedLaws.{opened_by_causes}
 use Rattle.definitions.proofs.LookupLaws.{header_longer, search_longer}
 use Rattle.definitions.proofs.GlyphLaws.{fields_longer}
 use Rattle.definitions.proofs.RunsLaws.{glyph_pixels_longer}
 use Rattle.definitions.proofs.TextLaws.{Follows, same_aligned, each_glyph}
 use Rattle.definitions.proofs.PictureLaws.{picture_outside, same_pixels_picture}
-use Rattle.definitions.proofs.FramebufferLaws.{shown_at}
+use Rattle.definitions.proofs.ByteLaws.{over_keep}
+use Rattle.definitions.proofs.FramebufferLaws.{shown_at, size_fits, on_buffer}
 
 -- ---- what a letter that shows a glyph tells, where nothing is skipped
 
@@ -125,37 +126,32 @@ module _ (font : Font) (r : Request) (p : Ground) (within : WithinLimits font r 
   measuring =
       parts_any font.causes _ font_off (all_off (text_cause r.text ∷ position_cause r.position r.line_height ∷ []) off.1)
 
-  -- drawing has one more
-  drawing : (color : FontColor) → background_off color font.background ≡ false → any_applies (causes font r color p) ≡ false
-  drawing color e =
-      let last = background_cause color font.background ∷ [] in
-      parts_any font.causes _ font_off (parts_any later last later_off (all_off last (e, tt)))
+  -- drawing has those of the colours
+  drawing : (color : FontColor) → color_off p.framebuffer.format color ≡ false → background_off color font.background ≡ false
+      → any_applies (causes font r color p) ≡ false
+  drawing color b e =
+      let last = color_cause p.framebuffer.format color ∷ background_cause color font.background ∷ [] in
+      parts_any font.causes _ font_off (parts_any later last later_off (all_off last (b, (e, tt))))
 
-  pub size : length p.before ≡ width p * height p
-  size =
-      let area = (or_false (side_off (width p) || side_off (height p)) (not (eqb (length p.before) (width p * height p))) off.0).1 in
-      eqb-true (length p.before) (width p * height p) (not-false _ area)
-
-  lies : (column row : ℕ) → column < width p → row < height p → row * width p + column < length p.before
-  lies column row c k =
-      let below : suc row ≤ height p = omega arith in
-      omega (arith, size, mul-le-mul_right (width p) below, mul_comm (width p) (height p))
+  lies : (column row : ℕ) → column < width p → row < height p → byte_at p.framebuffer column row < length p.before
+  lies column row c k = on_buffer (size_fits p.framebuffer p.before off.0) column row c k
 
   module _ (color : FontColor) (unrefused : any_applies (causes font r color p) ≡ false) where
     pixel_after : (column row : ℕ) → column < width p → row < height p
         → pixel p (after font r color p) column row
-        ≡ over (text_picture color (pixels_of font) (drawn_text font r).glyphs (pos column) (pos row)) (pixel p p.before column row)
+        ≡ over (stored p.framebuffer.format (text_picture color (pixels_of font) (drawn_text font r).glyphs (pos column) (pos row))) (pixel p p.before column row)
     unfolding draw_buffer
     pixel_after column row c k =
         rw unrefused
-        (shown_at (width p) (text_picture color (pixels_of font) (drawn_text font r).glyphs) p.before column row c (lies column row c k))
+        (shown_at p.framebuffer (text_picture color (pixels_of font) (drawn_text font r).glyphs) p.before column row c (lies column row c k))
 
     kept : (b : BoundingBox) → join_all (drawn_text font r).glyphs ≡ b → KeptOutside p (after font r color p) b
     kept b box column row c k out =
         pixel_after column row c k
-        ∙ ap (λ (x : Paint). over x (pixel p p.before column row))
+        ∙ ap (λ (x : Paint). over (stored p.framebuffer.format x) (pixel p p.before column row))
         (picture_outside color (pixels_of font) (drawn_text font r).glyphs (pos column) (pos row)
         (λ i. out (subst (InsideBox (pos column) (pos row)) box i)))
+        ∙ over_keep p.framebuffer.format (pixel p p.before column row)
 
 -- ---- two drawings
 
@@ -185,7 +181,7 @@ module _ {f g : Font} (h : f ⊑ g) where
 
 module _ (f g : Font) (h : f ⊑ g) (r : Request) (no_skips : r.skip ≡ false) (color : FontColor) (p q : Ground)
     (first_within : WithinLimits f r p) (second_within : WithinLimits g r q)
-    (d : RenderedDimensions) (first_succeeds : drawn f r color p ≡ success d) where
+    (same_format : q.framebuffer.format ≡ p.framebuffer.format) (d : RenderedDimensions) (first_succeeds : drawn f r color p ≡ success d) where
   -- what the first drawing's success tells
   first : (any_applies (causes f r color p) ≡ false) × (dimensions (drawn_text f r) ≡ success d)
   unfolding draw
@@ -196,10 +192,12 @@ module _ (f g : Font) (h : f ⊑ g) (r : Request) (no_skips : r.skip ≡ false) 
 
   second_unrefused : any_applies (causes g r color q) ≡ false
   second_unrefused =
-      let last = background_cause color f.background ∷ [] in
+      let last = color_cause p.framebuffer.format color ∷ background_cause color f.background ∷ [] in
       let allowed = (any_parts f.causes _ first.0).1 in
+      let colors = each_off last (any_parts (later f r p first_within) last allowed).1 in
       drawing g r q second_within color
-      (ap (background_off color) h.background ∙ (each_off last (any_parts (later f r p first_within) last allowed).1).0)
+      (ap (λ (format : PixelFormat). color_off format color) same_format ∙ colors.0)
+      (ap (background_off color) h.background ∙ colors.1.0)
 
   -- letters that follow the first drawing's are laid out alike
   follows_laid : (k : Font) → origin k r ≡ origin f r → (measured answers : ℕ → Answer)
@@ -244,7 +242,7 @@ module _ (f g : Font) (h : f ⊑ g) (r : Request) (no_skips : r.skip ≡ false) 
     second_measures = measures g q h second_within;
     alike = λ column row c k began.
         pixel_after f r p first_within color first.0 column row c k
-        ∙ (cc (same_picture (pos column) (pos row)))
+        ∙ (cc (same_picture (pos column) (pos row), same_format))
         ∙ sym (pixel_after g r q second_within color second_unrefused column row (omega arith) (omega arith));
     first_kept = kept f r p first_within color first.0 d.bounding_box advance_and_box.1;
     second_kept = kept g r q second_within color second_unrefused d.bounding_box (ap (λ (l : Layout). join_all l.glyphs) same_text ∙ advance_and_box.1);
@@ -257,9 +255,9 @@ agreement first_font second_font r color p q h d e =
     let longer = h.longer in
     let least = (opened_by_causes first_font (font_off (u8g2 first_font) r p h.first_within)).least in
     let follows = subst (λ (font : List ℕ). u8g2 first_font ⊑ u8g2 font) (sym longer) (longer_follows first_font h.more least) in
-    agree (u8g2 first_font) (u8g2 second_font) follows r h.no_skips color p q h.first_within h.second_within d e h.as_wide h.as_high
+    agree (u8g2 first_font) (u8g2 second_font) follows r h.no_skips color p q h.first_within h.second_within h.same_format d e h.as_wide h.as_high
 
 -- One drawing that succeeds: it is measured alike, and keeps what is outside its box.
 pub alone : (font : Font) (r : Request) (no_skips : r.skip ≡ false) (color : FontColor) (p : Ground) (d : RenderedDimensions)
     → WithinLimits font r p → drawn font r color p ≡ success d → Agree plain_box p p (results font font r color p p) d
-alone font r no_skips color p d within e = agree font font (follows_itself font) r no_skips color p p within within d e (omega arith) (omega arith)
+alone font r no_skips color p d within e = agree font font (follows_itself font) r no_skips color p p within within refl d e (omega arith) (omega arith)

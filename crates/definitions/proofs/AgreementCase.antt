@@ -1,7 +1,7 @@
 -- Agreement is not empty: its hypotheses hold for "-4" drawn with font T on 8 × 8 pixels and with five bytes added to T
 -- on 9 × 12, the contents differing from the seventh row on. The 4 lies off the first framebuffer and half off the second.
 use Rattle.integers.proofs.Prelude.{◌≡◌, refl, false, List, [], ◌∷◌, ◌++◌, ℕ, arith, pos, replicate}
-use Rattle.definitions.specs.Vocabulary.{BoundingBox, Some, RenderedDimensions, Transparent}
+use Rattle.definitions.specs.Vocabulary.{BoundingBox, Bytes, Some, RenderedDimensions, Transparent}
 use Rattle.types.specs.declared.style.HorizontalAlignment.TheVariants.{Center}
 use Rattle.types.specs.declared.style.VerticalPosition.TheVariants.{Baseline}
 use Rattle.integers.specs.Integers.{signed8}
@@ -14,7 +14,7 @@ use Rattle.definitions.specs.Refusals.{success}
 use Rattle.definitions.specs.Text.{point, join_all, letters, lines, line_by_line}
 use Rattle.definitions.specs.Runs.{after_pair, runs, glyph_pixels}
 use Rattle.definitions.specs.Picture.{text_picture}
-use Rattle.definitions.specs.Framebuffer.{map_at}
+use Rattle.definitions.specs.Framebuffer.{sized, map_at}
 use Rattle.definitions.specs.Calls.{Request, placed, request, plain, draw, draw_buffer, draw_aligned}
 use Rattle.definitions.specs.Font.{u8g2}
 use Rattle.definitions.specs.FontT.{T}
@@ -29,10 +29,10 @@ abbrev asked : Request
 asked = plain (45 ∷ 52 ∷ []) (placed (point (pos 5) (pos 3)) 4 false) Baseline
 
 abbrev small : Ground
-small = on record { width = 8; height = 8 } (replicate 64 0)
+small = on (sized Bytes 8 8) (replicate 64 0)
 
 abbrev large : Ground
-large = on record { width = 9; height = 12 } (replicate 54 0 ++ replicate 54 7)
+large = on (sized Bytes 9 12) (replicate 54 0 ++ replicate 54 7)
 
 abbrev dimensions : RenderedDimensions
 dimensions = record {
@@ -42,7 +42,7 @@ dimensions = record {
 
 pub supposed : TwoDrawings T (T ++ added) asked small large
 unfolding T header header_off signed8 table row_of first_character decode_from
-supposed = record { first_within = refl; second_within = refl; no_skips = refl; more = added; longer = refl; as_wide = omega arith; as_high = omega arith }
+supposed = record { first_within = refl; second_within = refl; no_skips = refl; more = added; longer = refl; same_format = refl; as_wide = omega arith; as_high = omega arith }
 
 pub succeeds : drawn (u8g2 T) asked (Transparent 1) small ≡ success dimensions
 unfolding T header header_off signed8 glyph fields search record8 chain read_at bits low_bits number
@@ -75,7 +75,7 @@ centered_box = Some record { top_left = record { x = pos 4; y = pos 0 }; size = 
 
 pub centered_supposed : TwoDrawings T (T ++ added) centered small large
 unfolding T header header_off signed8 table row_of first_character decode_from
-centered_supposed = record { first_within = refl; second_within = refl; no_skips = refl; more = added; longer = refl; as_wide = omega arith; as_high = omega arith }
+centered_supposed = record { first_within = refl; second_within = refl; no_skips = refl; more = added; longer = refl; same_format = refl; as_wide = omega arith; as_high = omega arith }
 
 pub centered_succeeds : draw_aligned (u8g2 T) centered (Transparent 1) small.framebuffer small.before ≡ success centered_box
 unfolding T header header_off signed8 glyph fields search record8 chain read_at bits low_bits number

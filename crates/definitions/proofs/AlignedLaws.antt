@@ -10,7 +10,7 @@ use Rattle.definitions.specs.Text.{Answer, shows, nothing, stops, answer, join_a
 use Rattle.definitions.specs.Runs.{Pixels, pixels, cut}
 use Rattle.definitions.specs.Font.{Font, u8g2, measured_answer, with_runs, drawable, drawn_answer}
 use Rattle.definitions.specs.Framebuffer.{framebuffer_cause}
-use Rattle.definitions.specs.Limits.{text_cause, position_cause, background_cause}
+use Rattle.definitions.specs.Limits.{text_cause, position_cause, color_cause, background_cause}
 use Rattle.definitions.specs.Calls.{Request, request, plain, code_points_of, origin, measure_causes, measured_text, measure, measure_aligned, box_of_layout}
 use Rattle.definitions.specs.Calls.{draw_causes, drawn_text, draw, draw_buffer, draw_aligned}
 use Rattle.definitions.specs.Sums.{sums}
@@ -74,7 +74,7 @@ module _ (font : Font) (r : Request) (color : FontColor) (p : Framebuffer) (buff
   measuring : any_applies (draw_causes font r color p buffer) ≡ false → any_applies (measure_causes font r) ≡ false
   measuring e =
       let k = any_parts font.causes _ e in
-      let o = each_off (framebuffer_cause p buffer ∷ text_cause r.text ∷ position_cause r.position r.line_height ∷ background_cause color font.background ∷ []) k.1 in
+      let o = each_off (framebuffer_cause p buffer ∷ text_cause r.text ∷ position_cause r.position r.line_height ∷ color_cause p.format color ∷ background_cause color font.background ∷ []) k.1 in
       parts_any font.causes _ k.0 (all_off (text_cause r.text ∷ position_cause r.position r.line_height ∷ []) (o.1.0, (o.1.1.0, tt)))
 
   -- Whatever is skipped, and whatever the alignment.

@@ -4,7 +4,7 @@ use Rattle.definitions.specs.Vocabulary.{FontColor}
 use Rattle.definitions.specs.Refusals.{any_applies}
 use Rattle.definitions.specs.Header.{length_off, header_off}
 use Rattle.definitions.specs.Framebuffer.{framebuffer_cause}
-use Rattle.definitions.specs.Limits.{text_cause, position_cause, background_cause}
+use Rattle.definitions.specs.Limits.{text_cause, position_cause, color_off, background_cause}
 use Rattle.definitions.specs.Font.{u8g2}
 use Rattle.definitions.specs.Calls.{Request, measure_causes, draw_causes}
 use Rattle.definitions.specs.Agreement.{Ground, limits, WithinLimits}
@@ -34,6 +34,7 @@ pub record LimitsPass (font : List ℕ) (r : Request) (p : Ground) : Type 0 wher
 -- and with it
 pub record DrawPasses (font : List ℕ) (r : Request) (color : FontColor) (p : Ground) : Type 0 where
   pub limited : LimitsPass font r p
+  pub bits_in : color_off p.framebuffer.format color ≡ false
   pub color_in : (background_cause color (u8g2 font).background).applies ≡ false
 
 module _ (font : List ℕ) (r : Request) where
@@ -52,11 +53,11 @@ module _ (font : List ℕ) (r : Request) where
     draw_passes e = by (each_off (draw_causes (u8g2 font) r color p.framebuffer p.before) e)
       where
         by : NoneApplies (draw_causes (u8g2 font) r color p.framebuffer p.before) → DrawPasses font r color p
-        by (l, (h, (s, (t, (q, (c, none)))))) =
-            record { limited = record { length_in = l; header_in = h; size_in = s; text_in = t; place_in = q }; color_in = c }
+        by (l, (h, (s, (t, (q, (b, (c, none))))))) =
+            record { limited = record { length_in = l; header_in = h; size_in = s; text_in = t; place_in = q }; bits_in = b; color_in = c }
 
     pub draw_off : DrawPasses font r color p → any_applies (draw_causes (u8g2 font) r color p.framebuffer p.before) ≡ false
     draw_off d =
         let s = d.limited in
         all_off (draw_causes (u8g2 font) r color p.framebuffer p.before)
-        (s.length_in, (s.header_in, (s.size_in, (s.text_in, (s.place_in, (d.color_in, tt))))))
+        (s.length_in, (s.header_in, (s.size_in, (s.text_in, (s.place_in, (d.bits_in, (d.color_in, tt)))))))

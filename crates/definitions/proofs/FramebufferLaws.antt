@@ -1,23 +1,13 @@
--- The framebuffer as a window onto a picture: its one law, and how lists of bytes are compared pixel by pixel. What holds of a
--- byte at column and row comes from here; no other file divides by the width. Assumes nothing.
-use Rattle.integers.proofs.Prelude.{◌≡◌, refl, sym, ap, subst, ◌∙◌, List, [], ◌∷◌, ℕ, zero, suc, ◌+◌, ◌*◌, ◌/◌, ◌%◌, ◌<◌, div-add-mod', mod-lt}
-use Rattle.integers.proofs.Prelude.{mod-eq_of_lt, div-eq_of_lt, mul-add-div_right, mul-add-mod_self_right, zero-add, add-zero, add-suc, suc-add}
-use Rattle.integers.proofs.Prelude.{arith, pos, length, get_or, ext_get_or}
-use Rattle.definitions.specs.Picture.{Paint, keep, put, Picture, above}
-use Rattle.definitions.specs.Framebuffer.{over, map_at, shown}
-
--- ---- a list changed element by element
-
-pub length_map_at : (f : ℕ → ℕ → ℕ) (i : ℕ) (l : List ℕ) → length (map_at f i l) ≡ length l
-unfolding map_at
-length_map_at f i [] = refl
-length_map_at f i (x ∷ xs) = ap suc (length_map_at f (suc i) xs)
-
-pub getd_map_at : (f : ℕ → ℕ → ℕ) (i : ℕ) (l : List ℕ) (k : ℕ) → k < length l → get_or (map_at f i l) k 0 ≡ f (i + k) (get_or l k 0)
-unfolding map_at
-getd_map_at f i [] k h = absurd (omega arith)
-getd_map_at f i (x ∷ xs) zero h = simp add-zero
-getd_map_at f i (x ∷ xs) (suc k) h = getd_map_at f (suc i) xs k (omega arith) ∙ simp (suc-add, add-suc)
+-- The framebuffer as a window onto a picture: its one law, for every format, and when two pictures give the same bytes. What holds of
+-- a pixel at column and row comes from here; no other file divides by the width. Assumes nothing.
+use Rattle.integers.proofs.Prelude.{◌≡◌, sym, ap, ◌∙◌, false, ◌||◌, List, ℕ, ◌+◌, ◌*◌, ◌/◌, ◌%◌, ◌≤◌, ◌<◌, div-add-mod', mod-lt, zero-add}
+use Rattle.integers.proofs.Prelude.{mod-eq_of_lt, div-eq_of_lt, mul-add-div_right, mul-add-mod_self_right, mul-le-mul_right, dec_lt, arith, ltb, eqb}
+use Rattle.integers.proofs.Prelude.{pos, length, get_or, eqb-true, eqb-false, ltb-false, not-false}
+use Rattle.definitions.specs.Vocabulary.{Framebuffer}
+use Rattle.definitions.specs.Picture.{Paint, keep, Picture, above}
+use Rattle.definitions.specs.Framebuffer.{over, per_byte, stored, in_byte, paint_byte, paints, shown, byte_at, pixel_at, byte_rows, size_in_bytes, side_off, size_off, framebuffer_cause, BufferFits}
+use Rattle.definitions.proofs.RefusalLaws.{or_false}
+use Rattle.definitions.proofs.ByteLaws.{length_map_at, getd_map_at, map_map, map_alike, map_same, byte_painted, byte_twice, byte_alike, byte_blank, over_keep, some_per_byte}
 
 -- ---- column and row of an index
 
@@ -33,84 +23,148 @@ module _ {width column : ℕ} (inside : column < width) (row : ℕ) where
 
 -- ---- the window
 
-module _ (width : ℕ) (picture : Picture) (buffer : List ℕ) where
-  pub length_shown : length (shown width picture buffer) ≡ length buffer
+module _ (p : Framebuffer) (picture : Picture) (buffer : List ℕ) where
+  pub length_shown : length (shown p picture buffer) ≡ length buffer
   length_shown = length_map_at _ 0 buffer
 
   -- the byte at an index
-  shown_index : (i : ℕ) → i < length buffer
-      → get_or (shown width picture buffer) i 0 ≡ over (picture (pos (i % width)) (pos (i / width))) (get_or buffer i 0)
+  pub shown_index : (i : ℕ) → i < length buffer → get_or (shown p picture buffer) i 0 ≡ paint_byte p.format (paints p picture i) (get_or buffer i 0)
   shown_index i h = getd_map_at _ 0 buffer i h ∙ simp zero-add
 
-  -- The law of this framebuffer: the pixel at column and row is the picture's there, over what it was.
-  pub shown_at : (column row : ℕ) → column < width → row * width + column < length buffer
-      → get_or (shown width picture buffer) (row * width + column) 0
-      ≡ over (picture (pos column) (pos row)) (get_or buffer (row * width + column) 0)
-  shown_at column row c h = shown_index (row * width + column) h ∙ simp (column_of c row, row_of c row)
+  -- what is drawn on the pixels of the byte that holds the one at column and row
+  pub paints_at : (column row k : ℕ) → column < p.width
+      → paints p picture (byte_at p column row) k ≡ picture (pos column) (pos (row / per_byte p.format * per_byte p.format + k))
+  paints_at column row k c = rw (column_of c (row / per_byte p.format), row_of c (row / per_byte p.format))
+
+  -- The law of every framebuffer: the pixel at column and row is the picture's there, over what it was.
+  pub shown_at : (column row : ℕ) → column < p.width → byte_at p column row < length buffer
+      → pixel_at p (shown p picture buffer) column row ≡ over (stored p.format (picture (pos column) (pos row))) (pixel_at p buffer column row)
+  shown_at column row c h =
+      let n = per_byte p.format in
+      let k : row % n < n = mod-lt row (some_per_byte p.format) in
+      let e : row / n * n + row % n ≡ row = div-add-mod' row n in
+      ap (in_byte p.format (row % n)) (shown_index (byte_at p column row) h)
+      ∙ byte_painted p.format (paints p picture (byte_at p column row)) (get_or buffer (byte_at p column row) 0) (row % n) k
+      ∙ ap (λ (x : Paint). over (stored p.format x) (pixel_at p buffer column row)) (paints_at column row (row % n) c ∙ ap (λ (y : ℕ). picture (pos column) (pos y)) e)
+
+-- ---- a buffer of the framebuffer's size
+
+pub size_fits : (p : Framebuffer) (buffer : List ℕ) → (framebuffer_cause p buffer).applies ≡ false → BufferFits (length buffer) p
+size_fits p buffer e =
+    let size = or_false (size_off p) _ e in
+    let sides = or_false (side_off p.width || side_off p.height) _ size.0 in
+    let each = or_false (side_off p.width) (side_off p.height) sides.0 in
+    let w = or_false (eqb p.width 0) (ltb 256 p.width) each.0 in
+    let h = or_false (eqb p.height 0) (ltb 256 p.height) each.1 in
+    let none : p.width ≡ 0 → ⊥ = eqb-false p.width 0 w.0 in
+    let whole : p.height % per_byte p.format ≡ 0 = eqb-true _ 0 (not-false _ sides.1) in
+    record {
+      some = omega (arith, none);
+      wide = ltb-false 256 p.width w.1;
+      high = ltb-false 256 p.height h.1;
+      whole = omega (arith, div-add-mod' p.height (per_byte p.format), whole);
+      area = eqb-true (length buffer) (size_in_bytes p) (not-false _ size.1);
+    }
+
+module _ {bytes : ℕ} {p : Framebuffer} (f : BufferFits bytes p) (column row : ℕ) (c : column < p.width) where
+  abbrev n : ℕ
+  n = per_byte p.format
+
+  -- a pixel of the framebuffer lies in the buffer ..
+  pub on_buffer : row < p.height → byte_at p column row < bytes
+  on_buffer h = by (dec_lt (row / n) (byte_rows p))
+    where
+      by : Dec (row / n < byte_rows p) → byte_at p column row < bytes
+      by (yes k) =
+          let k : row / n + 1 ≤ byte_rows p = omega arith in
+          omega (arith, f.area, mul-le-mul_right p.width k, c)
+      by (no k) =
+          let k : byte_rows p ≤ row / n = omega arith in
+          absurd (omega (arith, mul-le-mul_right n k, f.whole, div-add-mod' row n))
+
+  -- .. and a pixel of the buffer lies on the framebuffer.
+  pub on_framebuffer : byte_at p column row < bytes → row < p.height
+  on_framebuffer h = by (dec_lt (row / n) (byte_rows p))
+    where
+      by : Dec (row / n < byte_rows p) → row < p.height
+      by (yes k) =
+          let k : row / n + 1 ≤ byte_rows p = omega arith in
+          omega (arith, mul-le-mul_right n k, f.whole, div-add-mod' row n, mod-lt row (some_per_byte p.format))
+      by (no k) =
+          let k : byte_rows p ≤ row / n = omega arith in
+          absurd (omega (arith, mul-le-mul_right p.width k, f.area))
 
 -- ---- equal buffers
 
--- every pixel of a framebuffer of that width with so many bytes
-abbrev pub EveryPixel : ℕ → ℕ → (ℕ → ℕ → Type 0) → Type 0
-EveryPixel width bytes P = (column row : ℕ) → column < width → row * width + column < bytes → P column row
+-- every pixel of a framebuffer with so many bytes
+abbrev pub EveryPixel : Framebuffer → ℕ → (ℕ → ℕ → Type 0) → Type 0
+EveryPixel p bytes P = (column row : ℕ) → column < p.width → byte_at p column row < bytes → P column row
 
-module _ {width : ℕ} (some : 0 < width) where
-  -- Two buffers of equal length that agree at every pixel are equal.
-  pub same_pixels : (a b : List ℕ) → length a ≡ length b
-      → EveryPixel width (length a) (λ column row. get_or a (row * width + column) 0 ≡ get_or b (row * width + column) 0)
-      → a ≡ b
-  same_pixels a b l each = ext_get_or 0 a b l at
+-- the pixel k of the byte at an index: its column, its row, and its byte again
+module _ (p : Framebuffer) (some : 0 < p.width) (i k : ℕ) (h : k < per_byte p.format) where
+  abbrev column : ℕ
+  column = i % p.width
+
+  abbrev row : ℕ
+  row = i / p.width * per_byte p.format + k
+
+  band : row / per_byte p.format ≡ i / p.width
+  band = row_of h (i / p.width)
+
+  in_width : column < p.width
+  in_width = mod-lt i some
+
+  same_byte : byte_at p column row ≡ i
+  same_byte = rw band (div-add-mod' i p.width)
+
+  same_pixel : (buffer : List ℕ) → pixel_at p buffer column row ≡ in_byte p.format k (get_or buffer i 0)
+  same_pixel buffer = rw (same_byte, column_of h (i / p.width))
+
+module _ (p : Framebuffer) (some : 0 < p.width) where
+  -- Pictures that make the same of every pixel give the same buffer.
+  pub shown_alike : (a b : Picture) (buffer : List ℕ)
+      → EveryPixel p (length buffer) (λ column row.
+      over (stored p.format (a (pos column) (pos row))) (pixel_at p buffer column row) ≡ over (stored p.format (b (pos column) (pos row))) (pixel_at p buffer column row))
+      → shown p a buffer ≡ shown p b buffer
+  shown_alike a b buffer each = map_alike _ _ 0 buffer at
     where
-      at : (i : ℕ) → i < length a → get_or a i 0 ≡ get_or b i 0
+      at : (i : ℕ) → i < length buffer
+          → paint_byte p.format (paints p a (0 + i)) (get_or buffer i 0) ≡ paint_byte p.format (paints p b (0 + i)) (get_or buffer i 0)
       at i h =
-          let e = div-add-mod' i width in
-          subst (λ (j : ℕ). get_or a j 0 ≡ get_or b j 0) e (each (i % width) (i / width) (mod-lt i some) (omega arith))
+          simp zero-add
+          (byte_alike p.format (paints p a i) (paints p b i) (get_or buffer i 0)
+          (λ k l. rw (same_pixel p some i k l buffer) at
+          (each (column p some i k l) (row p some i k l) (in_width p some i k l) (rw (same_byte p some i k l) h))))
 
-  -- A buffer that is the picture over the earlier one, pixel by pixel, is the earlier one with the picture shown.
-  pub is_shown : (picture : Picture) (before after : List ℕ) → length after ≡ length before
-      → EveryPixel width (length before) (λ column row.
-      get_or after (row * width + column) 0 ≡ over (picture (pos column) (pos row)) (get_or before (row * width + column) 0))
-      → after ≡ shown width picture before
-  is_shown picture before after l each =
-      same_pixels after (shown width picture before) (l ∙ sym (length_shown width picture before))
-      (λ column row c h. each column row c (omega arith) ∙ sym (shown_at width picture before column row c (omega arith)))
-
-  -- Pictures that agree on the window give the same buffer.
-  pub same_picture : (p q : Picture) (buffer : List ℕ)
-      → EveryPixel width (length buffer) (λ column row. p (pos column) (pos row) ≡ q (pos column) (pos row))
-      → shown width p buffer ≡ shown width q buffer
-  same_picture p q buffer each =
-      is_shown q buffer (shown width p buffer) (length_shown width p buffer)
-      (λ column row c h. shown_at width p buffer column row c h ∙ ap (λ (x : Paint). over x (get_or buffer (row * width + column) 0)) (each column row c h))
+  -- Pictures that agree on the window do.
+  pub same_picture : (a b : Picture) (buffer : List ℕ)
+      → EveryPixel p (length buffer) (λ column row. a (pos column) (pos row) ≡ b (pos column) (pos row))
+      → shown p a buffer ≡ shown p b buffer
+  same_picture a b buffer each =
+      shown_alike a b buffer (λ column row c h. ap (λ (x : Paint). over (stored p.format x) (pixel_at p buffer column row)) (each column row c h))
 
 -- ---- pictures one after the other
 
 -- one picture on another
 abbrev pub onto : Picture → Picture → Picture
-onto p q column row = above (p column row) (q column row)
-
-over_over : (p q : Paint) (old : ℕ) → over p (over q old) ≡ over (above p q) old
-over_over keep q old = refl
-over_over (put c) q old = refl
-
-map_map : (f g h : ℕ → ℕ → ℕ) → ((i x : ℕ) → f i (g i x) ≡ h i x) → (i : ℕ) (l : List ℕ) → map_at f i (map_at g i l) ≡ map_at h i l
-unfolding map_at
-map_map f g h e i [] = refl
-map_map f g h e i (x ∷ xs) = cc (e i x, map_map f g h e (suc i) xs)
+onto a b column row = above (a column row) (b column row)
 
 -- Two pictures in a row are one, the later above the earlier.
-pub shown_shown : (width : ℕ) (p q : Picture) (buffer : List ℕ) → shown width p (shown width q buffer) ≡ shown width (onto p q) buffer
-shown_shown width p q buffer = map_map _ _ _ (λ i x. over_over (p (pos (i % width)) (pos (i / width))) (q (pos (i % width)) (pos (i / width))) x) 0 buffer
-
-map_same : (f : ℕ → ℕ → ℕ) → ((i x : ℕ) → f i x ≡ x) → (i : ℕ) (l : List ℕ) → map_at f i l ≡ l
-unfolding map_at
-map_same f e i [] = refl
-map_same f e i (x ∷ xs) = cc (e i x, map_same f e (suc i) xs)
+pub shown_shown : (p : Framebuffer) (a b : Picture) (buffer : List ℕ) → shown p a (shown p b buffer) ≡ shown p (onto a b) buffer
+shown_shown p a b buffer = map_map _ _ _ (λ i x. byte_twice p.format (paints p a i) (paints p b i) x) 0 buffer
 
 -- the picture that keeps everything
 abbrev pub blank : Picture
 blank column row = keep
 
 -- It changes nothing.
-pub shown_blank : (width : ℕ) (buffer : List ℕ) → shown width blank buffer ≡ buffer
-shown_blank width buffer = map_same _ (λ i x. refl) 0 buffer
+pub shown_blank : (p : Framebuffer) (buffer : List ℕ) → shown p blank buffer ≡ buffer
+shown_blank p buffer = map_same _ 0 buffer (λ k h. byte_blank p.format (get_or buffer k 0))
+
+-- A picture of what every pixel was changes nothing.
+pub shown_same : (p : Framebuffer) → 0 < p.width → (picture : Picture) (buffer : List ℕ)
+    → EveryPixel p (length buffer) (λ column row. over (stored p.format (picture (pos column) (pos row))) (pixel_at p buffer column row) ≡ pixel_at p buffer column row)
+    → shown p picture buffer ≡ buffer
+shown_same p some picture buffer each =
+    shown_alike p some picture blank buffer (λ column row c h. each column row c h ∙ sym (over_keep p.format (pixel_at p buffer column row)))
+    ∙ shown_blank p buffer

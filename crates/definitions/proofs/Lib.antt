@@ -10,6 +10,7 @@ pub mod LookupLaws
 pub mod StepsLaws
 pub mod VerticalOffsetLaws
 pub mod RunsLaws
+pub mod ByteLaws
 pub mod FramebufferLaws
 pub mod TextLaws
 pub mod AlikeLaws

@@ -1,7 +1,7 @@
 -- What the end of a line tells of its letters; and lines one after the other, counted and shown as a loop goes. Assumes nothing.
 use Rattle.integers.proofs.Prelude.{◌≡◌, refl, sym, ap, subst, ◌∙◌, Bool, true, false, ◌⊎◌, inl, inr, List, [], ◌∷◌, ◌++◌, ℕ, eqb, pos, ◌+ℤ◌}
 use Rattle.integers.proofs.Choices.{impossible}
-use Rattle.definitions.specs.Vocabulary.{Point, RenderedDimensions, GlyphReader, FontColor, HorizontalAlignment}
+use Rattle.definitions.specs.Vocabulary.{Point, RenderedDimensions, GlyphReader, FontColor, HorizontalAlignment, Framebuffer}
 use Rattle.definitions.specs.Refusals.{Outcome, success, refused}
 use Rattle.definitions.specs.Geometry.{join}
 use Rattle.definitions.specs.Runs.{Pixels, pixels, cut}
@@ -167,18 +167,18 @@ module _ (font : Font) (skip : Bool) where
 
 -- ---- lines one after the other
 
-module _ (width : ℕ) (color : FontColor) (pixels_of : GlyphReader → List ℕ) where
+module _ (p : Framebuffer) (color : FontColor) (pixels_of : GlyphReader → List ℕ) where
   abbrev pub painted : List Placed → List ℕ → List ℕ
-  painted ps buffer = shown width (text_picture color pixels_of ps) buffer
+  painted ps buffer = shown p (text_picture color pixels_of ps) buffer
 
   pub painted_append : (ps qs : List Placed) (buffer : List ℕ) → painted (ps ++ qs) buffer ≡ painted qs (painted ps buffer)
   unfolding text_picture
-  painted_append [] qs buffer = ap (painted qs) (sym (shown_blank width buffer))
-  painted_append (p ∷ ps) qs buffer =
-      let box = box_picture color (pixels_of p.glyph) (box_of p) in
-      sym (shown_shown width (text_picture color pixels_of (ps ++ qs)) box buffer)
-      ∙ painted_append ps qs (shown width box buffer)
-      ∙ ap (painted qs) (shown_shown width (text_picture color pixels_of ps) box buffer)
+  painted_append [] qs buffer = ap (painted qs) (sym (shown_blank p buffer))
+  painted_append (g ∷ ps) qs buffer =
+      let box = box_picture color (pixels_of g.glyph) (box_of g) in
+      sym (shown_shown p (text_picture color pixels_of (ps ++ qs)) box buffer)
+      ∙ painted_append ps qs (shown p box buffer)
+      ∙ ap (painted qs) (shown_shown p (text_picture color pixels_of ps) box buffer)
 
   module _ (line : Point → List ℕ → Layout) (line_height : ℕ) where
     -- what lines come to from the dimensions so far on, and what they leave

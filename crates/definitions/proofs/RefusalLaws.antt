@@ -3,7 +3,7 @@
 use Rattle.integers.proofs.Prelude.{◌≡◌, refl, Bool, true, false, ◌||◌, List, [], ◌∷◌, ◌++◌, ℕ, ℤ, pos, take, set}
 use Rattle.integers.specs.Integers.{signed8}
 use Rattle.integers.proofs.Choices.{LedOn, impossible}
-use Rattle.definitions.specs.Vocabulary.{Framebuffer, RenderedDimensions, FontColor, Transparent, WithBackground}
+use Rattle.definitions.specs.Vocabulary.{Framebuffer, Bytes, Packed, RenderedDimensions, FontColor, Transparent, WithBackground}
 use Rattle.types.specs.declared.style.VerticalPosition.TheVariants.{Baseline}
 use Rattle.definitions.specs.Refusals.{Outcome, success, refused, and_then, Cause, unless_refused, any_applies}
 use Rattle.definitions.specs.Header.{header, header_off}
@@ -12,6 +12,7 @@ use Rattle.definitions.specs.Lookup.{record8, chain, search}
 use Rattle.definitions.specs.Glyph.{fields, glyph}
 use Rattle.definitions.specs.Utf8.{table, row_of, first_character, decode_from, newlines}
 use Rattle.definitions.specs.Text.{point, join_all, letters, lines, line_by_line}
+use Rattle.definitions.specs.Framebuffer.{sized}
 use Rattle.definitions.specs.Calls.{Request, placed, plain, measure, draw_causes, draw, draw_buffer}
 use Rattle.definitions.specs.Font.{Font, u8g2}
 use Rattle.definitions.specs.FontT.{T}
@@ -85,8 +86,11 @@ all_off (c ∷ cs) h = rw h.0 (all_off cs h.1)
 
 -- A call with every cause, and the same with one after the other mended.
 module _ where
+  abbrev drawn_on : Framebuffer → List ℕ → List ℕ → ℤ → FontColor → List ℕ → Outcome RenderedDimensions
+  drawn_on p font text x color buffer = draw (u8g2 font) (plain text (placed (point x (pos 0)) 0 false) Baseline) color p buffer
+
   abbrev drawn_of : List ℕ → List ℕ → ℤ → FontColor → List ℕ → Outcome RenderedDimensions
-  drawn_of font text x color buffer = draw (u8g2 font) (plain text (placed (point x (pos 0)) 0 false) Baseline) color record { width = 1; height = 1 } buffer
+  drawn_of = drawn_on (sized Bytes 1 1)
 
   abbrev background : FontColor
   background = WithBackground 1 0
@@ -103,6 +107,26 @@ module _ where
       ≡ (refused 1 0 ∷ refused 2 0 ∷ refused 3 0 ∷ refused 4 0 ∷ refused 5 0 ∷ refused 6 0 ∷ refused 7 65 ∷ [])
   unfolding T header header_off signed8 glyph fields search record8 chain read_at bits low_bits number table row_of first_character decode_from newlines join_all letters lines line_by_line draw
   draw_order = refl
+
+  -- Request A4: 9 comes after 5 and before 6, on packed framebuffers alone, and speaks of the colours that the ink has.
+  abbrev packed_of : List ℕ → ℤ → FontColor → List ℕ → Outcome RenderedDimensions
+  packed_of = drawn_on (sized Packed 1 8) T
+
+  pub packed_order :
+      (drawn_on (sized Packed 1 12) T (255 ∷ []) (pos 1048577) (WithBackground 2 0) (0 ∷ [])
+      ∷ packed_of (255 ∷ []) (pos 1048577) (WithBackground 2 0) (0 ∷ 0 ∷ [])
+      ∷ packed_of (255 ∷ []) (pos 1048577) (WithBackground 2 0) (0 ∷ [])
+      ∷ packed_of (65 ∷ []) (pos 1048577) (WithBackground 2 0) (0 ∷ [])
+      ∷ packed_of (65 ∷ []) (pos 0) (WithBackground 2 0) (0 ∷ [])
+      ∷ packed_of (65 ∷ []) (pos 0) (WithBackground 0 2) (0 ∷ [])
+      ∷ packed_of (65 ∷ []) (pos 0) (Transparent 2) (0 ∷ [])
+      ∷ packed_of (65 ∷ []) (pos 0) (WithBackground 1 0) (0 ∷ [])
+      ∷ packed_of (65 ∷ []) (pos 0) (Transparent 1) (0 ∷ [])
+      ∷ drawn_of T (65 ∷ []) (pos 0) (WithBackground 2 0) (0 ∷ [])
+      ∷ [])
+      ≡ (refused 3 0 ∷ refused 3 0 ∷ refused 4 0 ∷ refused 5 0 ∷ refused 9 0 ∷ refused 9 0 ∷ refused 9 0 ∷ refused 6 0 ∷ refused 7 65 ∷ refused 6 0 ∷ [])
+  unfolding T header header_off signed8 glyph fields search record8 chain read_at bits low_bits number table row_of first_character decode_from newlines join_all letters lines line_by_line draw
+  packed_order = refl
 
   abbrev measured_of : List ℕ → List ℕ → ℤ → Outcome RenderedDimensions
   measured_of font text x = measure (u8g2 font) (plain text (placed (point x (pos 0)) 0 false) Baseline)

@@ -5,7 +5,7 @@ use Rattle.integers.proofs.Prelude.{ℤ, pos, ◌+ℤ◌, ◌-ℤ◌}
 use Rattle.integers.specs.Integers.{pick}
 use Rattle.integers.proofs.Laws.{zarith, plus, minus}
 use Rattle.integers.proofs.Choices.{impossible}
-use Rattle.definitions.specs.Vocabulary.{BoundingBox, None, Some, Point, Rectangle, RenderedDimensions, GlyphReader, FontColor, HorizontalAlignment}
+use Rattle.definitions.specs.Vocabulary.{BoundingBox, None, Some, Point, Rectangle, RenderedDimensions, GlyphReader, FontColor, HorizontalAlignment, Framebuffer}
 use Rattle.types.specs.declared.style.HorizontalAlignment.TheVariants.{Left, Center, Right}
 use Rattle.definitions.specs.Refusals.{Outcome, success, refused, and_then}
 use Rattle.definitions.specs.Geometry.{join}
@@ -196,43 +196,43 @@ module _ (answers : ℕ → Answer) (line_height : ℕ) (origin : Point) where
 
 -- ---- drawing letter by letter is the text's picture on the framebuffer, up to the refusal if there is one
 
-module _ (width : ℕ) (color : FontColor) (pixels_of : GlyphReader → List ℕ) (answers : ℕ → Answer) (line_height : ℕ) (origin : Point) where
+module _ (p : Framebuffer) (color : FontColor) (pixels_of : GlyphReader → List ℕ) (answers : ℕ → Answer) (line_height : ℕ) (origin : Point) where
   -- the picture of a layout on a framebuffer
   abbrev on : List ℕ → Layout → List ℕ
-  on buffer l = shown width (text_picture color pixels_of l.glyphs) buffer
+  on buffer l = shown p (text_picture color pixels_of l.glyphs) buffer
 
   -- what is to be shown of a list of code points, from each state and each buffer
   abbrev Draws : List ℕ → Type 0
   Draws cs =
       (d : RenderedDimensions) (buffer : List ℕ)
-      → draw_from width color pixels_of answers line_height origin d buffer cs ≡ on buffer (layout answers line_height origin d.advance cs)
+      → draw_from p color pixels_of answers line_height origin d buffer cs ≡ on buffer (layout answers line_height origin d.advance cs)
 
   draw_place : (cs : List ℕ) → Draws cs → (d : RenderedDimensions) (buffer : List ℕ) (l : Answer)
-      → or_kept (answer_step origin d l) (answer_shown width color pixels_of origin d l buffer) (λ next.
-      draw_from width color pixels_of answers line_height origin next (answer_shown width color pixels_of origin d l buffer) cs)
+      → or_kept (answer_step origin d l) (answer_shown p color pixels_of origin d l buffer) (λ next.
+      draw_from p color pixels_of answers line_height origin next (answer_shown p color pixels_of origin d l buffer) cs)
       ≡ on buffer (place origin d.advance l (λ next. layout answers line_height origin next cs))
   unfolding text_picture
   draw_place cs rest d buffer (shows g) =
       rest (glyph_step origin d g) _
-      ∙ shown_shown width
+      ∙ shown_shown p
       (text_picture color pixels_of (layout answers line_height origin (glyph_step origin d g).advance cs).glyphs)
       (box_picture color (pixels_of g) (next_box origin d g))
       buffer
   draw_place cs rest d buffer nothing = rest d buffer
-  draw_place cs rest d buffer (stops n c) = sym (shown_blank width buffer)
+  draw_place cs rest d buffer (stops n c) = sym (shown_blank p buffer)
 
   draw_char : (cs : List ℕ) → Draws cs → (d : RenderedDimensions) (buffer : List ℕ) (t : Bool) (l : Answer)
-      → or_kept (pick t (success (newline_step line_height d)) (answer_step origin d l)) (pick t buffer (answer_shown width color pixels_of origin d l buffer)) (λ next.
-      draw_from width color pixels_of answers line_height origin next (pick t buffer (answer_shown width color pixels_of origin d l buffer)) cs)
+      → or_kept (pick t (success (newline_step line_height d)) (answer_step origin d l)) (pick t buffer (answer_shown p color pixels_of origin d l buffer)) (λ next.
+      draw_from p color pixels_of answers line_height origin next (pick t buffer (answer_shown p color pixels_of origin d l buffer)) cs)
       ≡ on buffer (pick t (layout answers line_height origin (newline line_height d.advance) cs) (place origin d.advance l (λ next. layout answers line_height origin next cs)))
   draw_char cs rest d buffer true l = rest (newline_step line_height d) buffer
   draw_char cs rest d buffer false l = draw_place cs rest d buffer l
 
   pub draw_from_lem : (cs : List ℕ) (d : RenderedDimensions) (buffer : List ℕ)
-      → draw_from width color pixels_of answers line_height origin d buffer cs
-      ≡ shown width (text_picture color pixels_of (layout answers line_height origin d.advance cs).glyphs) buffer
+      → draw_from p color pixels_of answers line_height origin d buffer cs
+      ≡ shown p (text_picture color pixels_of (layout answers line_height origin d.advance cs).glyphs) buffer
   unfolding draw_from letters lines line_by_line text_picture
-  draw_from_lem [] d buffer = sym (shown_blank width buffer)
+  draw_from_lem [] d buffer = sym (shown_blank p buffer)
   draw_from_lem (c ∷ cs) d buffer =
       draw_char cs (draw_from_lem cs) d buffer (eqb c 10) (answers c)
       ∙ ap (on buffer) (sym (layout_next answers line_height origin c cs d.advance))
@@ -459,22 +459,22 @@ module _ (answers : ℕ → Answer) (line_height : ℕ) (origin : Point) (d : Re
   unfolding measure_from
   measure_stops e = rw e
 
-  module _ (width : ℕ) (color : FontColor) (pixels_of : GlyphReader → List ℕ) (buffer : List ℕ) where
+  module _ (p : Framebuffer) (color : FontColor) (pixels_of : GlyphReader → List ℕ) (buffer : List ℕ) where
     pub draw_next : {next : RenderedDimensions} → step answers line_height origin d c ≡ success next
-        → draw_from width color pixels_of answers line_height origin d buffer (c ∷ cs)
-        ≡ draw_from width color pixels_of answers line_height origin next (step_shown width color pixels_of answers origin d c buffer) cs
+        → draw_from p color pixels_of answers line_height origin d buffer (c ∷ cs)
+        ≡ draw_from p color pixels_of answers line_height origin next (step_shown p color pixels_of answers origin d c buffer) cs
     unfolding draw_from
     draw_next e = rw e
 
     stops_shown : {n k : ℕ} (t : Bool) (l : Answer) → pick t (success (newline_step line_height d)) (answer_step origin d l) ≡ refused n k
-        → pick t buffer (answer_shown width color pixels_of origin d l buffer) ≡ buffer
+        → pick t buffer (answer_shown p color pixels_of origin d l buffer) ≡ buffer
     stops_shown true l e = refl
     stops_shown false (shows g) e = impossible cc
     stops_shown false nothing e = refl
     stops_shown false (stops n k) e = refl
 
     pub draw_stops : {n k : ℕ} → step answers line_height origin d c ≡ refused n k
-        → draw_from width color pixels_of answers line_height origin d buffer (c ∷ cs) ≡ buffer
+        → draw_from p color pixels_of answers line_height origin d buffer (c ∷ cs) ≡ buffer
     unfolding draw_from
     draw_stops e = rw e (stops_shown (eqb c 10) (answers c) e)
 

@@ -2,12 +2,12 @@
 -- `TwoDrawings` is what is supposed, `Agree` what is claimed. It speaks of what four calls come to: proofs/Agreement.antt proves it
 -- of the definitions, and crate agreement of the calls themselves. The request's alignment is any of the three; a plain call asks
 -- for Left. Plain calls answer with an advance and a box, aligned ones with a box alone (request A2).
-use Rattle.std.specs.Prelude.{◌≡◌, false, List, [], ◌∷◌, ◌++◌, ℕ, ◌+◌, ◌*◌, ◌≤◌, ◌<◌, pos, get_or}
+use Rattle.std.specs.Prelude.{◌≡◌, false, List, [], ◌∷◌, ◌++◌, ℕ, ◌≤◌, ◌<◌, pos}
 use Rattle.definitions.specs.Vocabulary.{Framebuffer, BoundingBox, RenderedDimensions, FontColor}
 use Rattle.definitions.specs.Refusals.{Outcome, success, Cause, any_applies}
 use Rattle.definitions.specs.Geometry.{InsideBox}
 use Rattle.definitions.specs.Font.{Font, u8g2}
-use Rattle.definitions.specs.Framebuffer.{framebuffer_cause}
+use Rattle.definitions.specs.Framebuffer.{pixel_at, framebuffer_cause}
 use Rattle.definitions.specs.Limits.{text_cause, position_cause}
 use Rattle.definitions.specs.Calls.{Request, measure, measure_aligned, draw, draw_buffer, draw_aligned}
 
@@ -39,7 +39,7 @@ after font r color p = draw_buffer font r color p.framebuffer p.before
 
 -- the pixel of a framebuffer's bytes, and how many columns and rows there are
 abbrev pub pixel : Ground → List ℕ → ℕ → ℕ → ℕ
-pixel p bytes column row = get_or bytes (row * p.framebuffer.width + column) 0
+pixel p bytes column row = pixel_at p.framebuffer bytes column row
 
 abbrev pub width : Ground → ℕ
 width p = p.framebuffer.width
@@ -85,13 +85,14 @@ abbrev pub aligned_box : BoundingBox → BoundingBox
 aligned_box b = b
 
 -- Both drawings are within limits, and no letter is skipped; the second font is the first with any bytes, or none, added at its
--- end; the second framebuffer is at least as wide and high. What the framebuffers held before is not restricted.
+-- end; the second framebuffer is of the same format and at least as wide and high. What the framebuffers held before is not restricted.
 pub record TwoDrawings (first_font second_font : List ℕ) (r : Request) (p q : Ground) : Type 0 where
   pub first_within : WithinLimits (u8g2 first_font) r p
   pub second_within : WithinLimits (u8g2 second_font) r q
   pub no_skips : r.skip ≡ false
   pub more : List ℕ
   pub longer : second_font ≡ first_font ++ more
+  pub same_format : q.framebuffer.format ≡ p.framebuffer.format
   pub as_wide : width p ≤ width q
   pub as_high : height p ≤ height q
 

@@ -4,7 +4,7 @@ use Rattle.std.specs.Prelude.{Bool, List, [], ◌∷◌, ◌++◌, ℕ, ◌*◌,
 use Rattle.integers.specs.Integers.{pick}
 use Rattle.definitions.specs.Vocabulary.{FontReader, Framebuffer, BoundingBox, Point, Rectangle, RenderedDimensions, FontColor, HorizontalAlignment, VerticalPosition, Placement}
 use Rattle.types.specs.declared.style.HorizontalAlignment.TheVariants.{Left}
-use Rattle.definitions.specs.Refusals.{Outcome, success, and_then, refusal, Cause, unless_refused, any_applies}
+use Rattle.definitions.specs.Refusals.{Outcome, success, and_then, Cause, unless_refused, any_applies}
 use Rattle.definitions.specs.Header.{header, font_causes}
 use Rattle.definitions.specs.VerticalOffset.{vertical_offset}
 use Rattle.definitions.specs.Utf8.{decode, code_points, newlines}
@@ -12,7 +12,7 @@ use Rattle.definitions.specs.Text.{Answer, Layout, point, join_all, dimensions, 
 use Rattle.definitions.specs.Font.{Font, measured_answer, drawn_answer, pixels_of}
 use Rattle.definitions.specs.Picture.{text_picture}
 use Rattle.definitions.specs.Framebuffer.{shown, framebuffer_cause}
-use Rattle.definitions.specs.Limits.{text_cause, position_cause, background_cause}
+use Rattle.definitions.specs.Limits.{text_cause, position_cause, color_cause, background_cause}
 
 -- ---- opening: the header's values and the default line height
 
@@ -108,6 +108,7 @@ draw_causes font r color p buffer =
     ++ framebuffer_cause p buffer
     ∷ text_cause r.text
     ∷ position_cause r.position r.line_height
+    ∷ color_cause p.format color
     ∷ background_cause color font.background
     ∷ []
 
@@ -122,7 +123,7 @@ draw font r color p buffer = unless_refused (draw_causes font r color p buffer) 
 unfoldable pub draw_buffer : Font → Request → FontColor → Framebuffer → List ℕ → List ℕ
 draw_buffer font r color p buffer =
     pick (any_applies (draw_causes font r color p buffer)) buffer
-    (shown p.width (text_picture color (pixels_of font) (drawn_text font r).glyphs) buffer)
+    (shown p (text_picture color (pixels_of font) (drawn_text font r).glyphs) buffer)
 
 -- Aligned drawing answers with the box or none; the framebuffer then holds `draw_buffer` (request A2).
 unfoldable pub draw_aligned : Font → Request → FontColor → Framebuffer → List ℕ → Outcome BoundingBox

@@ -1,7 +1,7 @@
 -- The worked cases of SPECIFICATION, Font T (marked *), and cases of what no law speaks of: the header's bytes, both inks,
 -- skipping. One table of what the definitions give and what follows from the rules, and one theorem, which computes them all.
 use Rattle.std.specs.Prelude.{◌≡◌, refl, Bool, true, false, List, [], ◌∷◌, ◌++◌, map, ℕ, ◌+◌, ◌*◌, ℤ, pos, neg_ℤ, take, set, replicate}
-use Rattle.definitions.specs.Vocabulary.{FontReader, Framebuffer, BoundingBox, None, Some, Rectangle, RenderedDimensions, GlyphReader, LookupSteps}
+use Rattle.definitions.specs.Vocabulary.{FontReader, Framebuffer, Bytes, BoundingBox, None, Some, Rectangle, RenderedDimensions, GlyphReader, LookupSteps}
 use Rattle.definitions.specs.Vocabulary.{FontColor, Transparent, WithBackground, HorizontalAlignment}
 use Rattle.types.specs.declared.style.HorizontalAlignment.TheVariants.{Left as Alignment-as-Left, Center as Alignment-as-Center, Right as Alignment-as-Right}
 use Rattle.types.specs.declared.style.VerticalPosition.TheVariants.{Baseline, Top, Center, Bottom}
@@ -61,7 +61,7 @@ aligned_at a font text = boxed (measure_aligned (u8g2 font) (request text (place
 abbrev drawn_with : FontColor → Bool → List ℕ → List ℕ → Result
 drawn_with color skip font text =
     let r = plain text (placed (point (pos 10) (pos 20)) 4 skip) Baseline in
-    let p : Framebuffer = record { width = 15; height = 24 } in
+    let p : Framebuffer = record { format = Bytes; width = 15; height = 24 } in
     drawn (draw (u8g2 font) r color p (replicate 360 0)) (draw_buffer (u8g2 font) r color p (replicate 360 0))
 
 abbrev drawn_at : List ℕ → List ℕ → Result
@@ -79,7 +79,7 @@ summed_at font = summed_by (measure (u8g2 font)) false font
 abbrev aligned_on : HorizontalAlignment → List ℕ → List ℕ → Result
 aligned_on a font text =
     let r = request text (placed (point (pos 10) (pos 20)) 4 false) Baseline a in
-    let p : Framebuffer = record { width = 15; height = 24 } in
+    let p : Framebuffer = record { format = Bytes; width = 15; height = 24 } in
     let o = draw_aligned (u8g2 font) r (Transparent 1) p (replicate 360 0) in
     drawn_aligned o (sums (u8g2 font) text o) (draw_buffer (u8g2 font) r (Transparent 1) p (replicate 360 0))
 
@@ -308,7 +308,7 @@ cases =
     -- runs that the font's end cuts off: 8 in drawing alone
     ∷ record { given = summed_at (take 32 T) (52 ∷ []); expected = summed four (steps 2 0) }
     ∷ record {
-      given = summed_by (λ r. draw (u8g2 (take 32 T)) r (Transparent 1) record { width = 1; height = 1 } (0 ∷ [])) false (take 32 T) (52 ∷ []);
+      given = summed_by (λ r. draw (u8g2 (take 32 T)) r (Transparent 1) record { format = Bytes; width = 1; height = 1 } (0 ∷ [])) false (take 32 T) (52 ∷ []);
       expected = summed (refused 8 52) (steps 0 0);
     }
     -- U+0100 by the jump table: an entry whose distance leads past the end, three bytes more, two entries and a byte

@@ -1,7 +1,7 @@
 -- SPECIFICATION, Bits and fields: a glyph's fields, in the order w, h, x, y, advance, and the answer to a code point.
 use Rattle.std.specs.Prelude.{List, ℕ, ◌+◌, ◌*◌}
 use Rattle.definitions.specs.Vocabulary.{FontReader, GlyphReader}
-use Rattle.definitions.specs.Refusals.{Outcome, success, refused, and_then, refusal}
+use Rattle.definitions.specs.Refusals.{Outcome, success, refused, and_then}
 use Rattle.definitions.specs.Header.{header}
 use Rattle.definitions.specs.Bits.{Read, got, ends, read_at, biased}
 use Rattle.definitions.specs.Lookup.{Search, found, missing, short, search}

@@ -3,7 +3,7 @@
 use Rattle.std.specs.Prelude.{Bool, false, ◌||◌, List, [], ◌∷◌, ℕ, Result, Ok, Err}
 use Rattle.integers.specs.Integers.{pick}
 use Rattle.definitions.specs.Vocabulary.{Error}
-use Rattle.types.specs.declared.error.Error.TheVariants.{FontLength, FontHeader, FramebufferSize, TextEncoding, PositionOrLineHeight, BackgroundColorNotSupported, GlyphNotFound, FontEnds}
+use Rattle.types.specs.declared.error.Error.TheVariants.{FontLength, FontHeader, FramebufferSize, TextEncoding, PositionOrLineHeight, BackgroundColorNotSupported, GlyphNotFound, FontEnds, ColorNotSupported}
 
 -- A call succeeds with a value, or is refused with a number and a code point.
 pub data Outcome (A : Type 0) : Type 0 where
@@ -25,6 +25,7 @@ error_number PositionOrLineHeight = 5
 error_number BackgroundColorNotSupported = 6
 error_number (GlyphNotFound c) = 7
 error_number (FontEnds c) = 8
+error_number ColorNotSupported = 9
 
 -- the code point that is returned with it: 0 where no letter is to blame
 abbrev pub code_point : Error → ℕ
@@ -36,6 +37,7 @@ code_point PositionOrLineHeight = 0
 code_point BackgroundColorNotSupported = 0
 code_point (GlyphNotFound c) = c
 code_point (FontEnds c) = c
+code_point ColorNotSupported = 0
 
 abbrev pub refusal : {A : Type 0} → Error → Outcome A
 refusal e = refused (error_number e) (code_point e)

@@ -2,7 +2,7 @@
 -- code points. TextLaws.antt proves that these are the layouts of Text.antt.
 use Rattle.std.specs.Prelude.{List, [], ◌∷◌, ℕ, eqb, ℤ, pos, ◌+ℤ◌}
 use Rattle.integers.specs.Integers.{pick}
-use Rattle.definitions.specs.Vocabulary.{BoundingBox, None, Some, Point, Rectangle, RenderedDimensions, GlyphReader, FontColor, HorizontalAlignment}
+use Rattle.definitions.specs.Vocabulary.{BoundingBox, None, Some, Point, Rectangle, RenderedDimensions, GlyphReader, FontColor, HorizontalAlignment, Framebuffer}
 use Rattle.definitions.specs.Refusals.{Outcome, success, refused, and_then}
 use Rattle.definitions.specs.Geometry.{left, top, join}
 use Rattle.definitions.specs.Text.{Answer, shows, nothing, stops, box_at, point, newline, horizontal_offset}
@@ -44,26 +44,26 @@ start = record { advance = point (pos 0) (pos 0); bounding_box = None }
 -- ---- drawing: the framebuffer too is carried along
 
 -- A glyph that comes next is shown; other letters draw nothing.
-abbrev pub answer_shown : ℕ → FontColor → (GlyphReader → List ℕ) → Point → RenderedDimensions → Answer → List ℕ → List ℕ
-answer_shown width color pixels_of origin d (shows g) buffer =
-    shown width (box_picture color (pixels_of g) (next_box origin d g)) buffer
-answer_shown width color pixels_of origin d nothing buffer = buffer
-answer_shown width color pixels_of origin d (stops n c) buffer = buffer
+abbrev pub answer_shown : Framebuffer → FontColor → (GlyphReader → List ℕ) → Point → RenderedDimensions → Answer → List ℕ → List ℕ
+answer_shown p color pixels_of origin d (shows g) buffer =
+    shown p (box_picture color (pixels_of g) (next_box origin d g)) buffer
+answer_shown p color pixels_of origin d nothing buffer = buffer
+answer_shown p color pixels_of origin d (stops n c) buffer = buffer
 
-abbrev pub step_shown : ℕ → FontColor → (GlyphReader → List ℕ) → (ℕ → Answer) → Point → RenderedDimensions → ℕ → List ℕ → List ℕ
-step_shown width color pixels_of answers origin d c buffer =
-    pick (eqb c 10) buffer (answer_shown width color pixels_of origin d (answers c) buffer)
+abbrev pub step_shown : Framebuffer → FontColor → (GlyphReader → List ℕ) → (ℕ → Answer) → Point → RenderedDimensions → ℕ → List ℕ → List ℕ
+step_shown p color pixels_of answers origin d c buffer =
+    pick (eqb c 10) buffer (answer_shown p color pixels_of origin d (answers c) buffer)
 
 -- a refusal leaves what the letters before it drew
 abbrev pub or_kept : Outcome RenderedDimensions → List ℕ → (RenderedDimensions → List ℕ) → List ℕ
 or_kept (success d) buffer rest = rest d
 or_kept (refused n c) buffer rest = buffer
 
-unfoldable pub draw_from : ℕ → FontColor → (GlyphReader → List ℕ) → (ℕ → Answer) → ℕ → Point → RenderedDimensions → List ℕ → List ℕ → List ℕ
-draw_from width color pixels_of answers line_height origin d buffer [] = buffer
-draw_from width color pixels_of answers line_height origin d buffer (c ∷ cs) =
-    let after = step_shown width color pixels_of answers origin d c buffer in
-    or_kept (step answers line_height origin d c) after (λ next. draw_from width color pixels_of answers line_height origin next after cs)
+unfoldable pub draw_from : Framebuffer → FontColor → (GlyphReader → List ℕ) → (ℕ → Answer) → ℕ → Point → RenderedDimensions → List ℕ → List ℕ → List ℕ
+draw_from p color pixels_of answers line_height origin d buffer [] = buffer
+draw_from p color pixels_of answers line_height origin d buffer (c ∷ cs) =
+    let after = step_shown p color pixels_of answers origin d c buffer in
+    or_kept (step answers line_height origin d c) after (λ next. draw_from p color pixels_of answers line_height origin next after cs)
 
 -- ---- measuring line by line: each line is measured from its own start, and moved once it has ended
 

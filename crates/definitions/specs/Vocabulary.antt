@@ -3,6 +3,8 @@ pub use Rattle.std.specs.Prelude.{Option, None, Some}
 pub use Rattle.types.specs.declared.error.Error.{Error}
 pub use Rattle.types.specs.declared.font_reader.FontReader.{FontReader}
 pub use Rattle.types.specs.declared.framebuffer.Framebuffer.{Framebuffer}
+pub use Rattle.types.specs.declared.framebuffer.PixelFormat.{PixelFormat}
+pub use Rattle.types.specs.declared.framebuffer.PixelFormat.TheVariants.{Bytes, Packed}
 pub use Rattle.types.specs.declared.geometry.Point.{Point}
 pub use Rattle.types.specs.declared.geometry.Size.{Size}
 pub use Rattle.types.specs.declared.geometry.Rectangle.{Rectangle}

@@ -18,4 +18,6 @@ pub enum Error {
     GlyphNotFound(u32),
     // the font ends before the glyph for this code point does
     FontEnds(u32),
+    // the framebuffer holds pixels of 0 and 1, and a colour is neither
+    ColorNotSupported,
 }
