@@ -1,6 +1,6 @@
 -- SPECIFICATION, Drawing and measuring: the framebuffer. It is a window onto a picture, whatever its bytes hold; pixels off it are
 -- dropped. A byte holds one pixel, or eight of a column (request A4).
-use Rattle.std.specs.Prelude.{Bool, ◌||◌, not, List, [], ◌∷◌, ℕ, suc, ◌+◌, ◌*◌, ◌/◌, ◌%◌, ◌≡◌, ◌≤◌, ◌<◌, ltb, eqb, pos, length, get_or}
+use Rattle.std.specs.Prelude.{Bool, ◌||◌, not, List, [], ◌∷◌, ℕ, suc, ◌+◌, ◌*◌, ◌/◌, ◌%◌, ◌≡◌, ◌≤◌, ◌<◌, ltb, eqb, pos, length, get_or, replicate}
 use Rattle.integers.specs.Integers.{pick}
 use Rattle.definitions.specs.Vocabulary.{Framebuffer, PixelFormat, Bytes, Packed}
 use Rattle.definitions.specs.Refusals.{Cause}
@@ -58,6 +58,13 @@ byte_at p column row = row / per_byte p.format * p.width + column
 
 abbrev pub pixel_at : Framebuffer → List ℕ → ℕ → ℕ → ℕ
 pixel_at p buffer column row = in_byte p.format (row % per_byte p.format) (get_or buffer (byte_at p column row) 0)
+
+-- The same pixels one in a byte, rows from the top.
+abbrev pub in_bytes : Framebuffer → Framebuffer
+in_bytes p = sized Bytes p.width p.height
+
+abbrev pub unpacked : Framebuffer → List ℕ → List ℕ
+unpacked p buffer = map_at (λ i none. pixel_at p buffer (i % p.width) (i / p.width)) 0 (replicate (p.height * p.width) 0)
 
 -- ---- cause 3
 

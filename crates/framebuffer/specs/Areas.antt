@@ -1,16 +1,10 @@
--- The framebuffer, the part of a rectangle that it shows, and a box filled with one colour.
-use Rattle.std.specs.Prelude.{◌≡◌, ℕ, ◌-◌, ◌*◌, ◌≤◌, ◌<◌, ltb, ℤ, pos, nat_abs}
+-- The part of a rectangle that the framebuffer shows, and a box filled with one colour.
+use Rattle.std.specs.Prelude.{ℕ, ◌+◌, ◌-◌, ◌≤◌, ltb, ℤ, pos, nat_abs}
 use Rattle.std.specs.Int.Signed.{lt_z}
 use Rattle.integers.specs.Integers.{pick}
-use Rattle.definitions.specs.Vocabulary.{BoundingBox, None, Some, Rectangle}
+use Rattle.definitions.specs.Vocabulary.{BoundingBox, None, Some, Rectangle, Framebuffer}
 use Rattle.definitions.specs.Picture.{keep, put, Picture, covers}
-
--- A framebuffer of so many bytes whose size is within limits, or which has no rows.
-pub record BufferFits (bytes width height : ℕ) : Type 0 where
-  pub some : 1 ≤ width
-  pub wide : width ≤ 256
-  pub high : height ≤ 256
-  pub area : bytes ≡ width * height
+use Rattle.definitions.specs.Framebuffer.{BufferFits}
 
 -- the nearest number from 0 to the limit
 unfoldable pub clamped : ℤ → ℕ → ℕ
@@ -20,15 +14,13 @@ clamped x limit = pick (lt_z x (pos 0)) 0 (pick (ltb limit (nat_abs x)) limit (n
 abbrev pub area : (left right top bottom : ℕ) → Rectangle
 area left right top bottom = record { top_left = record { x = pos left; y = pos top }; size = record { width = right - left; height = bottom - top } }
 
--- Such an area lies on the framebuffer.
-pub record AreaFits (bytes width left right top bottom : ℕ) : Type 0 where
-  pub some : 0 < width
-  pub wide : width ≤ 256
-  pub small : bytes ≤ 65536
+-- Such an area lies on the framebuffer, whose buffer has so many bytes.
+pub record AreaFits (bytes : ℕ) (p : Framebuffer) (left right top bottom : ℕ) : Type 0 where
+  pub fits : BufferFits bytes p
   pub columns : left ≤ right
-  pub within : right ≤ width
+  pub within : right ≤ p.width
   pub rows : top ≤ bottom
-  pub below : bottom * width ≤ bytes
+  pub below : bottom ≤ p.height
 
 -- a box full of one colour
 abbrev pub fill_picture : ℕ → BoundingBox → Picture

@@ -2,9 +2,11 @@
 ghost use Rattle.std.specs.Prelude.{◌≡◌, pos, ◌+ℤ◌, length};
 ghost use Rattle.definitions.specs.Vocabulary.{Some};
 ghost use Rattle.definitions.specs.Framebuffer.{shown};
-ghost use Rattle.framebuffer.specs.Areas.{BufferFits, clamped, area, AreaFits, fill_picture};
+ghost use Rattle.definitions.specs.Framebuffer.{BufferFits};
+ghost use Rattle.framebuffer.specs.Areas.{clamped, area, AreaFits, fill_picture};
 
 use crate::clamp;
+use crate::line::{Line, fill_columns};
 use std::ops::Range;
 use types::framebuffer::Framebuffer;
 use types::geometry::{Point, Rectangle, Size};
@@ -27,21 +29,28 @@ fn fill_rows(
     framebuffer: Framebuffer,
     buffer: &mut [u8],
 )
-    requires { AreaFits (length buffer.old) framebuffer.width columns.start columns.end rows.start rows.end }
-    ensures { buffer.new ≡ shown framebuffer.width (fill_picture color
+    requires { AreaFits (length buffer.old) framebuffer columns.start columns.end rows.start rows.end }
+    ensures { buffer.new ≡ shown framebuffer (fill_picture color
         (Some (area columns.start columns.end rows.start rows.end))) buffer.old }
 {
     for row in rows {
-        let start = row * framebuffer.width + columns.start;
-        let end = start + (columns.end - columns.start);
-        buffer[start..end].fill(color);
+        let line = Line::new(framebuffer, row, columns.start, columns.end - columns.start);
+        fill_columns(
+            columns.start,
+            columns.start,
+            columns.end,
+            color,
+            framebuffer,
+            line,
+            &mut buffer[..],
+        );
     }
 }
 
 // Fills a rectangle. What lies off the framebuffer is dropped.
 fn fill_rectangle(rectangle: Rectangle, color: u8, framebuffer: Framebuffer, buffer: &mut [u8])
-    requires { BufferFits (length buffer.old) framebuffer.width framebuffer.height }
-    ensures { buffer.new ≡ shown framebuffer.width (fill_picture color (Some rectangle))
+    requires { BufferFits (length buffer.old) framebuffer }
+    ensures { buffer.new ≡ shown framebuffer (fill_picture color (Some rectangle))
         buffer.old }
 {
     let Point { x, y } = rectangle.top_left;
@@ -57,8 +66,8 @@ pub fn fill_box(
     framebuffer: Framebuffer,
     buffer: &mut [u8],
 )
-    requires { BufferFits (length buffer.old) framebuffer.width framebuffer.height }
-    ensures { buffer.new ≡ shown framebuffer.width (fill_picture color bounding_box)
+    requires { BufferFits (length buffer.old) framebuffer }
+    ensures { buffer.new ≡ shown framebuffer (fill_picture color bounding_box)
         buffer.old }
 {
     if let Some(rectangle) = bounding_box {
