@@ -15,3 +15,8 @@ pub record Filled (format : PixelFormat) (pixel first from to value : ℕ) (befo
   pub inside : (i : ℕ) → i < length before → from ≤ first + i → first + i < to
       → get_or after i 0 ≡ paint_byte format (only pixel (put value)) (get_or before i 0)
   pub outside : (i : ℕ) → (from ≤ first + i → first + i < to → ⊥) → get_or after i 0 ≡ get_or before i 0
+
+-- Every byte of the part has it.
+pub record AllFilled (format : PixelFormat) (pixel value : ℕ) (before after : List ℕ) : Type 0 where
+  pub long : length after ≡ length before
+  pub all : (i : ℕ) → i < length before → get_or after i 0 ≡ paint_byte format (only pixel (put value)) (get_or before i 0)

@@ -7,7 +7,7 @@ ghost use Rattle.std.specs.Prelude.{◌≡◌, ◌<◌};
 ghost use Rattle.definitions.specs.Vocabulary.{Bytes, Packed};
 ghost use Rattle.definitions.specs.Picture.{put};
 ghost use Rattle.definitions.specs.Framebuffer.{paint_byte};
-ghost use Rattle.framebuffer.specs.Columns.{only, Filled};
+ghost use Rattle.framebuffer.specs.Columns.{only, Filled, AllFilled};
 
 pub fn fill_bytes(first: usize, from: usize, to: usize, value: u8, part: &mut [u8])
     ensures { Filled Bytes 0 first from to value part.old part.new }
@@ -56,5 +56,15 @@ pub fn fill_bits(
             }
             part[i] = set_pixel(part[i], pixel, value);
         }
+    }
+}
+
+// Fills every column of the part. (The bytes of the other format have the slice method `fill`.)
+pub fn fill_all_bits(value: u8, pixel: usize, part: &mut [u8])
+    requires { pixel < 8 }
+    ensures { AllFilled Packed pixel value part.old part.new }
+{
+    for i in 0..part.len() {
+        part[i] = set_pixel(part[i], pixel, value);
     }
 }
