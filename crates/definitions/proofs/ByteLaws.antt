@@ -86,11 +86,14 @@ over_over : (p q : Paint) (old : ℕ) → over p (over q old) ≡ over (above p 
 over_over keep q old = refl
 over_over (put c) q old = refl
 
-pub over_keep : (f : PixelFormat) (x : ℕ) → over (stored f keep) x ≡ x
-over_keep Bytes x = refl
-over_keep Packed x = refl
+pub keep_stored : (f : PixelFormat) → stored f keep ≡ keep
+keep_stored Bytes = refl
+keep_stored Packed = refl
 
-stored_above : (f : PixelFormat) (p q : Paint) → stored f (above p q) ≡ above (stored f p) (stored f q)
+pub over_keep : (f : PixelFormat) (x : ℕ) → over (stored f keep) x ≡ x
+over_keep f x = ap (λ (p : Paint). over p x) (keep_stored f)
+
+pub stored_above : (f : PixelFormat) (p q : Paint) → stored f (above p q) ≡ above (stored f p) (stored f q)
 stored_above Bytes p q = refl
 stored_above Packed keep q = refl
 stored_above Packed (put c) q = refl

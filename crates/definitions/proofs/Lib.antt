@@ -27,3 +27,4 @@ pub mod AlignedLaws
 pub mod LineLaws
 pub mod FirstRuleLaws
 pub mod PaddedLaws
+pub mod UnpackLaws

@@ -19,5 +19,6 @@ pub mod Limits
 pub mod Calls
 pub mod Sums
 pub mod Agreement
+pub mod Unpacking
 pub mod FontT
 pub mod Cases
