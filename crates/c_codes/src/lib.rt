@@ -2,8 +2,9 @@
 #![tactic(auto)]
 
 ghost use Rattle.std.specs.Prelude.{◌≡◌, ◌≤◌, OnSome};
-ghost use Rattle.c_codes.specs.Codes.{anchor_of, alignment_of, flag_of, meaning_of, placed_by, style_of};
+ghost use Rattle.c_codes.specs.Codes.{anchor_of, alignment_of, flag_of, format_of, meaning_of, placed_by, style_of, framebuffer_of};
 
+use types::framebuffer::{Framebuffer, PixelFormat};
 use types::geometry::Point;
 use types::style::{FontColor, FontStyle, HorizontalAlignment, Placement, VerticalPosition};
 
@@ -14,6 +15,7 @@ pub struct Meaning {
     pub skip: bool,
     // whether the call's `bg` counts: a flag beside its colours, since the C interface has them so
     pub background: bool,
+    pub format: PixelFormat,
 }
 
 impl Meaning {
@@ -40,6 +42,17 @@ impl Meaning {
         FontStyle {
             color,
             vertical_pos: self.vertical_pos,
+        }
+    }
+
+    // What is drawn on.
+    pub fn framebuffer(self, width: usize, height: usize) -> Framebuffer
+        ensures { result ≡ framebuffer_of self width height }
+    {
+        Framebuffer {
+            format: self.format,
+            width,
+            height,
         }
     }
 }
@@ -80,6 +93,17 @@ pub fn known_flag(code: u32) -> Option<bool>
     }
 }
 
+#[tactic(auto, unfolding(crate::specs::Codes::format_of))]
+pub fn known_format(code: u32) -> Option<PixelFormat>
+    ensures { result ≡ format_of code }
+{
+    match code {
+        0 => Some(PixelFormat::Bytes),
+        1 => Some(PixelFormat::Packed),
+        _ => None,
+    }
+}
+
 // A call hands 0 for a code that it does not have, and the length of what it stores its answer in. The kinds are numbers here
 // because the C interface needs it: a call has its codes one by one.
 #[tactic(auto, unfolding(crate::specs::Codes::meaning_of))]
@@ -88,15 +112,17 @@ pub fn known_codes(
     align: u32,
     skip: u32,
     background: u32,
+    format: u32,
     room: usize,
 ) -> Option<Meaning>
-    ensures means { result ≡ meaning_of anchor align skip background room }
+    ensures means { result ≡ meaning_of anchor align skip background format room }
     ensures has_room { OnSome result (10 ≤ room) }
 {
     let vertical_pos = known_anchor(anchor)?;
     let horizontal_align = known_alignment(align)?;
     let skip = known_flag(skip)?;
     let background = known_flag(background)?;
+    let format = known_format(format)?;
     if room < 10 {
         return None;
     }
@@ -105,5 +131,6 @@ pub fn known_codes(
         horizontal_align,
         skip,
         background,
+        format,
     })
 }
