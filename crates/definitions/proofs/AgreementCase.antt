@@ -1,7 +1,7 @@
 -- Agreement is not empty: its hypotheses hold for "-4" drawn with font T on 8 × 8 pixels and with five bytes added to T
 -- on 9 × 12, the contents differing from the seventh row on. The 4 lies off the first framebuffer and half off the second.
 use Rattle.integers.proofs.Prelude.{◌≡◌, refl, false, List, [], ◌∷◌, ◌++◌, ℕ, arith, pos, replicate}
-use Rattle.definitions.specs.Vocabulary.{BoundingBox, Bytes, Some, RenderedDimensions, Transparent}
+use Rattle.definitions.specs.Vocabulary.{BoundingBox, Bytes, Packed, Some, RenderedDimensions, Transparent}
 use Rattle.types.specs.declared.style.HorizontalAlignment.TheVariants.{Center}
 use Rattle.types.specs.declared.style.VerticalPosition.TheVariants.{Baseline}
 use Rattle.integers.specs.Integers.{signed8}
@@ -89,3 +89,34 @@ centered_changes = refl
 
 pub centered_claimed : Agree aligned_box small large (aligned_results (u8g2 T) (u8g2 (T ++ added)) centered (Transparent 1) small large) centered_box
 centered_claimed = aligned_agreement T (T ++ added) centered (Transparent 1) small large centered_supposed centered_box centered_succeeds
+
+-- ---- the same text on packed framebuffers
+
+abbrev small_packed : Ground
+small_packed = on (sized Packed 8 8) (replicate 8 0)
+
+abbrev large_packed : Ground
+large_packed = on (sized Packed 9 16) (replicate 9 0 ++ replicate 9 255)
+
+pub packed_supposed : TwoDrawings T (T ++ added) centered small_packed large_packed
+unfolding T header header_off signed8 table row_of first_character decode_from
+packed_supposed =
+    record { first_within = refl; second_within = refl; no_skips = refl; more = added; longer = refl; same_format = refl; as_wide = omega arith; as_high = omega arith }
+
+pub packed_succeeds : draw_aligned (u8g2 T) centered (Transparent 1) small_packed.framebuffer small_packed.before ≡ success centered_box
+unfolding T header header_off signed8 glyph fields search record8 chain read_at bits low_bits number
+    table row_of first_character decode_from newlines join_all letters lines line_by_line after_pair runs glyph_pixels draw_aligned
+packed_succeeds = refl
+
+pub packed_changes :
+    (pixel small_packed (after (u8g2 T) centered (Transparent 1) small_packed) 4 0
+    ∷ pixel large_packed (after (u8g2 (T ++ added)) centered (Transparent 1) large_packed) 4 5
+    ∷ [])
+    ≡ 1 ∷ 1 ∷ []
+unfolding T header header_off signed8 glyph fields search record8 chain read_at bits low_bits number
+    table row_of first_character decode_from newlines join_all letters lines line_by_line after_pair runs glyph_pixels text_picture map_at draw_buffer
+packed_changes = refl
+
+pub packed_claimed : Agree aligned_box small_packed large_packed
+    (aligned_results (u8g2 T) (u8g2 (T ++ added)) centered (Transparent 1) small_packed large_packed) centered_box
+packed_claimed = aligned_agreement T (T ++ added) centered (Transparent 1) small_packed large_packed packed_supposed centered_box packed_succeeds

@@ -1,7 +1,7 @@
 -- The worked cases of SPECIFICATION, Font T (marked *), and cases of what no law speaks of: the header's bytes, both inks,
 -- skipping. One table of what the definitions give and what follows from the rules, and one theorem, which computes them all.
 use Rattle.std.specs.Prelude.{◌≡◌, refl, Bool, true, false, List, [], ◌∷◌, ◌++◌, map, ℕ, ◌+◌, ◌*◌, ℤ, pos, neg_ℤ, take, set, replicate}
-use Rattle.definitions.specs.Vocabulary.{FontReader, Framebuffer, Bytes, BoundingBox, None, Some, Rectangle, RenderedDimensions, GlyphReader, LookupSteps}
+use Rattle.definitions.specs.Vocabulary.{FontReader, Framebuffer, PixelFormat, Packed, Bytes, BoundingBox, None, Some, Rectangle, RenderedDimensions, GlyphReader, LookupSteps}
 use Rattle.definitions.specs.Vocabulary.{FontColor, Transparent, WithBackground, HorizontalAlignment}
 use Rattle.types.specs.declared.style.HorizontalAlignment.TheVariants.{Left as Alignment-as-Left, Center as Alignment-as-Center, Right as Alignment-as-Right}
 use Rattle.types.specs.declared.style.VerticalPosition.TheVariants.{Baseline, Top, Center, Bottom}
@@ -16,7 +16,7 @@ use Rattle.definitions.specs.Utf8.{table, row_of, first_character, decode_from, 
 use Rattle.definitions.specs.Text.{point, join_all, letters, lines, line_by_line}
 use Rattle.definitions.specs.Runs.{after_pair, runs, glyph_pixels}
 use Rattle.definitions.specs.Picture.{text_picture}
-use Rattle.definitions.specs.Framebuffer.{map_at}
+use Rattle.definitions.specs.Framebuffer.{map_at, sized}
 use Rattle.definitions.specs.Font.{u8g2}
 use Rattle.definitions.specs.Calls.{Request, placed, request, plain, open_font, font_bounding_box, measure, measure_aligned, draw, draw_buffer, draw_aligned}
 use Rattle.definitions.specs.Sums.{total, up_to, sums}
@@ -67,6 +67,13 @@ drawn_with color skip font text =
 abbrev drawn_at : List ℕ → List ℕ → Result
 drawn_at = drawn_with (Transparent 1) false
 
+-- .. and drawn at (0, 8) on 8 columns of so many rows, by the format (request A4)
+abbrev drawn_by : PixelFormat → ℕ → FontColor → List ℕ → List ℕ → List ℕ → Result
+drawn_by format height color font text before =
+    let r = plain text (placed (point (pos 0) (pos 8)) 4 false) Baseline in
+    let p = sized format 8 height in
+    drawn (draw (u8g2 font) r color p before) (draw_buffer (u8g2 font) r color p before)
+
 -- .. and what a call comes to, with the sums that go with that
 abbrev summed_by : (Request → Outcome RenderedDimensions) → Bool → List ℕ → List ℕ → Result
 summed_by call skip font text =
@@ -88,6 +95,10 @@ steps r e = record { records = r; entries = e }
 
 abbrev dims : ℤ → ℤ → BoundingBox → Outcome RenderedDimensions
 dims x y b = success record { advance = point x y; bounding_box = b }
+
+-- "-4" at (0, 8)
+abbrev minus_four_at_8 : Outcome RenderedDimensions
+minus_four_at_8 = dims (pos 6) (pos 0) (Some (rectangle (pos 0) (pos 5) 5 3))
 
 -- the 15 × 24 pixels with a colour where column and row are listed ..
 abbrev colored : ℕ → List (ℕ × ℕ) → List ℕ → List ℕ
@@ -283,6 +294,23 @@ cases =
     ∷ record {
       given = aligned_on Alignment-as-Center T (45 ∷ 52 ∷ replicate 6 0);
       expected = drawn_aligned (refused 7 0) (steps 5 0) (inked []);
+    }
+    -- "-4" on packed framebuffers (request A4): on ground of 0, and in the colour 0 on ground of 1
+    ∷ record {
+      given = drawn_by Packed 8 (Transparent 1) T (45 ∷ 52 ∷ []) (replicate 8 0);
+      expected = drawn minus_four_at_8 (32 ∷ 32 ∷ 0 ∷ 192 ∷ 128 ∷ 0 ∷ 0 ∷ 0 ∷ []);
+    }
+    ∷ record {
+      given = drawn_by Packed 8 (Transparent 0) T (45 ∷ 52 ∷ []) (replicate 8 255);
+      expected = drawn minus_four_at_8 (223 ∷ 223 ∷ 255 ∷ 63 ∷ 127 ∷ 255 ∷ 255 ∷ 255 ∷ []);
+    }
+    -- .. a colour that is no bit: 9, before the font's 6, which the byte framebuffer gives; a height of 12 rows: 3, and none there
+    ∷ record { given = drawn_by Packed 8 (WithBackground 2 0) T (45 ∷ []) (replicate 8 0); expected = drawn (refused 9 0) (replicate 8 0) }
+    ∷ record { given = drawn_by Bytes 8 (WithBackground 2 0) T (45 ∷ []) (replicate 64 0); expected = drawn (refused 6 0) (replicate 64 0) }
+    ∷ record { given = drawn_by Packed 12 (Transparent 1) T [] (replicate 8 0); expected = drawn (refused 3 0) (replicate 8 0) }
+    ∷ record {
+      given = drawn_by Bytes 12 (Transparent 1) T [] (replicate 96 0);
+      expected = drawn (dims (pos 0) (pos 0) None) (replicate 96 0);
     }
     -- * the first 33 bytes of T: "4" is drawn, "A" is 8
     ∷ record { given = drawn_at (take 33 T) (52 ∷ []); expected = drawn four (inked four_pixels) }
