@@ -1,4 +1,4 @@
 pub mod RowLaws
-pub mod PartLaws
 pub mod ClampLaws
 pub mod FillLaws
+pub mod PartLaws

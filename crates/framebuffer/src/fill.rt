@@ -1,12 +1,11 @@
 // Filling a box of the framebuffer with one colour.
 ghost use Rattle.std.specs.Prelude.{◌≡◌, pos, ◌+ℤ◌, length};
 ghost use Rattle.definitions.specs.Vocabulary.{Some};
-ghost use Rattle.definitions.specs.Framebuffer.{shown};
-ghost use Rattle.definitions.specs.Framebuffer.{BufferFits};
+ghost use Rattle.definitions.specs.Framebuffer.{shown, BufferFits};
 ghost use Rattle.framebuffer.specs.Areas.{clamped, area, AreaFits, fill_picture};
 
 use crate::clamp;
-use crate::line::{Line, fill_columns};
+use crate::line::{Line, fill_line};
 use std::ops::Range;
 use types::framebuffer::Framebuffer;
 use types::geometry::{Point, Rectangle, Size};
@@ -35,15 +34,7 @@ fn fill_rows(
 {
     for row in rows {
         let line = Line::new(framebuffer, row, columns.start, columns.end - columns.start);
-        fill_columns(
-            columns.start,
-            columns.start,
-            columns.end,
-            color,
-            framebuffer,
-            line,
-            &mut buffer[..],
-        );
+        fill_line(color, framebuffer, line, &mut buffer[..]);
     }
 }
 

@@ -1,11 +1,11 @@
-// The visible part of a row, and a stretch of it filled.
+// The visible part of a row, filled, or a stretch of it.
 ghost use Rattle.std.specs.Prelude.{◌≡◌, ◌/◌, ◌%◌, length};
 ghost use Rattle.definitions.specs.Vocabulary.{Some};
 ghost use Rattle.definitions.specs.Framebuffer.{per_byte, shown};
 ghost use Rattle.framebuffer.specs.Areas.{fill_picture};
-ghost use Rattle.framebuffer.specs.Lines.{RowFits, line_at, LineFits, stretch};
+ghost use Rattle.framebuffer.specs.Lines.{RowFits, line_at, LineFits, line_area, stretch};
 
-use crate::row_writers::{fill_bits, fill_bytes};
+use crate::row_writers::{fill_all_bits, fill_bits, fill_bytes};
 use types::framebuffer::{Framebuffer, PixelFormat};
 
 // So many columns of a row, from `left` on. The byte `start` holds the first of them, each byte from there on the next, as its
@@ -63,5 +63,17 @@ pub fn fill_columns(
     match framebuffer.format {
         PixelFormat::Bytes => fill_bytes(first, from, to, value, part),
         PixelFormat::Packed => fill_bits(first, from, to, value, line.pixel, part),
+    }
+}
+
+// Fills all of the line.
+pub fn fill_line(value: u8, framebuffer: Framebuffer, line: Line, buffer: &mut [u8])
+    requires { LineFits (length buffer.old) framebuffer line }
+    ensures { buffer.new ≡ shown framebuffer (fill_picture value (Some (line_area line))) buffer.old }
+{
+    let part = &mut buffer[line.start..line.start + line.columns];
+    match framebuffer.format {
+        PixelFormat::Bytes => part.fill(value),
+        PixelFormat::Packed => fill_all_bits(value, line.pixel, part),
     }
 }

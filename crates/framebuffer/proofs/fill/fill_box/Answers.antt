@@ -9,4 +9,4 @@ use Rattle.framebuffer.proofs.fill.fill_box.Goals as goal
 pub returns-in_default : goal.returns-in_default
 returns-in_default c =
     let a = c.args in
-    sym (ap (λ (b : BoundingBox). shown a.framebuffer.width (fill_picture a.color b) a.buffer.now) c.in_default.is ∙ shown_blank a.framebuffer.width a.buffer.now)
+    sym (ap (λ (b : BoundingBox). shown a.framebuffer (fill_picture a.color b) a.buffer.now) c.in_default.is ∙ shown_blank a.framebuffer a.buffer.now)
