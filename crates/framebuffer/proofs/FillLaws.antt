@@ -1,5 +1,5 @@
 -- A filled rectangle, row by row, and cut to the framebuffer. Assumes nothing.
-use Rattle.integers.proofs.Prelude.{◌≡◌, sym, ap, ◌∙◌, Bool, true, false, List, ℕ, ◌+◌, ◌-◌, ◌≤◌, ◌<◌, dec_lt, arith, ℤ, pos, length}
+use Rattle.integers.proofs.Prelude.{◌≡◌, refl, sym, ap, ◌∙◌, Bool, true, false, List, ℕ, ◌+◌, ◌-◌, ◌≤◌, ◌<◌, dec_lt, arith, ℤ, pos, length}
 use Rattle.integers.specs.Integers.{pick}
 use Rattle.integers.proofs.Laws.{zarith, plus}
 use Rattle.definitions.specs.Vocabulary.{Some, Rectangle, Framebuffer}
@@ -39,14 +39,14 @@ module _ (color : ℕ) (p q : Rectangle) (column row : ℤ) where
 
 -- One filled after another is the two together.
 module _ (color : ℕ) (later earlier both : Rectangle) (column row : ℤ) where
+  abbrev on : Paint → Paint
+  on x = above x (fill_picture color (Some earlier) column row)
+
   pub fill_onto : (Inside column row later → Inside column row both) → (Inside column row earlier → Inside column row both)
       → (Inside column row both → (Inside column row later → ⊥) → Inside column row earlier)
       → onto (fill_picture color (Some later)) (fill_picture color (Some earlier)) column row ≡ fill_picture color (Some both) column row
   fill_onto from_later from_earlier to_earlier = by (covers later column row) refl
     where
-      abbrev on : Paint → Paint
-      on x = above x (fill_picture color (Some earlier) column row)
-
       by : (t : Bool) → covers later column row ≡ t → on (fill_picture color (Some later) column row) ≡ fill_picture color (Some both) column row
       by true e =
           let i = covers_inside column row later e in
@@ -57,7 +57,7 @@ module _ (color : ℕ) (later earlier both : Rectangle) (column row : ℤ) where
 
 -- ---- row by row
 
-module _ {p : Framebuffer} (some : 0 < p.width) (color left right top : ℕ) (buffer : List ℕ) where
+module _ (p : Framebuffer) (some : 0 < p.width) (color left right top : ℕ) (buffer : List ℕ) where
   -- the framebuffer with the rows before y filled
   abbrev pub filled_to : ℕ → List ℕ
   filled_to y = shown p (fill_picture color (Some (area left right top y))) buffer

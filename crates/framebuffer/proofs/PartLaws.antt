@@ -1,11 +1,11 @@
 -- A line of the framebuffer that was lent and came back filled. Assumes nothing.
 use Rattle.integers.proofs.Prelude.{◌≡◌, refl, sym, ap, subst, ◌∙◌, Bool, true, false, List, ◌++◌, ℕ, ◌+◌, ◌-◌, ◌*◌, ◌/◌, ◌%◌, ◌≤◌, ◌<◌, min, div-add-mod', dec_lt, arith, eqb}
 use Rattle.integers.proofs.Prelude.{pos, length, get_or, take, drop, length-drop, list_get_or_append, list_get_or_eq_default, length-take-le, get_or-append-add}
-use Rattle.integers.proofs.Prelude.{get_or-take, get_or-drop, ext_get_or, eqb-true, eqb-false}
+use Rattle.integers.proofs.Prelude.{get_or-take, get_or-drop, ext_get_or, eqb-true, eqb-false, replicate, length-replicate, get_or-replicate}
 use borrow.Rule.Slice.PartMut.{mid_of, put_mid, same_len_mid}
 use Rattle.integers.specs.Integers.{pick}
 use Rattle.integers.proofs.Laws.{zarith}
-use Rattle.definitions.specs.Vocabulary.{Some, Rectangle, Framebuffer, PixelFormat}
+use Rattle.definitions.specs.Vocabulary.{Some, Rectangle, Framebuffer, PixelFormat, Bytes, Packed}
 use Rattle.definitions.specs.Geometry.{Inside}
 use Rattle.definitions.specs.Picture.{Paint, keep, put, Picture}
 use Rattle.definitions.specs.Framebuffer.{over, per_byte, stored, in_byte, paint_byte, paints, shown, byte_at}
@@ -57,6 +57,18 @@ line_within {bytes} {p} {line} f =
     let some : 0 < p.width = f.fits.some in
     omega (arith, on_buffer f.fits (p.width - 1) line.row (omega arith) f.below, f.right, f.start)
 
+-- Which pixel of a byte it has, by the format.
+module _ {bytes : ℕ} {p : Framebuffer} {line : Line} (f : LineFits bytes p line) where
+  pub pixel_of_bytes : p.format ≡ Bytes → line.pixel ≡ 0
+  pixel_of_bytes e =
+      let one : line.pixel ≡ line.row % 1 = f.pixel ∙ ap (λ (format : PixelFormat). line.row % per_byte format) e in
+      omega arith
+
+  pub pixel_of_packed : p.format ≡ Packed → line.pixel < 8
+  pixel_of_packed e =
+      let eight : line.pixel ≡ line.row % 8 = f.pixel ∙ ap (λ (format : PixelFormat). line.row % per_byte format) e in
+      omega arith
+
 -- The line's part came back with the columns from `from` to before `to` filled: the buffer is that with the picture of these
 -- columns drawn on it. Both are compared byte by byte.
 module _ {p : Framebuffer} {line : Line} {first from to value : ℕ} {new : List ℕ} (old : List ℕ) (f : LineFits (length old) p line)
@@ -97,7 +109,7 @@ module _ {p : Framebuffer} {line : Line} {first from to value : ℕ} {new : List
       let b = hit.1 in
       let e : line.start + c ≡ byte_at p (line.left + c) line.row = omega (arith, f.start) in
       ap (λ (i : ℕ). paints p picture i k) e
-      ∙ paints_at p picture (line.left + c) line.row k (omega (arith, f.right))
+      ∙ paints_at p picture old (line.left + c) line.row k (omega (arith, f.right))
       ∙ by (eqb k line.pixel) refl
     where
       by : (t : Bool) → eqb k line.pixel ≡ t → picture (pos (line.left + c)) (pos (line.row / n * n + k)) ≡ pick t (put value) keep
@@ -172,7 +184,17 @@ all_filled : {format : PixelFormat} {pixel value : ℕ} {before after : List ℕ
 all_filled {before = before} {after = after} h = record {
   long = h.long;
   inside = λ i l a b. h.all i l;
-  outside = λ i out. list_get_or_eq_default after i 0 (omega (arith, h.long)) ∙ sym (list_get_or_eq_default before i 0 (omega arith));
+  outside = λ i out. past i (λ l. out (omega arith) (omega arith));
+}
+  where
+    past : (i : ℕ) → (i < length before → ⊥) → get_or after i 0 ≡ get_or before i 0
+    past i out = list_get_or_eq_default after 0 {n = i} (omega (arith, h.long)) ∙ sym (list_get_or_eq_default before 0 {n = i} (omega arith))
+
+-- The slice method fills a part of bytes so.
+pub bytes_filled : {value : ℕ} {before after : List ℕ} → after ≡ replicate (length before) value → AllFilled Bytes 0 value before after
+bytes_filled {value} {before} {after} e = record {
+  long = ap length e ∙ length-replicate (length before) value;
+  all = λ i l. ap (λ (l : List ℕ). get_or l i 0) e ∙ get_or-replicate (length before) i value 0 l;
 }
 
 module _ {p : Framebuffer} {line : Line} {value : ℕ} {new : List ℕ} (old : List ℕ) (f : LineFits (length old) p line) where

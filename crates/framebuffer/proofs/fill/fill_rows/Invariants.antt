@@ -8,5 +8,5 @@ invariant-loop-row l = record {
   end : l.row-iterator.end ≡ l.fn.rows.end;
   begun : l.fn.rows.start ≤ l.row-iterator.start;
   within : l.row-iterator.start ≤ l.fn.rows.end;
-  filled : (some : 0 < l.framebuffer.width) → l.buffer ≡ filled_to some l.color l.columns.start l.columns.end l.fn.rows.start l.initial.buffer l.row-iterator.start;
+  filled : (some : 0 < l.framebuffer.width) → l.buffer ≡ filled_to l.framebuffer some l.color l.columns.start l.columns.end l.fn.rows.start l.initial.buffer l.row-iterator.start;
 }
