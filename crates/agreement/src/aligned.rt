@@ -4,9 +4,12 @@ ghost use Rattle.definitions.specs.Font.{u8g2};
 ghost use Rattle.definitions.specs.Calls.{request, draw_aligned, measure_aligned};
 ghost use Rattle.definitions.specs.Agreement.{on, aligned_results, aligned_box, MeasuredAsDrawn};
 ghost use Rattle.definitions.proofs.AlignedLaws.{aligned_agreement};
+ghost use Rattle.definitions.proofs.UnpackLaws.{aligned_drawn_alike};
 ghost use Rattle.agreement.specs.Calls.{as_results};
+ghost use Rattle.agreement.specs.Formats.{as_both, both_by, BothAlike};
 
 use crate::calls::Calls;
+use crate::formats::{InBoth, draw_in_both_formats_by};
 use crate::twice::{Answers, draw_twice_and_measure_by};
 use measuring::rendered_dimensions_aligned::get_rendered_dimensions_aligned;
 use renderer::render_aligned::render_aligned;
@@ -33,6 +36,8 @@ impl Calls for Aligned {
     ghost measures = { measure_aligned };
 
     ghost agrees = { aligned_agreement };
+
+    ghost unpacks = { aligned_drawn_alike };
 
     fn draw(
         &self,
@@ -98,5 +103,33 @@ pub fn draw_aligned_twice_and_measure(
         first_buffer,
         second_framebuffer,
         second_buffer,
+    )
+}
+
+// Draws one text, aligned, on a framebuffer and on one of as many pixels in bytes.
+pub fn draw_aligned_in_both_formats(
+    font: &[u8],
+    text: &[u8],
+    placement: Placement,
+    style: FontStyle,
+    horizontal_align: HorizontalAlignment,
+    framebuffer: Framebuffer,
+    buffer: &mut [u8],
+    pixels: &mut [u8],
+) -> InBoth<Option<Rectangle>>
+    ensures called { as_both result buffer.new pixels.new ≡ both_by (λ font r color p. draw_aligned font r color p.framebuffer p.before)
+        (u8g2 font.now) (request text.now placement style.vertical_pos horizontal_align) style.color
+        (on framebuffer buffer.old) pixels.old }
+    ensures alike { BothAlike style.color (on framebuffer buffer.old) pixels.old result buffer.new pixels.new }
+{
+    draw_in_both_formats_by(
+        &Aligned { horizontal_align },
+        font,
+        text,
+        placement,
+        style,
+        framebuffer,
+        buffer,
+        pixels,
     )
 }

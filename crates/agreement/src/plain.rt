@@ -5,9 +5,12 @@ ghost use Rattle.definitions.specs.Font.{u8g2};
 ghost use Rattle.definitions.specs.Calls.{plain, measure};
 ghost use Rattle.definitions.specs.Agreement.{drawn, on, results, plain_box, MeasuredAsDrawn};
 ghost use Rattle.definitions.proofs.Agreement.{agreement};
+ghost use Rattle.definitions.proofs.UnpackLaws.{drawn_alike};
 ghost use Rattle.agreement.specs.Calls.{as_results};
+ghost use Rattle.agreement.specs.Formats.{as_both, both_by, BothAlike};
 
 use crate::calls::Calls;
+use crate::formats::{InBoth, draw_in_both_formats_by};
 use crate::twice::{Answers, draw_twice_and_measure_by};
 use measuring::rendered_dimensions::get_rendered_dimensions;
 use renderer::render::render;
@@ -32,6 +35,8 @@ impl Calls for Plain {
     ghost measures = { measure };
 
     ghost agrees = { agreement };
+
+    ghost unpacks = { drawn_alike };
 
     fn draw(
         &self,
@@ -88,5 +93,31 @@ pub fn draw_twice_and_measure(
         first_buffer,
         second_framebuffer,
         second_buffer,
+    )
+}
+
+// Draws one text on a framebuffer and on one of as many pixels in bytes, by plain calls.
+pub fn draw_in_both_formats(
+    font: &[u8],
+    text: &[u8],
+    placement: Placement,
+    style: FontStyle,
+    framebuffer: Framebuffer,
+    buffer: &mut [u8],
+    pixels: &mut [u8],
+) -> InBoth<RenderedDimensions>
+    ensures called { as_both result buffer.new pixels.new ≡ both_by drawn (u8g2 font.now)
+        (plain text.now placement style.vertical_pos) style.color (on framebuffer buffer.old) pixels.old }
+    ensures alike { BothAlike style.color (on framebuffer buffer.old) pixels.old result buffer.new pixels.new }
+{
+    draw_in_both_formats_by(
+        &Plain,
+        font,
+        text,
+        placement,
+        style,
+        framebuffer,
+        buffer,
+        pixels,
     )
 }
