@@ -1,3 +1,4 @@
+pub mod BitWriteLaws
 pub mod RowLaws
 pub mod ClampLaws
 pub mod FillLaws

@@ -25,26 +25,16 @@ pub fn fill_bytes(first: usize, from: usize, to: usize, value: u8, part: &mut [u
 
 // A byte with one of its pixels set: the bit of that number is 0 or 1, as the value is 0 or not.
 #[inline(always)]
+#[tactic(auto, using(crate::proofs::BitWriteLaws::bit_cleared, crate::proofs::BitWriteLaws::bit_set))]
 fn set_pixel(byte: u8, pixel: usize, value: u8) -> u8
     requires { pixel < 8 }
     ensures { result ≡ paint_byte Packed (only pixel (put value)) byte }
 {
     let bit = 1u8 << pixel;
-    if value == 0 {
-        byte & !bit
-    } else {
-        byte | bit
-    }
+    if value == 0 { byte & !bit } else { byte | bit }
 }
 
-pub fn fill_bits(
-    first: usize,
-    from: usize,
-    to: usize,
-    value: u8,
-    pixel: usize,
-    part: &mut [u8],
-)
+pub fn fill_bits(first: usize, from: usize, to: usize, value: u8, pixel: usize, part: &mut [u8])
     requires { pixel < 8 }
     ensures { Filled Packed pixel first from to value part.old part.new }
 {
@@ -64,7 +54,7 @@ pub fn fill_all_bits(value: u8, pixel: usize, part: &mut [u8])
     requires { pixel < 8 }
     ensures { AllFilled Packed pixel value part.old part.new }
 {
-    for i in 0..part.len() {
-        part[i] = set_pixel(part[i], pixel, value);
+    for byte in part.iter_mut() {
+        *byte = set_pixel(*byte, pixel, value);
     }
 }
