@@ -42,7 +42,8 @@ module _ (color : ℕ) (later earlier both : Rectangle) (column row : ℤ) where
   abbrev on : Paint → Paint
   on x = above x (fill_picture color (Some earlier) column row)
 
-  pub fill_onto : (Inside column row later → Inside column row both) → (Inside column row earlier → Inside column row both)
+  pub fill_onto : (Inside column row later → Inside column row both)
+      → (Inside column row earlier → Inside column row both)
       → (Inside column row both → (Inside column row later → ⊥) → Inside column row earlier)
       → onto (fill_picture color (Some later)) (fill_picture color (Some earlier)) column row ≡ fill_picture color (Some both) column row
   fill_onto from_later from_earlier to_earlier = by (covers later column row) refl

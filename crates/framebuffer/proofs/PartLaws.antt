@@ -98,15 +98,13 @@ module _ {p : Framebuffer} {line : Line} {first from to value : ℕ} {new : List
   abbrev Alike : ℕ → Type 0
   Alike i = get_or after i 0 ≡ paint_byte p.format (paints p picture i) (get_or old i 0)
 
-  -- the column c of the line is filled
+  -- The column c of the line is filled:
   abbrev Hit : ℕ → Type 0
   Hit c = (from ≤ first + c) × (first + c < to)
 
-  -- then the picture paints the line's pixel of its byte, and no other ..
+  -- then the picture paints the line's pixel of its byte, and no other;
   painted : (c k : ℕ) → c < line.columns → Hit c → k < n → paints p picture (line.start + c) k ≡ only line.pixel (put value) k
   painted c k l hit m =
-      let a = hit.0 in
-      let b = hit.1 in
       let e : line.start + c ≡ byte_at p (line.left + c) line.row = omega (arith, f.start) in
       ap (λ (i : ℕ). paints p picture i k) e
       ∙ paints_at p picture old (line.left + c) line.row k (omega (arith, f.right))
@@ -125,8 +123,11 @@ module _ {p : Framebuffer} {line : Line} {first from to value : ℕ} {new : List
           let y : line.row / n * n + k ≡ line.row = omega (zarith, i.from_top, i.to_bottom) in
           eqb-false k line.pixel e (omega (arith, f.pixel, div-add-mod' line.row n)))
 
-  -- .. and of the other bytes none.
-  kept : (i k : ℕ) → ((c : ℕ) → i ≡ line.start + c → c < line.columns → Hit c → ⊥) → k < n → paints p picture i k ≡ keep
+  -- and none of a byte that holds no such column.
+  abbrev Other : ℕ → Type 0
+  Other i = (c : ℕ) → i ≡ line.start + c → c < line.columns → Hit c → ⊥
+
+  kept : (i k : ℕ) → Other i → k < n → paints p picture i k ≡ keep
   kept i k out m =
       fill_outside value part (pos (i % p.width)) (pos (i / p.width * n + k))
       (λ s.
@@ -137,7 +138,7 @@ module _ {p : Framebuffer} {line : Line} {first from to value : ℕ} {new : List
       let e : line.row / n * p.width + i % p.width ≡ i = rw band (div-add-mod' i p.width) in
       out (i % p.width - line.left) (omega (arith, f.start)) (omega arith) (omega arith, omega arith))
 
-  as_before : (i : ℕ) → get_or after i 0 ≡ get_or old i 0 → ((c : ℕ) → i ≡ line.start + c → c < line.columns → Hit c → ⊥) → Alike i
+  as_before : (i : ℕ) → get_or after i 0 ≡ get_or old i 0 → Other i → Alike i
   as_before i e out =
       e
       ∙ sym (byte_blank p.format (get_or old i 0))
@@ -148,7 +149,9 @@ module _ {p : Framebuffer} {line : Line} {first from to value : ℕ} {new : List
   in_part_kept : (c : ℕ) → c < line.columns → (Hit c → ⊥) → Alike (line.start + c)
   in_part_kept c l out =
       as_before (line.start + c)
-      (put_in line.start line.columns old new within whole c l ∙ h.outside c (λ a b. out (a, b)) ∙ mid_at line.start line.columns old c l)
+      (put_in line.start line.columns old new within whole c l
+      ∙ h.outside c (λ a b. out (a, b))
+      ∙ mid_at line.start line.columns old c l)
       (λ d e g hit. let same : c ≡ d = omega arith in out (subst Hit (sym same) hit))
 
   in_part : (c : ℕ) → c < line.columns → Dec (first + c < from) → Dec (first + c < to) → Alike (line.start + c)
@@ -168,9 +171,11 @@ module _ {p : Framebuffer} {line : Line} {first from to value : ℕ} {new : List
       let c = i - line.start in
       let e : line.start + c ≡ i = omega arith in
       subst Alike e (in_part c (omega arith) (dec_lt (first + c) from) (dec_lt (first + c) to))
-  each i l (no a) (no b) = as_before i (put_after line.start line.columns old new within whole i (omega arith)) (λ c e g hit. omega arith)
+  each i l (no a) (no b) =
+      as_before i (put_after line.start line.columns old new within whole i (omega arith)) (λ c e g hit. omega arith)
 
-  pub part_filled : put_mid line.start line.columns old new ≡ shown p (fill_picture value (Some (stretch first from to line))) old
+  pub part_filled : put_mid line.start line.columns old new
+      ≡ shown p (fill_picture value (Some (stretch first from to line))) old
   part_filled =
       let size : length after ≡ length old = same_len_mid line.start line.columns old new h.long in
       ext_get_or 0 after (shown p picture old) (size ∙ sym (length_shown p picture old))
@@ -188,10 +193,13 @@ all_filled {before = before} {after = after} h = record {
 }
   where
     past : (i : ℕ) → (i < length before → ⊥) → get_or after i 0 ≡ get_or before i 0
-    past i out = list_get_or_eq_default after 0 {n = i} (omega (arith, h.long)) ∙ sym (list_get_or_eq_default before 0 {n = i} (omega arith))
+    past i out =
+        list_get_or_eq_default after 0 {n = i} (omega (arith, h.long))
+        ∙ sym (list_get_or_eq_default before 0 {n = i} (omega arith))
 
 -- The slice method fills a part of bytes so.
-pub bytes_filled : {value : ℕ} {before after : List ℕ} → after ≡ replicate (length before) value → AllFilled Bytes 0 value before after
+pub bytes_filled : {value : ℕ} {before after : List ℕ} → after ≡ replicate (length before) value
+    → AllFilled Bytes 0 value before after
 bytes_filled {value} {before} {after} e = record {
   long = ap length e ∙ length-replicate (length before) value;
   all = λ i l. ap (λ (l : List ℕ). get_or l i 0) e ∙ get_or-replicate (length before) i value 0 l;
