@@ -6,7 +6,6 @@ use borrow.Rule.Slice.PartMut.{mid_of, put_mid, same_len_mid}
 use Rattle.integers.specs.Integers.{pick}
 use Rattle.integers.proofs.Laws.{zarith}
 use Rattle.definitions.specs.Vocabulary.{Some, Rectangle, Framebuffer, PixelFormat, Bytes, Packed}
-use Rattle.definitions.specs.Geometry.{Inside}
 use Rattle.definitions.specs.Picture.{Paint, keep, put, Picture}
 use Rattle.definitions.specs.Framebuffer.{over, per_byte, stored, in_byte, paint_byte, paints, shown, byte_at}
 use Rattle.definitions.proofs.ByteLaws.{byte_alike, byte_blank}

@@ -1,5 +1,5 @@
 -- The part of a rectangle that the framebuffer shows, and a box filled with one colour.
-use Rattle.std.specs.Prelude.{ℕ, ◌+◌, ◌-◌, ◌≤◌, ltb, ℤ, pos, nat_abs}
+use Rattle.std.specs.Prelude.{ℕ, ◌-◌, ◌≤◌, ltb, ℤ, pos, nat_abs}
 use Rattle.std.specs.Int.Signed.{lt_z}
 use Rattle.integers.specs.Integers.{pick}
 use Rattle.definitions.specs.Vocabulary.{BoundingBox, None, Some, Rectangle, Framebuffer}

@@ -1,5 +1,5 @@
 -- The visible part of a row, where the buffer holds it, and a stretch of its columns filled.
-use Rattle.std.specs.Prelude.{◌≡◌, List, ℕ, ◌+◌, ◌-◌, ◌%◌, ◌≤◌, ◌<◌, min}
+use Rattle.std.specs.Prelude.{◌≡◌, ℕ, ◌+◌, ◌-◌, ◌%◌, ◌≤◌, ◌<◌, min}
 use Rattle.definitions.specs.Vocabulary.{Rectangle, Framebuffer}
 use Rattle.definitions.specs.Framebuffer.{per_byte, byte_at, BufferFits}
 use Rattle.framebuffer.specs.declared.line.Line.{Line}

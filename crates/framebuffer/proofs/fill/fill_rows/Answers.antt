@@ -1,5 +1,5 @@
 -- `fill_rows` meets its contract: FillLaws has the step to the next row. Assumes nothing.
-use Rattle.integers.proofs.Prelude.{◌≡◌, refl, sym, ◌∙◌, ◌+◌, ◌≤◌, arith}
+use Rattle.integers.proofs.Prelude.{◌≡◌, refl, sym, ◌∙◌, arith}
 use Rattle.framebuffer.proofs.FillLaws.{no_row, next_row}
 use Rattle.framebuffer.proofs.fill.fill_rows.Goals as goal
 
