@@ -1,4 +1,3 @@
 pub mod OriginLaws
 pub mod LimitLaws
-pub mod SizeLaws
 pub mod SetupLaws

@@ -1,9 +1,8 @@
 -- Causes 4 and 5 and the origin of a text: what a call within these limits may count on. Assumes nothing.
-use Rattle.integers.proofs.Prelude.{◌≡◌, refl, sym, ap, ◌∙◌, Bool, true, false, not, List, [], ◌∷◌, ℕ, ◌+◌, ◌*◌, ◌≤◌, mul-le-mul, arith, eqb, ℤ}
-use Rattle.integers.proofs.Prelude.{pos, negsuc, lt_z, ◌≤ℤ◌, length, w8, SFits, ltb-false}
+use Rattle.integers.proofs.Prelude.{◌≡◌, sym, ap, ◌∙◌, Bool, true, false, List, [], ◌∷◌, ℕ, ◌+◌, ◌*◌, ◌≤◌, mul-le-mul, arith, eqb, ℤ}
+use Rattle.integers.proofs.Prelude.{pos, negsuc, lt_z, ◌≤ℤ◌, length, w8, SFits, ltb-false, not-false}
 use Rattle.integers.specs.Integers.{pick}
 use Rattle.integers.proofs.Laws.{zarith, plus}
-use Rattle.integers.proofs.Choices.{impossible}
 use Rattle.definitions.specs.Vocabulary.{FontReader, Point}
 use Rattle.definitions.specs.Refusals.{Outcome, success, any_applies}
 use Rattle.definitions.specs.Header.{Opened}
@@ -34,10 +33,6 @@ pub newlines_most : {n h : ℕ} → n ≤ 4096 → h ≤ 65535 → n * h ≤ 268
 newlines_most p q = mul-le-mul p q
 
 -- ---- neither cause applies
-
-pub not-false : (t : Bool) → not t ≡ false → t ≡ true
-not-false true e = refl
-not-false false e = impossible cc
 
 pub record TextLimits (text : List ℕ) : Type 0 where
   pub short : length text ≤ 4096

@@ -1,10 +1,10 @@
-// The limits of framebuffers, texts, places, line heights and colours: causes 3 to 6 (SPECIFICATION, Refusals).
-ghost use Rattle.std.specs.Prelude.{◌≡◌};
-ghost use Rattle.definitions.specs.Framebuffer.{side_off, framebuffer_cause};
-ghost use Rattle.definitions.specs.Limits.{text_cause, coordinate_off, position_cause, background_off};
+// The limits of framebuffers, texts, places, line heights and colours: causes 3 to 6 and 9 (SPECIFICATION, Refusals).
+ghost use Rattle.std.specs.Prelude.{◌≡◌, ◌<◌};
+ghost use Rattle.definitions.specs.Framebuffer.{per_byte, side_off, framebuffer_cause};
+ghost use Rattle.definitions.specs.Limits.{text_cause, coordinate_off, position_cause, no_bit, color_off, background_off};
 
 use content::text::is_utf8;
-use types::framebuffer::Framebuffer;
+use types::framebuffer::{Framebuffer, PixelFormat};
 use types::style::{FontColor, Placement};
 
 const MAX_SIDE: usize = 256;
@@ -21,6 +21,16 @@ fn has_bad_side(side: usize) -> bool
     (side == 0) | (MAX_SIDE < side)
 }
 
+// How many pixels of a column a byte holds.
+fn pixels_per_byte(format: PixelFormat) -> usize
+    ensures { result ≡ per_byte format }
+{
+    match format {
+        PixelFormat::Bytes => 1,
+        PixelFormat::Packed => 8,
+    }
+}
+
 // Cause 3. The sides are tested before they are multiplied.
 pub fn has_bad_size(framebuffer: Framebuffer, buffer: &[u8]) -> bool
     ensures { result ≡ (framebuffer_cause framebuffer buffer.now).applies }
@@ -31,7 +41,11 @@ pub fn has_bad_size(framebuffer: Framebuffer, buffer: &[u8]) -> bool
     if has_bad_side(framebuffer.height) {
         return true;
     }
-    buffer.len() != framebuffer.width * framebuffer.height
+    let rows = pixels_per_byte(framebuffer.format);
+    if framebuffer.height % rows != 0 {
+        return true;
+    }
+    buffer.len() != framebuffer.height / rows * framebuffer.width
 }
 
 // Cause 4. All of the text is looked at, so none of a text that is not UTF-8 is drawn.
@@ -58,6 +72,19 @@ pub fn has_bad_position(placement: Placement) -> bool
     has_bad_coordinate(position.x)
         | has_bad_coordinate(position.y)
         | (MAX_LINE_HEIGHT < placement.line_height)
+}
+
+// Cause 9: a pixel is a bit, and a colour that it would take is neither 0 nor 1.
+pub fn has_unsupported_color(format: PixelFormat, color: FontColor) -> bool
+    ensures { result ≡ color_off format color }
+{
+    match format {
+        PixelFormat::Bytes => false,
+        PixelFormat::Packed => match color {
+            FontColor::Transparent(fg) => 1 < fg,
+            FontColor::WithBackground { fg, bg } => (1 < fg) | (1 < bg),
+        },
+    }
 }
 
 // Cause 6: a background colour is wanted, and the font has none.

@@ -18,6 +18,7 @@ pub fn error_number(e: Error) -> u32
         Error::BackgroundColorNotSupported => 6,
         Error::GlyphNotFound(_) => 7,
         Error::FontEnds(_) => 8,
+        Error::ColorNotSupported => 9,
     }
 }
 
