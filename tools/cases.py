@@ -15,8 +15,8 @@ import oracle_cases
 
 OPEN, FONT_BOX, MEASURE, ALIGNED, DRAW, REDRAW, DRAW_ALIGNED = range(7)
 ALIGNMENTS = 'Left', 'Center', 'Right'
-# added to the kind of a case that prints the sums of the lookups' steps too
-SUMS = 16
+# added to the kind of a case that prints the sums of the lookups' steps too, and of one whose panel is packed (A4)
+SUMS, PACKED = 16, 32
 
 # ---- fonts
 
@@ -76,10 +76,16 @@ def meets(said, want):
     return said.startswith(first + ' ') and said.endswith(' ' + last) if dots else said == want
 
 
-def show_panel(panel, before, width, height):
-    """Small panels in full, larger ones by the number of changed bytes and a checksum."""
-    if len(panel) <= 400 and max(width, height) <= 256 and len(panel) == width * height:
-        rows = [' '.join('%d' % v for v in panel[r * width:(r + 1) * width]) for r in range(height if panel else 0)]
+def byte_rows(height, packed):
+    """How many rows of bytes a panel has; a packed one has eight rows in each."""
+    return height // 8 if packed else height
+
+
+def show_panel(panel, before, width, height, packed=False):
+    """Small panels in full, byte by byte, larger ones by the number of changed bytes and a checksum."""
+    count = byte_rows(height, packed)
+    if len(panel) <= 400 and max(width, height) <= 256 and len(panel) == width * count:
+        rows = [' '.join('%d' % v for v in panel[r * width:(r + 1) * width]) for r in range(count if panel else 0)]
         return ['  ' + row for row in rows]
     total = 0
     for v in panel:
@@ -87,12 +93,26 @@ def show_panel(panel, before, width, height):
     return ['  changed %d sum %d' % (sum(a != b for a, b in zip(panel, before)), total)]
 
 
+def unpacked(panel, width):
+    """The pixels of a packed panel, one in a byte: that at a column and row is bit row mod 8 of byte (row / 8) * width + column."""
+    return bytearray(panel[row // 8 * width + column] >> row % 8 & 1
+                     for row in range(len(panel) // width * 8) for column in range(width))
+
+
 def case(label, kind, font, text=b'', x=0, y=0, anchor=0, align=0, line=4, skip=False, ink=(1,), size=(8, 8), fill=0,
-         length=None, want=None, old='', clear=0, sums=False):
+         length=None, want=None, old='', clear=0, sums=False, packed=False, shows=None):
     text, old = (t.encode('utf-8') if isinstance(t, str) else t for t in (text, old))
     width, height = size
-    length = width * height if length is None else length
+    length = width * byte_rows(height, packed) if length is None else length
     lines = []
+
+    def drawn(panel, packed):
+        if kind == DRAW:
+            return m.draw(font, text, x, y, anchor, ink, line, skip, width, height, panel, packed)
+        if kind == DRAW_ALIGNED:
+            return m.draw_aligned(font, text, x, y, anchor, align, ink, line, skip, width, height, panel, packed)
+        return m.redraw(font, old, text, x, y, anchor, ink, line, clear, width, height, panel, align, packed=packed)
+
     if kind == OPEN:
         answer = m.open_font(font)
     elif kind == FONT_BOX:
@@ -104,19 +124,23 @@ def case(label, kind, font, text=b'', x=0, y=0, anchor=0, align=0, line=4, skip=
     else:
         before = bytes((fill + i % 3 * (fill > 0)) % 256 for i in range(length))
         panel = bytearray(before)
-        if kind == DRAW:
-            answer = m.draw(font, text, x, y, anchor, ink, line, skip, width, height, panel)
-        elif kind == DRAW_ALIGNED:
-            answer = m.draw_aligned(font, text, x, y, anchor, align, ink, line, skip, width, height, panel)
-        else:
-            answer = m.redraw(font, old, text, x, y, anchor, ink, line, clear, width, height, panel, align)
-        lines = show_panel(panel, before, width, height)
+        answer = drawn(panel, packed)
+        lines = show_panel(panel, before, width, height, packed)
+        # with colours of 0 and 1 and a size that both allow, a panel of bytes answers and shows the same
+        if packed and max(*ink, clear) < 2 and not m.size_fault(width, height, True, panel):
+            other = unpacked(before, width)
+            if (drawn(other, False), other) != (answer, unpacked(panel, width)):
+                sys.exit(label + ': not as on a panel of bytes')
     said = say(answer)
     if sums:
         kind += SUMS
         said += ' records %d entries %d' % m.sums(font, text, answer)
+    if packed:
+        kind += PACKED
     if want is not None and not meets(said, want):
         sys.exit('%s: model says %s, wanted %s' % (label, said, want))
+    if shows is not None and lines != ['  ' + row for row in shows]:
+        sys.exit('%s: model shows %s' % (label, lines))
     out = [label + ': ' + said] + lines
     step = (len(old), clear)
     CASES.append((label, kind, font, old + text, x, y, anchor, align, line, skip, ink, size, fill, length, step, out))
@@ -147,7 +171,7 @@ def segments(data):
 
 
 @functools.cache
-def packed(data):
+def in_parts(data):
     parts = segments(data)
     out = struct.pack('<I', len(parts))
     for n, piece in parts:
@@ -158,7 +182,7 @@ def packed(data):
 def record(c):
     label, kind, font, text, x, y, anchor, align, line, skip, ink, size, fill, length, step, _ = c
     numbers = (kind, x, y, anchor, align, line, int(skip), len(ink) - 1, ink[0], ink[-1], size[0], size[1], fill, length, *step)
-    return packed(label.encode()) + packed(font) + packed(text) + struct.pack('<IiiIIIIIIIIIIIII', *numbers)
+    return in_parts(label.encode()) + in_parts(font) + in_parts(text) + struct.pack('<IiiIIIIIIIIIIIII', *numbers)
 
 
 # ---- opening and the font box
@@ -753,6 +777,177 @@ summed_aligned('a padded name', T, NAME, '7 0', 10, 0, **ROOM)
 summed('a name of zeros, skipping', T, '\0' * 8, 'ok', 16, 0, MEASURED, skip=True)
 summed('a padded name, T and nine zeros', T + bytes(9), NAME, 'ok', 14, 0, MEASURED, skip=True, **ROOM)
 summed('a padded name, 8', T[:34], NAME, '8 0', 0, 0, MEASURED, skip=True, **ROOM)
+
+# ---- packed panels: a byte holds eight pixels of a column, the top one in bit 0 (A4)
+
+EIGHTS = {'packed': True}
+SET, CLEAR, ON, UNDER = (1,), (0,), (1, 0), (0, 1)
+
+
+def on_eights(label, font, text, want=None, **more):
+    draw('packed, ' + label, font, text, want, **EIGHTS, **more)
+
+
+on_eights('-4', T, '-4', 'ok 6 0 0 5 5 3', y=8, shows=['32 32 0 192 128 0 0 0'])
+on_eights('-4 of zeros', T, '-4', 'ok 6 0 0 5 5 3', y=8, ink=CLEAR, shows=['0 0 0 0 0 0 0 0'])
+on_eights('-4 with background', GROUND, '-4', 'ok 6 0 0 5 5 3', y=8, ink=ON, fill=165, shows=['165 166 167 229 166 167 165 166'])
+on_eights('-4 in zeros on ones', GROUND, '-4', 'ok 6 0 0 5 5 3', y=8, ink=UNDER, fill=165,
+          shows=['133 134 167 37 102 167 165 166'])
+# every row of a byte, and over the edge between two
+for y in range(28):
+    on_eights('-4 in row %d' % y, T, '-4', 'ok 6 0 1 %d 5 3' % (y - 3), x=1, y=y, size=(8, 24))
+    on_eights('-4 in row %d, zeros over a pattern' % y, T, '-4', None, x=1, y=y, size=(8, 24), ink=CLEAR, fill=253)
+    on_eights('4- in row %d with background' % y, GROUND, '4-', None, x=1, y=y, size=(8, 24), ink=ON, fill=90)
+    on_eights('4- in row %d, zeros on ones' % y, GROUND, '4-', None, x=1, y=y, size=(8, 24), ink=UNDER, fill=165)
+for y in range(8):
+    on_eights('ones over ones, row %d' % y, GROUND, '4', None, y=y, size=(3, 16), ink=(1, 1), fill=5)
+    on_eights('zeros over zeros, row %d' % y, GROUND, '4', None, y=y, size=(3, 16), ink=(0, 0), fill=253)
+    on_eights('letters over each other, row %d' % y, but(F12, (1, 1)), '-4-4', None, x=3, y=y, size=(8, 16), ink=ON, fill=90)
+    on_eights('higher than the panel, row %d' % y, TALL, '-', None, x=2, y=y + 16, size=(6, 24), ink=UNDER, fill=90)
+    on_eights('wider than the panel, row %d' % y, WIDE, '-', None, x=2, y=y + 9, size=(9, 16), ink=ON, fill=90)
+    on_eights('lines, row %d' % y, T, '-4\n4-\n\n-', None, x=1, y=y + 4, size=(10, 24), fill=6)
+# the edges: off each side, the last column and the last row
+for x in (-3, -2, -1, 0, 5, 6, 7, 8):
+    for y in (0, 1, 2, 8, 9, 10, 16, 17, 18):
+        on_eights('4 at %d, %d' % (x, y), GROUND, '4', None, x=x, y=y, size=(8, 16), ink=ON if x % 2 else UNDER, fill=85)
+for size in ((1, 8), (9, 8), (256, 8), (1, 256), (5, 40), (256, 256)):
+    on_eights('-4 on %d x %d' % size, T, '-4', None, y=2, size=size, fill=1)
+    on_eights('-4 at the far corner of %d x %d' % size, GROUND, '-4', None, x=size[0] - 3, y=size[1], size=size, ink=ON, fill=85)
+for x, y in ((-1000, 0), (0, -1000), (300, 300), (-100, 100), (0, 255), (1, 256)):
+    on_eights('255 x 255 pixels at %d, %d' % (x, y), but(HUGE, (9, 127), (10, 127)), '-', None, x=x, y=y, ink=UNDER,
+              size=(256, 256), fill=5)
+    on_eights('a diagonal at %d, %d' % (x, y), FULL, '-', None, x=x, y=y, size=(256, 256), fill=5)
+for anchor, name in enumerate(('Baseline', 'Top', 'Center', 'Bottom')):
+    on_eights('anchor ' + name, T, '-4\n-', None, x=1, y=9, size=(8, 24), anchor=anchor)
+on_eights('no letter', T, '', 'ok 0 0 none', fill=3)
+on_eights('far off', T, '-4', 'ok 6 0 1000 997 5 3', x=1000, y=1000, fill=3)
+on_eights('a name with zero characters', T, NAME, 'ok 15 0 8 1 14 3', x=8, y=4, size=(24, 8), fill=2, skip=True)
+on_eights('the same name without them', T, '-44-4', 'ok 15 0 8 1 14 3', x=8, y=4, size=(24, 8), fill=2)
+
+# number 3: sides, heights that are no multiple of 8, lengths
+for size, length in (((0, 8), 0), ((8, 0), 0), ((257, 8), 257), ((1, 264), 33), ((8, 1), 1), ((8, 4), 4), ((8, 7), 7), ((8, 9), 9),
+                     ((8, 12), 8), ((8, 12), 12), ((8, 12), 16), ((8, 12), 96), ((8, 255), 248), ((8, 8), 0), ((8, 8), 7),
+                     ((8, 8), 9), ((8, 8), 64), ((256, 256), 8191), ((256, 256), 65536), ((2147483648, 8), 0),
+                     ((8, 2147483648), 0)):
+    on_eights('size %d x %d, %d bytes' % (size + (length,)), T, '-', 'no 3 0', size=size, length=length, fill=4)
+draw('8 x 12, bytes', T, '-4', 'ok 6 0 0 5 5 3', y=8, size=(8, 12))
+draw('8 x 8, a byte for eight pixels', T, '-', 'no 3 0', length=8, fill=4)
+
+# number 9: a colour that is neither 0 nor 1; on bytes every colour is fine
+for ink in ((2,), (128,), (255,)):
+    on_eights('ink %d' % ink, T, '-', 'no 9 0', y=4, ink=ink, fill=4)
+    draw('ink %d, bytes' % ink, T, '-', 'ok 3 0 0 1 2 1', y=4, ink=ink, fill=4)
+for ink in ((2, 0), (2, 1), (0, 2), (1, 2), (2, 2), (255, 0), (0, 255)):
+    on_eights('ink %d on %d' % ink, GROUND, '-', 'no 9 0', y=4, ink=ink, fill=4)
+    on_eights('ink %d on %d, no background allowed' % ink, T, '-', 'no 9 0', y=4, ink=ink, fill=4)
+    draw('ink %d on %d, bytes' % ink, GROUND, '-', 'ok 3 0 0 1 2 1', y=4, ink=ink, fill=4)
+    draw('ink %d on %d, no background allowed, bytes' % ink, T, '-', 'no 6 0', y=4, ink=ink, fill=4)
+for ink in (ON, UNDER, (0, 0), (1, 1)):
+    on_eights('ink %d on %d, no background allowed' % ink, T, '-', 'no 6 0', y=4, ink=ink, fill=4)
+on_eights('ink 2, no letter', T, '', 'no 9 0', ink=(2,), fill=4)
+on_eights('ink 2, far off', T, '-', 'no 9 0', x=1000, ink=(2,), fill=4)
+
+
+def aligned_on_eights(label, font, text, *wants, **more):
+    aligned('packed, ' + label, font, text, *wants, **EIGHTS, **more)
+
+
+def redraw_on_eights(label, font, old, new, *wants, **more):
+    """With each alignment. Where answers are wanted it is one of all three, or one of each."""
+    settings = {'y': 8, 'size': (8, 16), 'clear': 0}
+    settings.update(more)
+    for align, name in enumerate(ALIGNMENTS):
+        want = wants[align % len(wants)] if wants else None
+        redraw('packed, %s, %s' % (name, label), font, old, new, want, align=align, **EIGHTS, **settings)
+
+
+# the order of the refusals, each before all that come after it
+LATER = {'ink': (2, 0), 'x': 1048577, 'size': (8, 12), 'fill': 4, 'sums': True}
+OFF = {'ink': (2, 0), 'x': 1048577, 'size': (8, 8), 'fill': 4, 'sums': True}
+TALL_LINE = {'ink': (2, 0), 'line': 65536, 'size': (8, 8), 'fill': 4, 'sums': True}
+HERE = {'size': (8, 8), 'fill': 4, 'sums': True}
+for label, font, text, want, more in (
+        ('1 before 3', T[:22], b'A\xff', '1 0', LATER),
+        ('2 before 3', but(T, (4, 9)), b'A\xff', '2 0', LATER),
+        ('3 before 4', T, b'A\xff', '3 0', LATER),
+        ('4 before 5', T, b'A\xff', '4 0', OFF),
+        ('5 before 9', T, 'A', '5 0', OFF),
+        ('line height before 9', T, 'A', '5 0', TALL_LINE),
+        ('9 before 6', T, 'A', '9 0', {'ink': (2, 0), **HERE}),
+        ('9 of the background before 6', T, 'A', '9 0', {'ink': (0, 2), **HERE}),
+        ('9 before letters', T[:33], 'A', '9 0', {'ink': (2,), **HERE}),
+        ('6 before letters', T[:33], 'A', '6 0', {'ink': (1, 0), **HERE}),
+        ('7', T, 'A', '7 65', HERE),
+        ('8', T[:33], 'A', '8 65', HERE)):
+    want = 'no %s records 0 entries 0' % want
+    on_eights(label, font, text, want, **more)
+    aligned_on_eights(label, font, text, want, **more)
+    redraw_on_eights(label, font, '-', text, want, **more)
+    if not want.startswith(('no 7', 'no 8')):
+        redraw_on_eights(label + ', the old text', font, text, '-', want, **more)
+
+# refused letters: what stands before them is drawn
+for k in range(5):
+    text = '----'[:k] + 'A' + '--'
+    on_eights('7 at letter %d' % (k + 1), T, text, 'no 7 65', y=9, size=(16, 16), fill=2)
+    on_eights('7 at letter %d, skipped' % (k + 1), T, text, None, y=9, size=(16, 16), fill=2, skip=True)
+    on_eights('8 at letter %d' % (k + 1), T[:33], text, 'no 8 65', y=9, size=(16, 16), fill=2)
+on_eights('8 of runs at the second letter', CUT, '-4', 'no 8 52', y=9, size=(8, 16), fill=2)
+on_eights('cut runs far off the panel', F4, '-', 'no 8 45', x=1000)
+
+# aligned lines, each in the rows of two bytes
+FIELD = {'x': 7, 'y': 7, 'size': (14, 24)}
+aligned_on_eights('-4', T, '-4', 'ok 7 4 5 3', 'ok 5 4 5 3', 'ok 2 4 5 3', **FIELD)
+for fill, ink in ((0, SET), (90, SET), (253, CLEAR)):
+    aligned_on_eights('lines, %d over %d' % (ink[0], fill), T, '-4\n4-\n\n-', fill=fill, ink=ink, **FIELD)
+for ink in (ON, UNDER):
+    aligned_on_eights('lines with background, %d on %d' % ink, GROUND, '4\n-4\n-', fill=90, ink=ink, **FIELD)
+for anchor, name in enumerate(('Baseline', 'Top', 'Center', 'Bottom')):
+    aligned_on_eights('anchor ' + name, T, '-4\n-', anchor=anchor, **FIELD)
+for x, y in ((-1, 2), (9, 3), (4, 18), (-30, 4), (4, -9)):
+    aligned_on_eights('lines at %d, %d' % (x, y), GROUND, '-4\n4', x=x, y=y, size=(8, 16), ink=ON, fill=85)
+aligned_on_eights('a line without a box', F11, '!\n-!', x=5, y=4, size=(9, 8))
+aligned_on_eights('negative advance', F12, '-4', x=3, y=9, size=(6, 16))
+aligned_on_eights('7 on the second line', T, '-\n4A', 'no 7 65 records 3 entries 0', sums=True, **FIELD)
+aligned_on_eights('8 on the second line', CUT, '-\n-4', 'no 8 52 records 0 entries 0', sums=True, **FIELD)
+aligned_on_eights('7 behind cut runs', CUT, '4\U00010000', 'no 8 52', 'no 7 65536', 'no 7 65536', fill=2, **FIELD)
+aligned_on_eights('skipping, -A4', T, '-A4', 'ok 7 4 5 3', 'ok 5 4 5 3', 'ok 2 4 5 3', skip=True, **FIELD)
+aligned_on_eights('height 12', T, '-4', 'no 3 0', x=4, y=8, size=(8, 12), fill=4)
+aligned('height 12, bytes', T, '-4', 'ok 4 5 5 3', 'ok 2 5 5 3', 'ok -1 5 5 3', x=4, y=8, size=(8, 12))
+aligned_on_eights('ink 2', T, '-', 'no 9 0', y=4, ink=(2,), fill=4)
+
+# the redraw step: 9 for what clears too
+MIDDLE = {'x': 4, 'y': 9}
+for clear in (0, 1):
+    redraw_on_eights('-4 over 4-, cleared with %d' % clear, T, '4-', '-4', None, clear=clear, fill=90, **MIDDLE)
+    redraw_on_eights('- over -4 with background, cleared with %d' % clear, GROUND, '-4', '-', None, clear=clear, fill=90, ink=ON,
+                     **MIDDLE)
+    redraw_on_eights('zeros on ones, cleared with %d' % clear, GROUND, '4', '-4', None, clear=clear, fill=253, ink=UNDER, **MIDDLE)
+    redraw_on_eights('one line over two, cleared with %d' % clear, T, '-\n4-', '4\n', None, clear=clear, fill=90, **MIDDLE)
+    redraw_on_eights('no reading any more, cleared with %d' % clear, T, '-4', '', 'ok 0 0 none', clear=clear, fill=90, **MIDDLE)
+    redraw_on_eights('7 in the new text, cleared with %d' % clear, T, '4-', '-A4', 'no 7 65 records 1 entries 0', clear=clear,
+                     fill=90, sums=True, **MIDDLE)
+    redraw_on_eights('8 in the new text, cleared with %d' % clear, CUT, '--', '-4', 'no 8 52 records 0 entries 0', clear=clear,
+                     fill=90, sums=True, **MIDDLE)
+    redraw_on_eights('the old text past every side, cleared with %d' % clear, T, '-' * 6 + '\n' * 9 + '4' * 6, '-', None,
+                     clear=clear, fill=90, x=-3, y=2, line=2)
+redraw_on_eights('the first reading', T, '', '-4', 'ok .. 6 5 3', fill=90, **MIDDLE)
+redraw_on_eights('over a text that does not draw', CUT, '-4', '-', None, fill=90, **MIDDLE)
+for x, y in ((-1, 3), (6, 4), (4, 17), (-40, 4)):
+    redraw_on_eights('4- at %d, %d' % (x, y), GROUND, '-4-', '4-', None, x=x, y=y, ink=ON, fill=85)
+for clear in (2, 255):
+    redraw_on_eights('cleared with %d' % clear, T, '4-', '-4', 'no 9 0 records 0 entries 0', clear=clear, fill=90, sums=True, **MIDDLE)
+    redraw_on_eights('cleared with %d, with background' % clear, GROUND, '4-', '-4', 'no 9 0', clear=clear, ink=ON, **MIDDLE)
+redraw_on_eights('cleared with 2, nothing to clear', T, '', '-', 'no 9 0', clear=2, fill=90, **MIDDLE)
+redraw_on_eights('1 before 9 of what clears', T[:22], '4', '-', 'no 1 0', clear=2)
+redraw_on_eights('2 before 9 of what clears', but(T, (4, 9)), '4', '-', 'no 2 0', clear=2)
+redraw_on_eights('3 before 9 of what clears', T, '4', '-', 'no 3 0', clear=2, size=(8, 12), fill=4)
+redraw_on_eights('4 before 9 of what clears', T, '4', b'\xff', 'no 4 0', clear=2)
+redraw_on_eights('5 before 9 of what clears', T, '4', '-', 'no 5 0', clear=2, line=65536)
+redraw_on_eights('9 of what clears before 6', T, '4', '-', 'no 9 0', clear=2, ink=ON)
+redraw_on_eights('9 of what clears before letters', T, '4', 'A', 'no 9 0', clear=2)
+redraw_on_eights('ink 2', T, '4', '-', 'no 9 0', ink=(2,), fill=90)
+redraw('cleared with 2, bytes', T, '4-', '-4', 'ok 6 0 0 5 5 3', y=8, size=(8, 16), clear=2, ink=(255,))
 
 # ---- what the Rust answered
 

@@ -1,7 +1,8 @@
 """The rules of docs/SPECIFICATION.md, written a second time in Python, to work out what the program replay must print.
 
 It is written from the rules alone, but for `redraw`, our own step made of drawings, and shares nothing with the crates.
-Aligned drawing is written from the words of change request A2, and the lookup up to 255 from those of A3.
+Aligned drawing is written from the words of change request A2, the lookup up to 255 from those of A3, and the packed panel from
+those of A4.
 cases.py beside it writes the stored outputs. A refusal is ('no', number, code point). The sums of the lookups' steps stand
 beside an answer and are worked out of it: `sums`.
 """
@@ -182,6 +183,16 @@ def place_fault(x, y, line):
     return None if ok else ('no', 5, 0)
 
 
+def size_fault(width, height, packed, panel):
+    """A packed panel has a byte for eight rows of a column."""
+    rows = (height // 8 if height % 8 == 0 else 0) if packed else height
+    return None if 1 <= width <= 256 and 1 <= rows and height <= 256 and len(panel) == width * rows else ('no', 3, 0)
+
+
+def color_fault(colors, packed):
+    return ('no', 9, 0) if packed and any(c not in (0, 1) for c in colors) else None
+
+
 def letter(f, c, skip):
     """The glyph; None where it is unknown and skipped."""
     try:
@@ -251,20 +262,27 @@ def measure_aligned(f, text, x, y, anchor, align, line, skip):
     return ('ok', box)
 
 
-def paint(f, g, box, ink, width, height, panel):
+def put(panel, width, packed, column, row, value):
+    """Sets one pixel: a byte, or on a packed panel bit row mod 8 of its byte, bit 0 being the top one."""
+    if packed:
+        at, bit = row // 8 * width + column, 1 << row % 8
+        panel[at] = panel[at] | bit if value else panel[at] & ~bit
+    else:
+        panel[row * width + column] = value
+
+
+def paint(f, g, box, ink, width, height, packed, panel):
     """All of the glyph's runs are read before its first pixel is set."""
     for i, bit in enumerate(pixels(f, g)):
         px, py = box[0] + i % g[0], box[1] + i // g[0]
         if 0 <= px < width and 0 <= py < height and (bit or len(ink) == 2):
-            panel[py * width + px] = ink[0] if bit else ink[1]
+            put(panel, width, packed, px, py, ink[0] if bit else ink[1])
 
 
-def draw_lines(f, text, x, y, anchor, align, ink, line, skip, width, height, panel):
+def draw_lines(f, text, x, y, anchor, align, ink, line, skip, width, height, packed, panel):
     """What `draw` and `draw_aligned` have in common. The advance is that of the last line, from the line's own start."""
-    fault = font_fault(f)
-    if not fault and not (1 <= width <= 256 and 1 <= height <= 256 and len(panel) == width * height):
-        fault = ('no', 3, 0)
-    fault = fault or text_fault(text) or place_fault(x, y, line)
+    fault = font_fault(f) or size_fault(width, height, packed, panel) or text_fault(text) or place_fault(x, y, line)
+    fault = fault or color_fault(ink, packed)
     if not fault and len(ink) == 2 and f[1] == 0:
         fault = ('no', 6, 0)
     if fault:
@@ -282,41 +300,47 @@ def draw_lines(f, text, x, y, anchor, align, ink, line, skip, width, height, pan
             for gx, g in glyphs:
                 own = box_at(x + shift + gx, y + number * line, g)
                 if own:
-                    paint(f, g, own, ink, width, height, panel)
+                    paint(f, g, own, ink, width, height, packed, panel)
                 box, ax = join(box, own), gx + g[4]
     except Refused as r:
         return ('no',) + r.args
     return ('ok', (ax, number * line), box)
 
 
-def draw(f, text, x, y, anchor, ink, line, skip, width, height, panel):
+def draw(f, text, x, y, anchor, ink, line, skip, width, height, panel, packed=False):
     """ink is (colour,) or (foreground, ground). The panel is changed in place."""
-    return draw_lines(f, text, x, y, anchor, LEFT, ink, line, skip, width, height, panel)
+    return draw_lines(f, text, x, y, anchor, LEFT, ink, line, skip, width, height, packed, panel)
 
 
-def draw_aligned(f, text, x, y, anchor, align, ink, line, skip, width, height, panel):
+def draw_aligned(f, text, x, y, anchor, align, ink, line, skip, width, height, panel, packed=False):
     """The box or none, and no advance. Each line is moved by the offset that aligned measuring uses; Left draws as `draw` does,
     letter by letter."""
-    answer = draw_lines(f, text, x, y, anchor, align, ink, line, skip, width, height, panel)
+    answer = draw_lines(f, text, x, y, anchor, align, ink, line, skip, width, height, packed, panel)
     return answer if answer[0] == 'no' else ('ok', answer[2])
 
 
-def redraw(f, old, new, x, y, anchor, ink, line, clear, width, height, panel, align=LEFT, missing=0):
-    """The step from one reading to the next, made of drawings. The causes 1 to 6 of both texts come first. Then the old text's
-    box is filled, but for the `missing` last columns, if that text draws, and the new text is drawn if all of it does, both with
-    the alignment. The answer has an advance, that of the last line from the line's own start. The panel is changed in place."""
+# the causes that are tested before any letter, in their order
+CAUSES = 1, 2, 3, 4, 5, 9, 6
+
+
+def redraw(f, old, new, x, y, anchor, ink, line, clear, width, height, panel, align=LEFT, missing=0, packed=False):
+    """The step from one reading to the next, made of drawings. The causes of both texts come first, and 9 of what clears with
+    them. Then the old text's box is filled, but for the `missing` last columns, if that text draws, and the new text is drawn if
+    all of it does, both with the alignment. The answer has an advance, that of the last line from the line's own start. The panel
+    is changed in place."""
     def drawn(text, on):
-        return draw_lines(f, text, x, y, anchor, align, ink, line, False, width, height, on)
+        return draw_lines(f, text, x, y, anchor, align, ink, line, False, width, height, packed, on)
 
     first = drawn(old, bytearray(panel))
-    causes = [answer for answer in (first, drawn(new, bytearray(panel))) if answer[0] == 'no' and answer[1] <= 6]
+    answers = first, drawn(new, bytearray(panel)), color_fault((clear,), packed)
+    causes = [answer for answer in answers if answer and answer[0] == 'no' and answer[1] in CAUSES]
     if causes:
-        return min(causes)
+        return min(causes, key=lambda answer: CAUSES.index(answer[1]))
     if first[0] == 'ok' and first[2]:
         left, top, w, h = first[2]
         for row in range(max(0, top), min(height, top + h)):
             for column in range(max(0, left), min(width, left + w - missing)):
-                panel[row * width + column] = clear
+                put(panel, width, packed, column, row, clear)
     after = bytearray(panel)
     answer = drawn(new, after)
     if answer[0] == 'ok':

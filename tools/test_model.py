@@ -1,5 +1,6 @@
 """Tests of tools/model.py: tools/test.sh runs them. The steps of lookups keep their bounds and add up, in random fonts; a record
-with jump 0 ends a chain as change request A3 says; aligned drawing does what change request A2 says of it.
+with jump 0 ends a chain as change request A3 says; aligned drawing does what change request A2 says of it, and a packed panel
+shows what A4 says.
 """
 import random
 import sys
@@ -95,7 +96,7 @@ class Steps(unittest.TestCase):
         self.assertEqual(len(met), 3 * len(calls), met)
 
     def test_other_refusals_bring_nothing(self):
-        for number in (1, 2, 3, 4, 5, 6, 8):
+        for number in (1, 2, 3, 4, 5, 6, 8, 9):
             self.assertEqual(model.sums(T, b'-4', ('no', number, 0)), (0, 0))
 
 
@@ -271,6 +272,86 @@ class Aligned(unittest.TestCase):
             # the advance is the last line's, from its own start
             self.assertEqual(step(b'', b'-4\n-', align=align)[0][1], (3, 4))
             self.assertEqual(step(b'', b'-4\n', align=align)[0][1], (0, 4))
+
+
+def unpacked(panel, width):
+    return bytearray(panel[row // 8 * width + column] >> row % 8 & 1
+                     for row in range(len(panel) // width * 8) for column in range(width))
+
+
+class Packed(unittest.TestCase):
+    """A panel of eight pixels in a byte, the top one in bit 0: drawn on, and then unpacked, it is the panel of bytes drawn on."""
+
+    def test_the_vector(self):
+        panel = bytearray(8)
+        answer = model.draw(T, b'-4', 0, 8, 0, (1,), 4, False, 8, 8, panel, True)
+        self.assertEqual((answer, list(panel)), (('ok', (6, 0), (0, 5, 5, 3)), [32, 32, 0, 192, 128, 0, 0, 0]))
+
+    def test_sides_and_lengths(self):
+        def drawn(width, height, length, packed=True):
+            panel = bytearray(length)
+            answer = model.draw(T, b'', 0, 0, 0, (1,), 4, False, width, height, panel, packed)
+            return 0 if answer[0] == 'ok' else answer[1]
+
+        for height in range(300):
+            self.assertEqual(drawn(3, height, 3 * (height // 8)), 0 if height % 8 == 0 and 8 <= height <= 256 else 3)
+            self.assertEqual(drawn(3, height, 3 * height, False), 0 if 1 <= height <= 256 else 3)
+        for width in (0, 1, 256, 257):
+            self.assertEqual(drawn(width, 8, width), 0 if 1 <= width <= 256 else 3)
+        self.assertEqual([drawn(8, 16, n) for n in (0, 15, 16, 17, 128)], [3, 3, 0, 3, 3])
+
+    def test_colors(self):
+        def number(font, ink, packed, **more):
+            line = more.get('line', 4)
+            panel = bytearray([5] * (8 if packed else 64))
+            answer = model.draw(font, b'-', 0, 4, 0, ink, line, False, 8, 8, panel, packed)
+            return 0 if answer[0] == 'ok' else answer[1]
+
+        ground = T[:1] + b'\1' + T[2:]
+        self.assertEqual([number(T, (2, 0), packed) for packed in (True, False)], [9, 6])
+        self.assertEqual([number(T, (1,), packed) for packed in (True, False)], [0, 0])
+        self.assertEqual([number(T, ink, True) for ink in ((0,), (2,), (255,), (1, 0), (0, 2))], [0, 9, 9, 6, 9])
+        self.assertEqual([number(ground, ink, True) for ink in ((0, 0), (1, 1), (2, 0), (1, 2))], [0, 0, 9, 9])
+        self.assertEqual([number(ground, ink, False) for ink in ((0, 0), (1, 1), (2, 0), (1, 2))], [0] * 4)
+        self.assertEqual(number(T, (2, 0), True, line=65536), 5)
+
+    def test_as_on_bytes(self):
+        dice = random.Random(6)
+        met = set()
+        for _ in range(2000):
+            font = dice.choice((random_font(dice), T[:dice.randint(30, 35)], T[:1] + b'\1' + T[2:]))
+            text, old = (''.join(map(chr, dice.choices((45, 45, 52, 10, 65536), k=dice.randint(0, 6)))).encode() for _ in range(2))
+            ink = dice.choice(((0,), (1,), (0, 0), (0, 1), (1, 0), (1, 1)))
+            width, height, skip = dice.randint(1, 12), dice.choice((8, 16, 24)), dice.random() < 0.5
+            place = dice.randint(-4, 12), dice.randint(-4, 26), dice.randint(0, 3)
+            align, clear = dice.randint(0, 2), dice.randint(0, 1)
+            start = bytes(dice.randint(0, 255) for _ in range(width * height // 8))
+            for kind in range(3):
+                outcomes = []
+                for packed in (True, False):
+                    panel = bytearray(start) if packed else unpacked(start, width)
+                    if kind == 0:
+                        answer = model.draw(font, text, *place, ink, 4, skip, width, height, panel, packed)
+                    elif kind == 1:
+                        answer = model.draw_aligned(font, text, *place, align, ink, 4, skip, width, height, panel, packed)
+                    else:
+                        answer = model.redraw(font, old, text, *place, ink, 4, clear, width, height, panel, align, packed=packed)
+                    outcomes.append((answer, unpacked(panel, width) if packed else panel))
+                self.assertEqual(*outcomes, (kind, font.hex(), text, old, place, align, ink, clear, width, height))
+                met.add((kind, answer[0] if answer[0] == 'ok' else answer[1]))
+        self.assertEqual(met, {(kind, outcome) for kind in range(3) for outcome in ('ok', 6, 7, 8)})
+
+    def test_what_clears(self):
+        def step(clear, packed=True, font=T, **more):
+            panel = bytearray([7] * (8 if packed else 64))
+            answer = model.redraw(font, b'4', b'-', 0, 4, 0, more.get('ink', (1,)), 4, clear, 8, 8, panel, packed=packed)
+            return 'ok' if answer[0] == 'ok' else answer[1], panel == bytearray([7] * len(panel))
+
+        self.assertEqual([step(clear) for clear in (0, 1, 2, 255)], [('ok', False)] * 2 + [(9, True)] * 2)
+        self.assertEqual(step(2, False), ('ok', False))
+        # before 6, and behind all else that is tested before letters
+        self.assertEqual([step(clear, ink=(1, 0))[0] for clear in (0, 2)], [6, 9])
+        self.assertEqual(step(2, font=T[:22])[0], 1)
 
 
 if __name__ == '__main__':
