@@ -1,8 +1,8 @@
 // The framebuffer of a case: what it holds before the call, and how it is printed after it.
-ghost use Rattle.std.specs.Prelude.{◌≡◌, ◌<◌, ℕ, length, get_or};
+ghost use Rattle.std.specs.Prelude.{◌≡◌, ◌<◌, ◌≤◌, ℕ, length, get_or};
 ghost use Rattle.cases.specs.Patterns.{pattern_at};
 
-use types::framebuffer::Framebuffer;
+use types::framebuffer::{Framebuffer, PixelFormat};
 
 // What stands at an index before the call: 0 throughout, or a pattern in which neighbours differ.
 fn pattern(fill: u8, i: usize) -> u8
@@ -18,19 +18,19 @@ fn pattern(fill: u8, i: usize) -> u8
 pub fn fill(framebuffer: &mut [u8], fill: u8)
     ensures { (i : ℕ) → i < length framebuffer.old → get_or framebuffer.new i 0 ≡ pattern_at fill i }
 {
-    for (i, pixel) in framebuffer.iter_mut().enumerate() {
-        *pixel = pattern(fill, i);
+    for (i, byte) in framebuffer.iter_mut().enumerate() {
+        *byte = pattern(fill, i);
     }
 }
 
-// The bytes, a line for each row.
+// The bytes, a line for each row of them.
 fn print_rows<R: Print>(rt: &R, framebuffer: &[u8], width: usize)
     requires { 0 < width }
 {
     for row in framebuffer.chunks(width) {
         let _ = print!(rt; "\n ");
-        for pixel in row {
-            let _ = print!(rt; " {pixel}");
+        for byte in row {
+            let _ = print!(rt; " {byte}");
         }
     }
 }
@@ -40,13 +40,13 @@ fn changed(framebuffer: &[u8], fill: u8) -> usize {
     framebuffer
         .iter()
         .enumerate()
-        .filter(|(i, pixel)| **pixel != pattern(fill, *i))
+        .filter(|(i, byte)| **byte != pattern(fill, *i))
         .count()
 }
 
 fn checksum(framebuffer: &[u8]) -> u32 {
-    framebuffer.iter().fold(0, |sum: u32, pixel| {
-        ((u64::from(sum) * 31 + u64::from(*pixel)) % 65521) as u32
+    framebuffer.iter().fold(0, |sum: u32, byte| {
+        ((u64::from(sum) * 31 + u64::from(*byte)) % 65521) as u32
     })
 }
 
@@ -56,11 +56,21 @@ fn print_summary<R: Print>(rt: &R, framebuffer: &[u8], fill: u8) {
     let _ = print!(rt; "\n  changed {changed} sum {sum}");
 }
 
+// How many rows of bytes there are.
+fn byte_rows(size: Framebuffer) -> usize
+    ensures { result ≤ size.height }
+{
+    match size.format {
+        PixelFormat::Bytes => size.height,
+        PixelFormat::Packed => size.height / 8,
+    }
+}
+
 fn is_small(framebuffer: &[u8], size: Framebuffer) -> bool {
     framebuffer.len() <= 400
         && size.width <= 256
         && size.height <= 256
-        && framebuffer.len() == size.width * size.height
+        && framebuffer.len() == size.width * byte_rows(size)
 }
 
 // Small framebuffers in full, larger ones and buffers of the wrong length by what changed and a checksum.
