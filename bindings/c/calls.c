@@ -27,8 +27,9 @@ struct input {
     const uint8_t *text;
     size_t text_len;
     int32_t x, y;
-    uint32_t anchor, align, line_height, skip, background;
+    uint32_t anchor, align, line_height, skip, background, format;
     size_t width, height, buffer_len;
+    uint8_t fg, bg, clear_color;
 };
 
 enum { WIDTH = 16, HEIGHT = 8, CELLS = WIDTH * HEIGHT };
@@ -37,7 +38,8 @@ static uint8_t buffer[CELLS + 1];
 static int64_t out[PAPAYAHELM_HEADER_LEN];
 
 static struct input input_of(const char *text) {
-    struct input in = {T, sizeof T, (const uint8_t *)text, strlen(text), 2, 5, 0, 0, 4, 0, 0, WIDTH, HEIGHT, CELLS};
+    struct input in = {T, sizeof T, (const uint8_t *)text, strlen(text), 2, 5, 0, 0, 4, 0, 0, PAPAYAHELM_FORMAT_BYTES,
+                       WIDTH, HEIGHT, CELLS, 1, 2, 3};
     return in;
 }
 
@@ -65,20 +67,20 @@ static uint32_t call(int which, const struct input *in) {
                                           in->line_height, in->skip, out, PAPAYAHELM_OUT_LEN);
     case DRAW:
         return papayahelm_draw(in->font, in->font_len, in->text, in->text_len, in->x, in->y, in->anchor, in->line_height,
-                               in->skip, in->background, 1, 2, in->width, in->height, buffer, in->buffer_len, out,
-                               PAPAYAHELM_OUT_LEN);
+                               in->skip, in->background, in->fg, in->bg, in->format, in->width, in->height, buffer,
+                               in->buffer_len, out, PAPAYAHELM_OUT_LEN);
     case DRAW_ALIGNED:
         return papayahelm_draw_aligned(in->font, in->font_len, in->text, in->text_len, in->x, in->y, in->anchor, in->align,
-                                       in->line_height, in->skip, in->background, 1, 2, in->width, in->height, buffer,
-                                       in->buffer_len, out, PAPAYAHELM_OUT_LEN);
+                                       in->line_height, in->skip, in->background, in->fg, in->bg, in->format, in->width,
+                                       in->height, buffer, in->buffer_len, out, PAPAYAHELM_OUT_LEN);
     case REDRAW_OLD:
         return papayahelm_redraw(in->font, in->font_len, in->text, in->text_len, minus, 1, in->x, in->y, in->anchor, in->align,
-                                 in->line_height, in->background, 1, 2, 3, in->width, in->height, buffer, in->buffer_len, out,
-                                 PAPAYAHELM_OUT_LEN);
+                                 in->line_height, in->background, in->fg, in->bg, in->clear_color, in->format, in->width,
+                                 in->height, buffer, in->buffer_len, out, PAPAYAHELM_OUT_LEN);
     default:
         return papayahelm_redraw(in->font, in->font_len, minus, 1, in->text, in->text_len, in->x, in->y, in->anchor, in->align,
-                                 in->line_height, in->background, 1, 2, 3, in->width, in->height, buffer, in->buffer_len, out,
-                                 PAPAYAHELM_OUT_LEN);
+                                 in->line_height, in->background, in->fg, in->bg, in->clear_color, in->format, in->width,
+                                 in->height, buffer, in->buffer_len, out, PAPAYAHELM_OUT_LEN);
     }
 }
 
@@ -98,7 +100,7 @@ static int sums_are(int64_t records, int64_t entries) {
     return out[PAPAYAHELM_RECORDS] == records && out[PAPAYAHELM_ENTRIES] == entries;
 }
 
-/* Each of the calls in `which` answers with this status and these sums, and after 1 to 6 has changed no pixel. */
+/* Each of the calls in `which` answers with this status and these sums, and after 1 to 6 and 9 has changed no pixel. */
 static void refuses_once(const struct input *in, int which, uint32_t status, int64_t code_point, int64_t records,
                          int64_t entries) {
     for (int one = 1; one < TEXTS; one *= 2) {
@@ -107,9 +109,10 @@ static void refuses_once(const struct input *in, int which, uint32_t status, int
         memset(out, 255, sizeof out);
         CHECK(call(one, in) == status);
         CHECK(out_is(code_point, 0, 0, 0, 0, 0, 0, 0) && sums_are(records, entries) && out[PAPAYAHELM_OUT_LEN] == -1);
-        CHECK(status > 6 || buffer_is(9));
+        const int is_late = status == PAPAYAHELM_GLYPH_NOT_FOUND || status == PAPAYAHELM_FONT_ENDS;
+        CHECK(is_late || buffer_is(9));
         CHECK(strlen(papayahelm_words(status)) > 10);
-        CHECK(papayahelm_is_taken(status) == (status > 6));
+        CHECK(papayahelm_is_taken(status) == is_late);
     }
 }
 
@@ -218,7 +221,8 @@ static int buffer_has(const struct plain *texts, size_t count) {
     memset(expected, 9, sizeof expected);
     for (size_t i = 0; i < count; i++)
         if (papayahelm_draw(T, sizeof T, (const uint8_t *)texts[i].text, strlen(texts[i].text), texts[i].x, texts[i].y, 0, 4, 0, 0,
-                            1, 2, WIDTH, HEIGHT, expected, CELLS, answer, PAPAYAHELM_OUT_LEN) != PAPAYAHELM_OK)
+                            1, 2, PAPAYAHELM_FORMAT_BYTES, WIDTH, HEIGHT, expected, CELLS, answer,
+                            PAPAYAHELM_OUT_LEN) != PAPAYAHELM_OK)
             return 0;
     return memcmp(buffer, expected, sizeof expected) == 0;
 }
@@ -300,13 +304,130 @@ static void aligned_drawings(void) {
     }
 }
 
-/* The causes are tested in the order of their numbers. */
+/* On a packed framebuffer a byte holds eight pixels of a column, the top one in bit 0. */
+static void packed(void) {
+    struct input in = input_of("-4");
+    in.format = PAPAYAHELM_FORMAT_PACKED;
+    in.width = 8;
+    in.x = 0;
+    in.y = 8;
+    in.buffer_len = 8;
+    in.bg = 0;
+    in.clear_color = 0;
+    const uint8_t shown[8] = {32, 32, 0, 192, 128, 0, 0, 0}, four[8] = {192, 128, 0, 0, 0, 0, 0, 0};
+    for (int one = DRAW; one < TEXTS; one *= 2) {
+        memset(buffer, 0, sizeof buffer);
+        CHECK(call(one, &in) == PAPAYAHELM_OK && buffer[8] == 0);
+        if (one != REDRAW_OLD) CHECK(memcmp(buffer, shown, 8) == 0);
+        if (one == DRAW) CHECK(out_is(0, 6, 0, 1, 0, 5, 5, 3) && sums_are(3, 0));
+        if (one == DRAW_ALIGNED) CHECK(out_is(0, 0, 0, 1, 0, 5, 5, 3) && sums_are(3, 0));
+    }
+    /* the old text is cleared, with 0 and with 1 */
+    in = input_of("4");
+    in.format = PAPAYAHELM_FORMAT_PACKED;
+    in.width = 8;
+    in.x = 0;
+    in.y = 8;
+    in.buffer_len = 8;
+    for (in.clear_color = 0; in.clear_color < 2; in.clear_color++) {
+        memset(buffer, in.clear_color ? 255 : 0, sizeof buffer);
+        CHECK(call(REDRAW_OLD, &in) == PAPAYAHELM_OK && buffer[0] == (in.clear_color ? 255 : 32));
+        memset(buffer, 32, 8);
+        CHECK(call(REDRAW_NEW, &in) == PAPAYAHELM_OK && buffer[0] == (in.clear_color ? 224 : 192));
+        CHECK(buffer[1] == (in.clear_color ? 160 : 128) && buffer[2] == 32);
+    }
+    /* over the edge between two bytes, and zeros on ones: with a background colour, in a font that allows it */
+    uint8_t font[sizeof T];
+    memcpy(font, T, sizeof T);
+    font[1] = 1;
+    in.font = font;
+    in.background = 1;
+    in.bg = 0;
+    in.height = 16;
+    in.buffer_len = 16;
+    in.clear_color = 0;
+    in.y = 9;
+    memset(buffer, 255, sizeof buffer);
+    CHECK(call(DRAW, &in) == PAPAYAHELM_OK && buffer[0] == 255 && buffer[1] == 127 && buffer[8] == 255 && buffer[9] == 255);
+    in.fg = 0;
+    in.bg = 1;
+    memset(buffer, 0, sizeof buffer);
+    CHECK(call(DRAW, &in) == PAPAYAHELM_OK && buffer[0] == 0 && buffer[1] == 128 && buffer[8] == 0 && buffer[9] == 0);
+
+    /* 3: the height is no multiple of 8, or the buffer has another length; a framebuffer of bytes may be 12 high */
+    in = input_of("-4");
+    in.width = 8;
+    in.height = 12;
+    in.buffer_len = 96;
+    CHECK(call(DRAW, &in) == PAPAYAHELM_OK);
+    in.format = PAPAYAHELM_FORMAT_PACKED;
+    in.bg = 0;
+    in.clear_color = 0;
+    for (in.buffer_len = 8; in.buffer_len < 17; in.buffer_len++) refuses(&in, DRAWS, PAPAYAHELM_FRAMEBUFFER_SIZE, 0);
+    in.height = 8;
+    for (in.buffer_len = 0; in.buffer_len < 65; in.buffer_len++)
+        if (in.buffer_len != 8) refuses(&in, DRAWS, PAPAYAHELM_FRAMEBUFFER_SIZE, 0);
+
+    /* 9: a colour that counts is neither 0 nor 1; before 6, and where no pixel would take it */
+    in.buffer_len = 8;
+    in.x = 100;
+    in.fg = 2;
+    refuses(&in, DRAWS, PAPAYAHELM_COLOR_NOT_SUPPORTED, 0);
+    in.background = 1;
+    refuses(&in, DRAWS, PAPAYAHELM_COLOR_NOT_SUPPORTED, 0);
+    in.fg = 0;
+    in.bg = 255;
+    refuses(&in, DRAWS, PAPAYAHELM_COLOR_NOT_SUPPORTED, 0);
+    in.bg = 1;
+    refuses(&in, DRAWS, PAPAYAHELM_BACKGROUND_COLOR_NOT_SUPPORTED, 0);
+    in.clear_color = 2;
+    refuses(&in, DRAW | DRAW_ALIGNED, PAPAYAHELM_BACKGROUND_COLOR_NOT_SUPPORTED, 0);
+    refuses(&in, REDRAW_OLD | REDRAW_NEW, PAPAYAHELM_COLOR_NOT_SUPPORTED, 0);
+    in.background = 0;
+    in.bg = 2;
+    CHECK(call(DRAW, &in) == PAPAYAHELM_OK && call(DRAW_ALIGNED, &in) == PAPAYAHELM_OK);
+    refuses(&in, REDRAW_OLD | REDRAW_NEW, PAPAYAHELM_COLOR_NOT_SUPPORTED, 0);
+    /* in bytes every colour is one */
+    in.format = PAPAYAHELM_FORMAT_BYTES;
+    in.buffer_len = 64;
+    in.fg = 255;
+    for (int one = DRAW; one < TEXTS; one *= 2) CHECK(call(one, &in) == PAPAYAHELM_OK);
+
+    /* no format has this code: nothing is stored or drawn */
+    in.format = 2;
+    memset(buffer, 9, sizeof buffer);
+    memset(out, 255, sizeof out);
+    for (int one = DRAW; one < TEXTS; one *= 2) CHECK(call(one, &in) == PAPAYAHELM_BAD_ARGUMENT);
+    CHECK(buffer_is(9) && out_is(-1, -1, -1, -1, -1, -1, -1, -1) && sums_are(-1, -1));
+
+    /* a screen by name; where it does not say, it is one of bytes */
+    uint8_t panel[8] = {0};
+    struct papayahelm_screen screen;
+    memset(&screen, 0, sizeof screen);
+    CHECK(screen.format == PAPAYAHELM_FORMAT_BYTES);
+    screen.format = PAPAYAHELM_FORMAT_PACKED;
+    screen.font = T;
+    screen.font_len = sizeof T;
+    screen.y = 8;
+    screen.line_height = 4;
+    screen.fg = 1;
+    screen.width = 8;
+    screen.height = 8;
+    screen.buffer = panel;
+    screen.buffer_len = sizeof panel;
+    CHECK(papayahelm_show(&screen, "", "-4", out) == PAPAYAHELM_OK && memcmp(panel, shown, 8) == 0);
+    CHECK(papayahelm_show(&screen, "-4", "4", out) == PAPAYAHELM_OK && memcmp(panel, four, 8) == 0);
+}
+
+/* The causes are tested in this order: 1, 2, 3, 4, 5, 9, 6, then 7 and 8. */
 static void order(void) {
     struct input in = input_of("A\xFF");
     in.font_len = 22;
     in.width = 0;
     in.line_height = 65536;
     in.background = 1;
+    in.format = PAPAYAHELM_FORMAT_PACKED;
+    in.buffer_len = WIDTH;
     refuses(&in, DRAWS, PAPAYAHELM_FONT_LENGTH, 0);
     uint8_t font[sizeof T];
     memcpy(font, T, sizeof T);
@@ -321,6 +442,8 @@ static void order(void) {
     in.text_len = 1;
     refuses(&in, DRAWS, PAPAYAHELM_POSITION_OR_LINE_HEIGHT, 0);
     in.line_height = 4;
+    refuses(&in, DRAWS, PAPAYAHELM_COLOR_NOT_SUPPORTED, 0);
+    in.bg = in.clear_color = 0;
     refuses(&in, DRAWS, PAPAYAHELM_BACKGROUND_COLOR_NOT_SUPPORTED, 0);
     in.background = 0;
     refuses_after(&in, DRAWS & ~REDRAW_OLD, PAPAYAHELM_GLYPH_NOT_FOUND, 'A', 0, 0);
@@ -574,8 +697,8 @@ static void screens(void) {
     screen.buffer_len = sizeof panel;
     memset(panel, 9, sizeof panel);
     memset(alone, 9, sizeof alone);
-    CHECK(papayahelm_draw(T, sizeof T, (const uint8_t *)"4", 1, 2, 5, 0, 4, 0, 0, 1, 0, WIDTH, HEIGHT, alone, CELLS, out,
-                          PAPAYAHELM_OUT_LEN) == PAPAYAHELM_OK);
+    CHECK(papayahelm_draw(T, sizeof T, (const uint8_t *)"4", 1, 2, 5, 0, 4, 0, 0, 1, 0, PAPAYAHELM_FORMAT_BYTES, WIDTH, HEIGHT,
+                          alone, CELLS, out, PAPAYAHELM_OUT_LEN) == PAPAYAHELM_OK);
     CHECK(papayahelm_show(&screen, "", "-4-", answer) == PAPAYAHELM_OK && answer[PAPAYAHELM_ADVANCE_X] == 9);
     CHECK(answer[PAPAYAHELM_RECORDS] == 4 && answer[PAPAYAHELM_ENTRIES] == 0);
     CHECK(memcmp(panel, alone, CELLS) != 0);
@@ -600,18 +723,18 @@ static void screens(void) {
     screen.x = 12;
     screen.align = PAPAYAHELM_ALIGN_RIGHT;
     memset(panel, 9, sizeof panel);
-    CHECK(papayahelm_draw_aligned(T, sizeof T, (const uint8_t *)"4", 1, 12, 5, 0, PAPAYAHELM_ALIGN_RIGHT, 4, 0, 0, 1, 0, WIDTH,
-                                  HEIGHT, alone, CELLS, out, PAPAYAHELM_OUT_LEN) == PAPAYAHELM_OK);
+    CHECK(papayahelm_draw_aligned(T, sizeof T, (const uint8_t *)"4", 1, 12, 5, 0, PAPAYAHELM_ALIGN_RIGHT, 4, 0, 0, 1, 0,
+                                  PAPAYAHELM_FORMAT_BYTES, WIDTH, HEIGHT, alone, CELLS, out, PAPAYAHELM_OUT_LEN) == PAPAYAHELM_OK);
     CHECK(papayahelm_show(&screen, "", "-4-", answer) == PAPAYAHELM_OK && answer[PAPAYAHELM_BOX_LEFT] == 4);
     CHECK(papayahelm_show(&screen, "-4-", "4", answer) == PAPAYAHELM_OK && answer[PAPAYAHELM_BOX_LEFT] == 10);
     CHECK(memcmp(panel, alone, CELLS) == 0);
 }
 
 static void words(void) {
-    for (uint32_t a = 0; a < 10; a++)
+    for (uint32_t a = 0; a < 11; a++)
         for (uint32_t b = 0; b < a; b++) CHECK(strcmp(papayahelm_words(a), papayahelm_words(b)) != 0);
     CHECK(strcmp(papayahelm_words(PAPAYAHELM_BAD_ARGUMENT), papayahelm_words(254)) != 0);
-    CHECK(papayahelm_is_taken(0) && !papayahelm_is_taken(255) && !papayahelm_is_taken(9));
+    CHECK(papayahelm_is_taken(0) && !papayahelm_is_taken(255) && !papayahelm_is_taken(PAPAYAHELM_COLOR_NOT_SUPPORTED));
 }
 
 int main(void) {
@@ -620,6 +743,7 @@ int main(void) {
     texts();
     drawings();
     aligned_drawings();
+    packed();
     order();
     refusals();
     sums();

@@ -5,9 +5,10 @@
  *
  * THE STATUS that each call returns:
  *   0        success
- *   1 .. 8   refused: enum papayahelm_status has the causes, papayahelm_words says them in words. They are tested in the order of
- *            their numbers, those that the call can meet; 7 and 8 character by character, from the first. Drawing that centres
- *            lines or sets them right measures each before it is drawn: what measuring meets in a line comes before its pixels
+ *   1 .. 9   refused: enum papayahelm_status has the causes, papayahelm_words says them in words. They are tested in the order 1,
+ *            2, 3, 4, 5, 9, 6, those that the call can meet; then 7 and 8 character by character, from the first. Drawing that
+ *            centres lines or sets them right measures each before it is drawn: what measuring meets in a line comes before its
+ *            pixels
  *   255      a code has no meaning, or `out` is too short; tested before all else. Nothing that is lent is changed
  *
  * THE ARGUMENTS that several calls have:
@@ -25,10 +26,15 @@
  *   skip                    1 to pass over characters that the font has no glyph for, 0 to refuse them with status 7. A font that
  *                           ends too early is refused with status 8 in any case
  *   background, fg, bg      0: the glyphs' own pixels become fg, and bg is not looked at. 1: the other pixels of each glyph's box
- *                           become bg besides, which not every font allows (status 6)
- *   width, height           columns and rows of the framebuffer, 1 to 256 each (else status 3)
- *   buffer, buffer_len      the framebuffer: one byte a pixel, rows from the top, so that the pixel at (x, y) is
- *                           buffer[y * width + x]; exactly width * height bytes (else status 3)
+ *                           become bg besides, which not every font allows (status 6). On a packed framebuffer fg is 0 or 1, and so
+ *                           is bg where it is looked at (else status 9)
+ *   format                  how the buffer's bytes hold the pixels: enum papayahelm_format
+ *   width, height           columns and rows of the framebuffer, 1 to 256 each; of a packed one the height is a multiple of 8 (else
+ *                           status 3)
+ *   buffer, buffer_len      the framebuffer, rows from the top. In bytes: one byte a pixel, so that the pixel at (x, y) is
+ *                           buffer[y * width + x]; exactly width * height bytes (else status 3). Packed: eight pixels of a column
+ *                           a byte, the top one in bit 0, so that the pixel at (x, y) is buffer[y / 8 * width + x] >> y % 8 & 1;
+ *                           exactly width * height / 8 bytes (else status 3)
  *   out, out_len            where the answer goes, below; out_len is how many numbers `out` has room for
  *
  * A pointer must be valid for its length and must not be NULL, also where the length is 0; `out` and `buffer` must not overlap
@@ -56,7 +62,7 @@ enum papayahelm_status {
     /* in the header a bit width of w, h, zero runs or one runs is above 8, or one of x, y or the advance is 0 or above 8; or the
      * font's bounding box is negative */
     PAPAYAHELM_FONT_HEADER = 2,
-    /* the framebuffer is not 1 to 256 pixels wide and high, or its buffer has another length */
+    /* the framebuffer is not 1 to 256 pixels wide and high, packed not a multiple of 8 high, or its buffer has another length */
     PAPAYAHELM_FRAMEBUFFER_SIZE = 3,
     /* the text has more than 4,096 bytes or is not UTF-8 */
     PAPAYAHELM_TEXT_ENCODING = 4,
@@ -68,6 +74,8 @@ enum papayahelm_status {
     PAPAYAHELM_GLYPH_NOT_FOUND = 7,
     /* the font ends before the glyph for a character does; out[0] is its code point */
     PAPAYAHELM_FONT_ENDS = 8,
+    /* the framebuffer is packed, and a colour is neither 0 nor 1 */
+    PAPAYAHELM_COLOR_NOT_SUPPORTED = 9,
     /* a code has no meaning, or `out` is too short */
     PAPAYAHELM_BAD_ARGUMENT = 255
 };
@@ -82,6 +90,9 @@ enum papayahelm_anchor {
 
 /* Which part of each line stands at x. */
 enum papayahelm_align { PAPAYAHELM_ALIGN_LEFT = 0, PAPAYAHELM_ALIGN_CENTER = 1, PAPAYAHELM_ALIGN_RIGHT = 2 };
+
+/* How the bytes of a framebuffer hold its pixels: one in each, or eight of a column, the top one in bit 0. */
+enum papayahelm_format { PAPAYAHELM_FORMAT_BYTES = 0, PAPAYAHELM_FORMAT_PACKED = 1 };
 
 /* Places in the answer of every call but papayahelm_open. Lengths are in pixels. */
 enum papayahelm_out {
@@ -161,35 +172,37 @@ uint32_t papayahelm_measure_aligned(const uint8_t *font, size_t font_len, const 
                                     int64_t *out, size_t out_len);
 
 /* Draws a text into `buffer`: the advance, and the bounding box or none, which may reach beyond the framebuffer. After the statuses
- * 1 to 6 and 255 the buffer is as it was; after 7 and 8 the characters before the refused one are drawn, and nothing of that one.
- * Statuses 0 to 8, 255. */
+ * 1 to 6, 9 and 255 the buffer is as it was; after 7 and 8 the characters before the refused one are drawn, and nothing of that
+ * one. Statuses 0 to 9, 255. */
 uint32_t papayahelm_draw(const uint8_t *font, size_t font_len, const uint8_t *text, size_t text_len, int32_t x, int32_t y,
                          uint32_t anchor, uint32_t line_height, uint32_t skip, uint32_t background, uint8_t fg, uint8_t bg,
-                         size_t width, size_t height, uint8_t *buffer, size_t buffer_len, int64_t *out, size_t out_len);
+                         uint32_t format, size_t width, size_t height, uint8_t *buffer, size_t buffer_len, int64_t *out,
+                         size_t out_len);
 
 /* Draws a text whose lines are aligned, each for itself, as papayahelm_measure_aligned measures them: the bounding box or none, and
  * no advance. PAPAYAHELM_ALIGN_LEFT draws as papayahelm_draw does. With the other two each line is measured before its first
  * character is drawn: a 7 or 8 met in measuring leaves the buffer as the earlier lines drew it, and an 8 met in a glyph's pixels
- * leaves the characters before it drawn. After the statuses 1 to 6 and 255 the buffer is as it was. Statuses 0 to 8, 255. */
+ * leaves the characters before it drawn. After the statuses 1 to 6, 9 and 255 the buffer is as it was. Statuses 0 to 9, 255. */
 uint32_t papayahelm_draw_aligned(const uint8_t *font, size_t font_len, const uint8_t *text, size_t text_len, int32_t x, int32_t y,
                                  uint32_t anchor, uint32_t align, uint32_t line_height, uint32_t skip, uint32_t background,
-                                 uint8_t fg, uint8_t bg, size_t width, size_t height, uint8_t *buffer, size_t buffer_len,
-                                 int64_t *out, size_t out_len);
+                                 uint8_t fg, uint8_t bg, uint32_t format, size_t width, size_t height, uint8_t *buffer,
+                                 size_t buffer_len, int64_t *out, size_t out_len);
 
 /* The redraw step: the next reading in place of the one that stands, whole or not at all. It tests both texts for the causes 1 to
- * 6; fills the old text's bounding box with `clear_color`, if the old text is one that draws; and draws the new text if each of its
- * characters can be drawn. No character is skipped: a padded name is handed over without its padding. The answer is the new text's;
- * its sums count each of its characters once, and none of the old text. The status says which text the next step takes as its old
- * one (papayahelm_is_taken):
+ * 6 and 9, and `clear_color` for 9; fills the old text's bounding box with `clear_color`, if the old text is one that draws; and
+ * draws the new text if each of its characters can be drawn. No character is skipped: a padded name is handed over without its
+ * padding. The answer is the new text's; its sums count each of its characters once, and none of the old text. The status says
+ * which text the next step takes as its old one (papayahelm_is_taken):
  *   0              the new text, which stands now
  *   7, 8           the new text too: the old one is cleared, and nothing of the new one is drawn
- *   1 .. 6, 255    the same old text as before, which still stands: nothing has changed
+ *   1 .. 6, 9, 255 the same old text as before, which still stands: nothing has changed
  * Before the first reading it is the empty text. Font, place, anchor, align, line height, clear_color and framebuffer stay the same
- * from step to step; fg, bg and background may change. Statuses 0 to 8, 255. */
+ * from step to step; fg, bg and background may change. Statuses 0 to 9, 255. */
 uint32_t papayahelm_redraw(const uint8_t *font, size_t font_len, const uint8_t *old_text, size_t old_text_len,
                            const uint8_t *new_text, size_t new_text_len, int32_t x, int32_t y, uint32_t anchor, uint32_t align,
                            uint32_t line_height, uint32_t background, uint8_t fg, uint8_t bg, uint8_t clear_color,
-                           size_t width, size_t height, uint8_t *buffer, size_t buffer_len, int64_t *out, size_t out_len);
+                           uint32_t format, size_t width, size_t height, uint8_t *buffer, size_t buffer_len, int64_t *out,
+                           size_t out_len);
 
 /* What stays the same from one reading to the next, by name: the arguments of papayahelm_redraw but for the texts. */
 struct papayahelm_screen {
@@ -203,7 +216,9 @@ struct papayahelm_screen {
     size_t width, height;
     uint8_t *buffer;
     size_t buffer_len;
-    uint32_t align; /* last, so that an initialiser without it keeps its meaning: left */
+    /* last, so that an initialiser without them keeps its meaning: left, and one byte a pixel */
+    uint32_t align;
+    uint32_t format;
 };
 
 /* papayahelm_redraw with texts that end in a zero byte; more zero bytes behind the first, as in a padded name, are left out. `out`
@@ -212,7 +227,7 @@ static inline uint32_t papayahelm_show(const struct papayahelm_screen *s, const 
                                        int64_t *out) {
     return papayahelm_redraw(s->font, s->font_len, (const uint8_t *)old_text, strlen(old_text), (const uint8_t *)new_text,
                              strlen(new_text), s->x, s->y, s->anchor, s->align, s->line_height, s->background, s->fg, s->bg,
-                             s->clear_color, s->width, s->height, s->buffer, s->buffer_len, out, PAPAYAHELM_OUT_LEN);
+                             s->clear_color, s->format, s->width, s->height, s->buffer, s->buffer_len, out, PAPAYAHELM_OUT_LEN);
 }
 
 /* 1 if the step with this status was taken, so that the next one takes its new text as the old one; 0 if the old text still
@@ -231,7 +246,8 @@ static inline const char *papayahelm_words(uint32_t status) {
     case PAPAYAHELM_FONT_HEADER:
         return "the font's header has a bit width off limits or a negative bounding box";
     case PAPAYAHELM_FRAMEBUFFER_SIZE:
-        return "the framebuffer is not 1 to 256 pixels wide and high, or its buffer has another length";
+        return "the framebuffer is not 1 to 256 pixels wide and high, packed not a multiple of 8 high, or its buffer has another "
+               "length";
     case PAPAYAHELM_TEXT_ENCODING:
         return "the text has more than 4,096 bytes or is not UTF-8";
     case PAPAYAHELM_POSITION_OR_LINE_HEIGHT:
@@ -242,6 +258,8 @@ static inline const char *papayahelm_words(uint32_t status) {
         return "the font has no glyph for this character";
     case PAPAYAHELM_FONT_ENDS:
         return "the font ends before the glyph for this character does";
+    case PAPAYAHELM_COLOR_NOT_SUPPORTED:
+        return "the framebuffer is packed, and a colour is neither 0 nor 1";
     case PAPAYAHELM_BAD_ARGUMENT:
         return "a code has no meaning, or the output is too short";
     default:

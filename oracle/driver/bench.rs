@@ -144,7 +144,7 @@ fn ours(input: &Input, buffer: &mut [u8]) -> i32 {
     let position = ours::Point::new(input.place.0, input.place.1);
     let anchor = ours::VerticalPosition::Baseline;
     let draw = |color, pixels| {
-        let mut framebuffer = ours::Framebuffer { width: WIDTH, height: HEIGHT, pixels };
+        let mut framebuffer = ours::Framebuffer::new(WIDTH, HEIGHT, pixels);
         seen(&font.render(text, position, anchor, color, &mut framebuffer)).result.map_or(-1, |d| d.advance.x)
     };
     match input.call {
@@ -158,7 +158,7 @@ fn ours(input: &Input, buffer: &mut [u8]) -> i32 {
         Call::Transparent => draw(ours::FontColor::Transparent(1), buffer),
         Call::Background => draw(ours::FontColor::WithBackground { fg: 1, bg: 2 }, buffer),
         Call::Centred => {
-            let mut framebuffer = ours::Framebuffer { width: WIDTH, height: HEIGHT, pixels: buffer };
+            let mut framebuffer = ours::Framebuffer::new(WIDTH, HEIGHT, buffer);
             let (align, color) = (ours::HorizontalAlignment::Center, ours::FontColor::Transparent(1));
             seen(&font.render_aligned(text, position, anchor, align, color, &mut framebuffer))
                 .result

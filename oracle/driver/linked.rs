@@ -62,7 +62,7 @@ pub fn call(case: &Case, call: Call) -> Outcome {
         Ink::WithBackground => FontColor::WithBackground { fg: case.fg, bg: case.bg },
     };
     let mut buffer = if call.ink().is_some() { case.buffer.clone() } else { Vec::new() };
-    let mut framebuffer = Framebuffer { width: case.width, height: case.height, pixels: &mut buffer };
+    let mut framebuffer = Framebuffer::new(case.width, case.height, &mut buffer);
     let (answer, steps) = match call {
         Call::Open => (font.header().map(header), None),
         Call::FontBox(anchor) => (font.get_font_bounding_box(ANCHORS[anchor]).map(|r| Answer::FontBox(area(r))), None),

@@ -40,7 +40,7 @@ fn print(panel: &Framebuffer) {
 fn main() -> Result<(), papayahelm::Error> {
     let font = FontRenderer::new_from_raw_data(include_bytes!("../../../fonts/gauge.bin"))?;
     let mut pixels = [0; WIDTH * HEIGHT];
-    let mut panel = Framebuffer { width: WIDTH, height: HEIGHT, pixels: &mut pixels };
+    let mut panel = Framebuffer::new(WIDTH, HEIGHT, &mut pixels);
     draw_icon(&mut panel);
 
     let below = Point::new(MIDDLE as i32, HOOF.len() as i32);

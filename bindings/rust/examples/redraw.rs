@@ -31,7 +31,7 @@ fn main() -> ExitCode {
     };
 
     let mut pixels = [0; 40 * 11];
-    let mut panel = Framebuffer { width: 40, height: 11, pixels: &mut pixels };
+    let mut panel = Framebuffer::new(40, 11, &mut pixels);
     let place = Place::new(Point::new(2, 9), FontColor::Transparent(1));
 
     let mut shown = ""; // the text that stands: at first none

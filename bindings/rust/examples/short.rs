@@ -2,7 +2,8 @@ use papayahelm::{standing, FontColor, FontRenderer, Framebuffer, Place, Point};
 
 fn main() -> Result<(), papayahelm::Error> {
     let font = FontRenderer::new_from_raw_data(include_bytes!("../../../fonts/gauge.bin"))?;
-    let mut panel = Framebuffer { width: 128, height: 64, pixels: &mut [0; 128 * 64] };
+    let mut pixels = [0; 128 * 64];
+    let mut panel = Framebuffer::new(128, 64, &mut pixels);
     let place = Place::new(Point::new(2, 20), FontColor::Transparent(1));
     let mut shown = ""; // the text that stands: at first none
     for text in ["-12.5°", "7.0°", "7.?"] {

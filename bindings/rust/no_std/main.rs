@@ -17,7 +17,8 @@ fn panic(_: &core::panic::PanicInfo) -> ! {
 
 fn readings() -> Result<(), Error> {
     let font = FontRenderer::new_from_raw_data(include_bytes!("../../../fonts/gauge.bin"))?;
-    let mut panel = Framebuffer { width: 40, height: 11, pixels: &mut [0; 40 * 11] };
+    let mut pixels = [0; 40 * 11];
+    let mut panel = Framebuffer::new(40, 11, &mut pixels);
     let place = Place::new(Point::new(2, 9), FontColor::Transparent(1));
     let mut shown = "";
     for text in ["-12.5°", "7.0°"] {

@@ -4,7 +4,8 @@ use core::fmt;
 
 /// Why a call is refused. Its [`Display`](fmt::Display) says it in words.
 ///
-/// After the numbers 1 to 6 nothing that was lent has changed. After 7 and 8
+/// The numbers are tested in the order 1, 2, 3, 4, 5, 9, 6, then 7 and 8 character by character.
+/// After 1 to 6 and 9 nothing that was lent has changed. After 7 and 8
 /// [`render`](crate::FontRenderer::render) has drawn the characters before the refused one,
 /// [`render_aligned`](crate::FontRenderer::render_aligned) those or the lines before its line alone,
 /// and [`redraw`](crate::FontRenderer::redraw) has cleared the old text and drawn nothing.
@@ -15,8 +16,8 @@ pub enum Error {
     FontLength,
     /// Number 2: a bit width in the font's header is off limits, or its bounding box is negative.
     FontHeader,
-    /// Number 3: the framebuffer is not 1 to 256 pixels wide and high, or its buffer has another
-    /// length.
+    /// Number 3: the framebuffer is not 1 to 256 pixels wide and high, packed not a multiple of 8
+    /// high, or its buffer has another length.
     FramebufferSize,
     /// Number 4: the text has more than 4,096 bytes or is not UTF-8.
     TextEncoding,
@@ -28,6 +29,8 @@ pub enum Error {
     GlyphNotFound(char),
     /// Number 8: the font ends before the glyph for this character does.
     FontEnds(char),
+    /// Number 9: the framebuffer is packed, and a colour is neither 0 nor 1.
+    ColorNotSupported,
     /// The library answered with a status that this package has no name for. With the library that
     /// it was written for this does not happen: 255 stands for a code or a length that the package
     /// never hands over.
@@ -52,6 +55,7 @@ impl Error {
             6 => Self::BackgroundColorNotSupported,
             7 => Self::GlyphNotFound(refused),
             8 => Self::FontEnds(refused),
+            9 => Self::ColorNotSupported,
             _ => Self::UnknownStatus(status),
         }
     }
@@ -68,6 +72,7 @@ impl Error {
             Self::BackgroundColorNotSupported => 6,
             Self::GlyphNotFound(_) => 7,
             Self::FontEnds(_) => 8,
+            Self::ColorNotSupported => 9,
             Self::UnknownStatus(status) => status,
         }
     }
@@ -99,7 +104,7 @@ impl fmt::Display for Error {
                 "the font's header has a bit width off limits or a negative bounding box"
             }
             Self::FramebufferSize => {
-                "the framebuffer is not 1 to 256 pixels wide and high, \
+                "the framebuffer is not 1 to 256 pixels wide and high, packed not a multiple of 8 high, \
                  or its buffer has another length"
             }
             Self::TextEncoding => "the text has more than 4,096 bytes or is not UTF-8",
@@ -111,6 +116,7 @@ impl fmt::Display for Error {
             Self::FontEnds(ch) => {
                 return write!(f, "the font ends before the glyph for {} does", Named(ch));
             }
+            Self::ColorNotSupported => "the framebuffer is packed, and a colour is neither 0 nor 1",
             Self::UnknownStatus(status) => {
                 return write!(f, "the library answered with status {status}, unknown here");
             }
@@ -129,9 +135,10 @@ mod tests {
 
     #[test]
     fn a_status_is_its_number() {
-        for status in (1..=8).chain([9, 255, u32::MAX]) {
+        for status in (1..=9).chain([10, 255, u32::MAX]) {
             assert_eq!(Error::from_status(status, 65).number(), status);
         }
+        assert_eq!(Error::from_status(9, 0), Error::ColorNotSupported);
         assert_eq!(Error::from_status(255, 0), Error::UnknownStatus(255));
     }
 

@@ -22,7 +22,8 @@
 //! # fn main() -> Result<(), papayahelm::Error> {
 //! # let bytes = &BYTES;
 //! let font = FontRenderer::new_from_raw_data(bytes)?;
-//! let mut panel = Framebuffer { width: 32, height: 16, pixels: &mut [0; 32 * 16] };
+//! let mut pixels = [0; 32 * 16];
+//! let mut panel = Framebuffer::new(32, 16, &mut pixels);
 //! let place = Place::new(Point::new(2, 12), FontColor::Transparent(1));
 //!
 //! let mut shown = ""; // the text that stands: at first none
@@ -61,12 +62,43 @@
 //! # fn main() -> Result<(), papayahelm::Error> {
 //! # let bytes = &BYTES;
 //! let font = FontRenderer::new_from_raw_data(bytes)?;
-//! let mut panel = Framebuffer { width: 32, height: 16, pixels: &mut [0; 32 * 16] };
+//! let mut pixels = [0; 32 * 16];
+//! let mut panel = Framebuffer::new(32, 16, &mut pixels);
 //! let place = Place::new(Point::new(16, 12), FontColor::Transparent(1))
 //!     .with_horizontal_align(HorizontalAlignment::Center);
 //! let drawn = font.redraw("", "-4", place, &mut panel).into_result()?;
 //! let area = drawn.bounding_box.expect("it has pixels");
 //! assert_eq!((area.top_left.x, area.size.width), (14, 5)); // columns 14 to 18
+//! # Ok(())
+//! # }
+//! ```
+//!
+//! # Packed framebuffers
+//!
+//! A framebuffer has one byte a pixel. One that is packed has a byte for eight pixels of a column,
+//! the top one in bit 0, as the display controllers of small panels take it. Every call draws on
+//! either, and shows the same pixels on both; a packed one takes the colours 0 and 1:
+//!
+//! ```
+//! use papayahelm::{Error, FontColor, FontRenderer, Framebuffer, Point, VerticalPosition};
+//!
+//! # // Font T of the tests: "-" and "4".
+//! # const BYTES: [u8; 35] = [
+//! #     2, 0, 2, 2, 3, 3, 2, 3, 3, 2, 3, 0, 0, 3, 0, 3, 0, 0, 10, 0, 10, 0, 12,
+//! #     45, 5, 138, 62, 2, 52, 5, 146, 60, 73, 0, 0,
+//! # ];
+//! # fn main() -> Result<(), papayahelm::Error> {
+//! # let bytes = &BYTES;
+//! let font = FontRenderer::new_from_raw_data(bytes)?;
+//! let mut pixels = [0; 8];
+//! let mut panel = Framebuffer::packed(8, 8, &mut pixels);
+//! let (at, anchor) = (Point::new(0, 8), VerticalPosition::Baseline);
+//! font.render("-4", at, anchor, FontColor::Transparent(1), &mut panel).into_result()?;
+//! assert_eq!(panel.pixels, [32, 32, 0, 192, 128, 0, 0, 0]);
+//! assert_eq!(panel.pixel(Point::new(1, 5)), Some(1));
+//!
+//! let refused = font.render("-4", at, anchor, FontColor::Transparent(2), &mut panel);
+//! assert_eq!(refused.result, Err(Error::ColorNotSupported));
 //! # Ok(())
 //! # }
 //! ```
@@ -88,12 +120,14 @@
 //! # let bytes = &BYTES;
 //! let name = *b"-4\0\0\0\0\0\0";
 //! let font = FontRenderer::new_from_raw_data(bytes)?.with_ignore_unknown_chars(true);
-//! let mut panel = Framebuffer { width: 32, height: 16, pixels: &mut [0; 32 * 16] };
+//! let mut pixels = [0; 32 * 16];
+//! let mut panel = Framebuffer::new(32, 16, &mut pixels);
 //! let (at, color) = (Point::new(2, 12), FontColor::Transparent(1));
 //! let drawn = font.render(name, at, VerticalPosition::Baseline, color, &mut panel).into_result()?;
 //! let alone = font.get_rendered_dimensions("-4", at, VerticalPosition::Baseline);
 //! assert_eq!(drawn, alone.into_result()?);
-//! # let mut other = Framebuffer { width: 32, height: 16, pixels: &mut [0; 32 * 16] };
+//! # let mut pixels = [0; 32 * 16];
+//! # let mut other = Framebuffer::new(32, 16, &mut pixels);
 //! # font.render("-4", at, VerticalPosition::Baseline, color, &mut other).into_result()?;
 //! # assert_eq!(panel, other);
 //! # Ok(())
@@ -137,8 +171,8 @@
 //! # Limits
 //!
 //! The static library is for x86-64. A font has 23 to 1,048,576 bytes, a text up to 4,096 bytes of
-//! UTF-8. A framebuffer has one byte a pixel and is 1 to 256 pixels wide and high. What is beyond
-//! is refused, with nothing changed.
+//! UTF-8. A framebuffer is 1 to 256 pixels wide and high, a packed one a multiple of 8 high. What is
+//! beyond is refused, with nothing changed.
 //!
 //! # Linking
 //!
@@ -159,7 +193,7 @@ mod report;
 mod style;
 
 pub use error::Error;
-pub use framebuffer::Framebuffer;
+pub use framebuffer::{Framebuffer, PixelFormat};
 pub use geometry::{Point, Rectangle, RenderedDimensions, Size};
 pub use header::FontHeader;
 pub use renderer::{is_taken, standing, FontRenderer};

@@ -106,11 +106,12 @@ impl<'a> FontRenderer<'a> {
     /// Clears the old text and draws the new one, whole or not at all: the step from one reading to
     /// the next.
     ///
-    /// First the causes 1 to 6 are tested for both texts. If one applies, nothing changes. Then the
-    /// bounding box of the old text, if that is one that draws, is filled with
-    /// [`place.background`](Place::background). Then the new text is drawn if every one of its
-    /// characters draws; if not, nothing of it is drawn, and its refusal is the answer. The steps in
-    /// the report count each character of the new text once, and none of the old text.
+    /// First the causes 1 to 6 and 9 are tested for both texts, and 9 for
+    /// [`place.background`](Place::background) too. If one applies, nothing changes. Then the
+    /// bounding box of the old text, if that is one that draws, is filled with that value. Then the
+    /// new text is drawn if every one of its characters draws; if not, nothing of it is drawn, and
+    /// its refusal is the answer. The steps in the report count each character of the new text once,
+    /// and none of the old text.
     ///
     /// The old text is the one that the framebuffer shows or that was refused by number 7 or 8: at
     /// first the empty text, then what [`standing`] says. The font, the place and the framebuffer's
@@ -152,6 +153,7 @@ impl<'a> FontRenderer<'a> {
                 fg,
                 bg,
                 place.background,
+                framebuffer.format as u32,
                 framebuffer.width,
                 framebuffer.height,
                 framebuffer.pixels.as_mut_ptr(),
@@ -201,6 +203,7 @@ impl<'a> FontRenderer<'a> {
                 background,
                 fg,
                 bg,
+                framebuffer.format as u32,
                 framebuffer.width,
                 framebuffer.height,
                 framebuffer.pixels.as_mut_ptr(),
@@ -254,6 +257,7 @@ impl<'a> FontRenderer<'a> {
                 background,
                 fg,
                 bg,
+                framebuffer.format as u32,
                 framebuffer.width,
                 framebuffer.height,
                 framebuffer.pixels.as_mut_ptr(),

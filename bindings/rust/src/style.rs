@@ -29,6 +29,8 @@ pub enum HorizontalAlignment {
 }
 
 /// The values that a text's pixels take: one byte each, with whatever meaning the display gives it.
+/// On a packed framebuffer they are 0 and 1:
+/// [`Error::ColorNotSupported`](crate::Error::ColorNotSupported).
 #[derive(Clone, Copy, Debug, PartialEq, Eq, Hash)]
 pub enum FontColor {
     /// The glyphs' own pixels take this value; those between them stay as they were.

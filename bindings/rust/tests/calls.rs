@@ -2,8 +2,8 @@
 
 use papayahelm::{
     is_taken, standing, Error, FontColor, FontHeader, FontRenderer, Framebuffer,
-    HorizontalAlignment, LookupSteps, Place, Point, Rectangle, RenderedDimensions, Report, Size,
-    VerticalPosition,
+    HorizontalAlignment, LookupSteps, PixelFormat, Place, Point, Rectangle, RenderedDimensions,
+    Report, Size, VerticalPosition,
 };
 
 /// "-" (2 × 1 pixels) and "4" (2 × 2), line height 4, no background colour.
@@ -180,7 +180,8 @@ fn line_height_and_skipping_are_settings() {
     let aligned =
         skipping.get_rendered_dimensions_aligned("-A4", HERE, VerticalPosition::Baseline, left);
     assert_eq!(aligned.result, Ok(Some(area(10, 17, 5, 3))));
-    let mut panel = Framebuffer { width: 8, height: 8, pixels: &mut [0; 64] };
+    let mut pixels = [0; 64];
+    let mut panel = Framebuffer::new(8, 8, &mut pixels);
     let drawn =
         skipping.render("-A4", Point::new(0, 7), VerticalPosition::Baseline, INK, &mut panel);
     assert_eq!(drawn.result, Ok(dimensions((6, 0), Some(area(0, 4, 5, 3)))));
@@ -207,7 +208,8 @@ fn a_constant_font_is_not_looked_at() {
 
 #[test]
 fn renders() {
-    let mut panel = Framebuffer { width: 6, height: 5, pixels: &mut [0; 30] };
+    let mut pixels = [0; 30];
+    let mut panel = Framebuffer::new(6, 5, &mut pixels);
     let answer =
         font(T).render("-4", Point::new(0, 4), VerticalPosition::Baseline, INK, &mut panel);
     assert_eq!(answer.result, Ok(dimensions((6, 0), Some(area(0, 1, 5, 3)))));
@@ -225,7 +227,8 @@ fn renders() {
     assert_eq!(picture(&panel), ["000000", "110000", "012100", "011110", "000000"]);
 
     // a part that is seen, and none
-    let mut panel = Framebuffer { width: 3, height: 2, pixels: &mut [0; 6] };
+    let mut pixels = [0; 6];
+    let mut panel = Framebuffer::new(3, 2, &mut pixels);
     let answer =
         font(T).render("4", Point::new(-1, 1), VerticalPosition::Baseline, INK, &mut panel);
     assert_eq!(
@@ -242,7 +245,8 @@ fn renders() {
 fn renders_aligned() {
     let at = Point::new(5, 0);
     let drawn = |text: &str, align, color, bytes: &[u8]| {
-        let mut panel = Framebuffer { width: 10, height: 8, pixels: &mut [0; 80] };
+        let mut pixels = [0; 80];
+        let mut panel = Framebuffer::new(10, 8, &mut pixels);
         let answer =
             font(bytes).render_aligned(text, at, VerticalPosition::Top, align, color, &mut panel);
         let measured =
@@ -298,7 +302,8 @@ fn renders_aligned() {
 #[test]
 fn a_refused_line_is_not_begun() {
     let drawn = |bytes: &[u8], text: &str, align| {
-        let mut panel = Framebuffer { width: 16, height: 25, pixels: &mut [0; 16 * 25] };
+        let mut pixels = [0; 16 * 25];
+        let mut panel = Framebuffer::new(16, 25, &mut pixels);
         let anchor = VerticalPosition::Baseline;
         let answer = font(bytes).render_aligned(text, HERE, anchor, align, INK, &mut panel);
         let set = |(at, pixel): (usize, &u8)| (*pixel == 1).then_some((at % 16, at / 16));
@@ -332,7 +337,8 @@ fn text_is_a_string_or_bytes() {
     assert_eq!(measure(&string.as_bytes()), measure(&b"-12.5\xC2\xB0"));
     assert_eq!(measure(&b"-12.5\xC2").result, Err(Error::TextEncoding));
     let place = Place::new(HERE, INK);
-    let mut panel = Framebuffer { width: 64, height: 32, pixels: &mut [0; 64 * 32] };
+    let mut pixels = [0; 64 * 32];
+    let mut panel = Framebuffer::new(64, 32, &mut pixels);
     assert!(font(GAUGE).redraw(b"", &string, place, &mut panel).result.is_ok());
     assert!(font(GAUGE).redraw(string, vec![b'7'], place, &mut panel).result.is_ok());
 }
@@ -347,12 +353,13 @@ fn redraws() {
     };
     let alone = |text: &str| {
         let mut pixels = [3; 12 * 8];
-        let mut panel = Framebuffer { width: 12, height: 8, pixels: &mut pixels };
+        let mut panel = Framebuffer::new(12, 8, &mut pixels);
         let answer =
             font(T).render(text, place.position, place.vertical_pos, place.color, &mut panel);
         (answer, pixels)
     };
-    let mut panel = Framebuffer { width: 12, height: 8, pixels: &mut [3; 12 * 8] };
+    let mut pixels = [3; 12 * 8];
+    let mut panel = Framebuffer::new(12, 8, &mut pixels);
     let mut shown = "";
     for text in ["-4-", "4", "", "4-", "-5", "-", "45-", "44"] {
         let answer = font(T).redraw(shown, text, place, &mut panel);
@@ -388,11 +395,13 @@ fn redraws_aligned() {
             ..Place::new(Point::new(8, 1), INK).with_horizontal_align(align)
         };
         assert_eq!(place.horizontal_align, align);
-        let mut panel = Framebuffer { width: 20, height: 10, pixels: &mut [3; 20 * 10] };
+        let mut pixels = [3; 20 * 10];
+        let mut panel = Framebuffer::new(20, 10, &mut pixels);
         let mut shown = "";
         for text in ["-4-", "4", "-\n4-4", "", "44-\n-", "4-5", "-"] {
             let answer = font(T).redraw(shown, text, place, &mut panel);
-            let mut alone = Framebuffer { width: 20, height: 10, pixels: &mut [3; 20 * 10] };
+            let mut pixels = [3; 20 * 10];
+            let mut alone = Framebuffer::new(20, 10, &mut pixels);
             let expected =
                 font(T).render_aligned(text, place.position, anchor, align, INK, &mut alone);
             assert_eq!(answer.result.map(|drawn| drawn.bounding_box), expected.result);
@@ -413,7 +422,8 @@ fn redraws_aligned() {
 
 #[test]
 fn redraws_with_a_background_colour() {
-    let mut panel = Framebuffer { width: 4, height: 4, pixels: &mut [0; 16] };
+    let mut pixels = [0; 16];
+    let mut panel = Framebuffer::new(4, 4, &mut pixels);
     let bytes = changed(1, 1);
     let place = Place::new(Point::new(0, 3), INK_ON_PAPER);
     assert!(font(&bytes).redraw("", "4", place, &mut panel).result.is_ok());
@@ -425,7 +435,7 @@ fn redraws_with_a_background_colour() {
 #[test]
 fn framebuffers_by_their_pixels() {
     let mut pixels = [0, 1, 2, 3, 4, 5];
-    let panel = Framebuffer { width: 3, height: 2, pixels: &mut pixels };
+    let panel = Framebuffer::new(3, 2, &mut pixels);
     assert!(panel.rows().eq([&[0, 1, 2], &[3, 4, 5]]));
     assert_eq!(panel.bounding_box(), area(0, 0, 3, 2));
     assert_eq!(panel.pixel(Point::new(2, 1)), Some(5));
@@ -434,10 +444,78 @@ fn framebuffers_by_their_pixels() {
     }
     // sizes that no call takes
     for (width, height) in [(0, 2), (3, 0), (usize::MAX, usize::MAX), (7, 1)] {
-        let panel = Framebuffer { width, height, pixels: &mut pixels };
+        let panel = Framebuffer::new(width, height, &mut pixels);
         assert_eq!((panel.rows().count(), panel.pixel(Point::new(0, 0))), (0, None));
         assert_eq!(panel.bounding_box().size.width, u32::try_from(width).unwrap_or(u32::MAX));
     }
+}
+
+/// What is drawn on a packed framebuffer is what is drawn on one of bytes.
+#[test]
+fn packed_framebuffers_show_the_same() {
+    let (at, anchor) = (Point::new(0, 8), VerticalPosition::Baseline);
+    let mut pixels = [0; 8];
+    let mut panel = Framebuffer::packed(8, 8, &mut pixels);
+    let answer = font(T).render("-4", at, anchor, INK, &mut panel);
+    assert_eq!(answer.result, Ok(dimensions((6, 0), Some(area(0, 5, 5, 3)))));
+    assert_eq!(panel.pixels, [32, 32, 0, 192, 128, 0, 0, 0]);
+
+    const WIDTH: usize = 11;
+    const HEIGHT: usize = 24;
+    let whole = |panel: &Framebuffer| -> Vec<u8> {
+        let points = (0..HEIGHT).flat_map(|y| (0..WIDTH).map(move |x| (x as i32, y as i32)));
+        points.map(|(x, y)| panel.pixel(Point::new(x, y)).unwrap()).collect()
+    };
+    let background = changed(1, 1);
+    let font = font(&background);
+    let on = |fg, bg| FontColor::WithBackground { fg, bg };
+    for color in [INK, FontColor::Transparent(0), on(1, 0), on(0, 1)] {
+        for align in ALIGNS {
+            for (x, y) in (-2..30).map(|y| (y % 13, y)) {
+                let at = Point::new(x, y);
+                let mut bytes = [0; WIDTH * HEIGHT / 8];
+                for (i, byte) in bytes.iter_mut().enumerate() {
+                    *byte = (i * 37) as u8;
+                }
+                let mut panel = Framebuffer::packed(WIDTH, HEIGHT, &mut bytes);
+                let mut pixels = whole(&panel);
+                let mut other = Framebuffer::new(WIDTH, HEIGHT, &mut pixels);
+                let text = "-4\n4-4";
+                let drawn = font.render(text, at, anchor, color, &mut panel);
+                assert_eq!(drawn, font.render(text, at, anchor, color, &mut other));
+                assert_eq!(whole(&panel), other.pixels, "{text:?} {color:?} {at:?}");
+                let text = "4-\n-";
+                let drawn = font.render_aligned(text, at, anchor, align, color, &mut panel);
+                assert_eq!(drawn, font.render_aligned(text, at, anchor, align, color, &mut other));
+                assert_eq!(whole(&panel), other.pixels, "{text:?} {color:?} {at:?}");
+                let place = Place::new(at, color).with_horizontal_align(align);
+                for background in 0..2 {
+                    let place = Place { background, ..place };
+                    let drawn = font.redraw("-4-\n4", "4-", place, &mut panel);
+                    assert_eq!(drawn, font.redraw("-4-\n4", "4-", place, &mut other));
+                    assert_eq!(whole(&panel), other.pixels, "{color:?} {at:?} {background}");
+                }
+            }
+        }
+    }
+}
+
+#[test]
+fn packed_framebuffers_by_their_pixels() {
+    let mut bytes = [1, 2, 4, 128, 255, 0];
+    let panel = Framebuffer::packed(3, 16, &mut bytes);
+    assert_eq!(panel.format, PixelFormat::Packed);
+    assert!(panel.rows().eq([&[1, 2, 4], &[128, 255, 0]]));
+    assert_eq!(panel.bounding_box(), area(0, 0, 3, 16));
+    for y in 0..16 {
+        let row = [0, 1, 2].map(|x| panel.pixel(Point::new(x, y)));
+        let expected = [y == 0 || y == 15, y == 1 || y > 7, y == 2].map(u8::from);
+        assert_eq!(row, expected.map(Some), "{y}");
+    }
+    for (x, y) in [(3, 0), (0, 16), (-1, 0), (0, -1), (i32::MIN, i32::MAX)] {
+        assert_eq!(panel.pixel(Point::new(x, y)), None);
+    }
+    assert_eq!(PixelFormat::default(), PixelFormat::Bytes);
 }
 
 /// What a call on a text is handed. A test changes what it is about.
@@ -450,6 +528,8 @@ struct Input<'a> {
     at: Point,
     align: HorizontalAlignment,
     color: FontColor,
+    background: u8,
+    format: PixelFormat,
     size: (usize, usize),
     bytes: usize,
 }
@@ -462,9 +542,14 @@ const PLAIN: Input = Input {
     at: Point::new(1, 5),
     align: HorizontalAlignment::Left,
     color: INK,
+    background: 3,
+    format: PixelFormat::Bytes,
     size: (8, 8),
     bytes: 64,
 };
+
+/// The same on a packed framebuffer.
+const PACKED: Input = Input { background: 0, format: PixelFormat::Packed, bytes: 8, ..PLAIN };
 
 #[derive(Clone, Copy, PartialEq, Debug)]
 enum Call {
@@ -501,10 +586,11 @@ fn reported(call: Call, input: &Input) -> (Report<()>, Vec<u8>) {
         .with_ignore_unknown_chars(input.skip);
     let anchor = VerticalPosition::Baseline;
     let align = input.align;
-    let place =
-        Place { background: 3, ..Place::new(input.at, input.color) }.with_horizontal_align(align);
+    let place = Place { background: input.background, ..Place::new(input.at, input.color) }
+        .with_horizontal_align(align);
     let mut pixels = vec![9; input.bytes];
-    let mut panel = Framebuffer { width: input.size.0, height: input.size.1, pixels: &mut pixels };
+    let (format, (width, height)) = (input.format, input.size);
+    let mut panel = Framebuffer { format, width, height, pixels: &mut pixels };
     let report = match call {
         Call::Measure => plain(font.get_rendered_dimensions(input.text, input.at, anchor)),
         Call::MeasureAligned => {
@@ -527,13 +613,14 @@ fn refusal(call: Call, input: &Input) -> (Option<Error>, Vec<u8>) {
     (report.result.err(), pixels)
 }
 
-/// Each of the calls is refused so, with each alignment. After the first six numbers no pixel has
-/// changed; only with 7 are the lookups counted.
+/// Each of the calls is refused so, with each alignment. But after 7 and 8 no pixel has changed;
+/// only with 7 are the lookups counted.
 fn refused(calls: &[Call], input: &Input, error: Error) {
     for (call, align) in calls.iter().flat_map(|call| ALIGNS.map(|align| (call, align))) {
         let (found, pixels) = reported(*call, &Input { align, ..*input });
         assert_eq!(found.result, Err(error), "{call:?} {align:?}");
-        assert!(error.number() > 6 || pixels.iter().all(|pixel| *pixel == 9), "{call:?} {align:?}");
+        let late = matches!(error, Error::GlyphNotFound(_) | Error::FontEnds(_));
+        assert!(late || pixels.iter().all(|pixel| *pixel == 9), "{call:?} {align:?}");
         assert!(error.number() == 7 || found.steps == LookupSteps::default(), "{call:?} {align:?}");
     }
 }
@@ -542,6 +629,7 @@ fn refused(calls: &[Call], input: &Input, error: Error) {
 fn nothing_is_refused_without_a_cause() {
     for call in ON_TEXTS {
         assert_eq!(refusal(*call, &PLAIN).0, None, "{call:?}");
+        assert_eq!(refusal(*call, &PACKED).0, None, "{call:?}");
     }
 }
 
@@ -580,6 +668,20 @@ fn refuses_3_framebuffer_size() {
     for bytes in [0, 63, 65] {
         refused(DRAWING, &Input { bytes, ..PLAIN }, Error::FramebufferSize);
     }
+    for size in [(0, 8), (8, 0), (257, 8), (8, 264), (8, 16), (usize::MAX, usize::MAX)] {
+        refused(DRAWING, &Input { size, ..PACKED }, Error::FramebufferSize);
+    }
+    for bytes in [0, 7, 9, 64] {
+        refused(DRAWING, &Input { bytes, ..PACKED }, Error::FramebufferSize);
+    }
+    // a height that is no multiple of 8, whatever the buffer's length
+    for bytes in 0..97 {
+        refused(DRAWING, &Input { bytes, size: (8, 12), ..PACKED }, Error::FramebufferSize);
+    }
+    let tall = Input { bytes: 96, size: (8, 12), ..PLAIN };
+    for call in DRAWING {
+        assert_eq!(refusal(*call, &tall).0, None, "{call:?}");
+    }
 }
 
 #[test]
@@ -600,6 +702,8 @@ fn refuses_5_position_or_line_height() {
 #[test]
 fn refuses_6_background_color_not_supported() {
     refused(DRAWING, &Input { color: INK_ON_PAPER, ..PLAIN }, Error::BackgroundColorNotSupported);
+    let color = FontColor::WithBackground { fg: 1, bg: 0 };
+    refused(DRAWING, &Input { color, ..PACKED }, Error::BackgroundColorNotSupported);
 }
 
 #[test]
@@ -634,6 +738,40 @@ fn refuses_8_font_ends() {
     refused(DRAWING_LETTERS, &runs, Error::FontEnds('4'));
     assert!(!refusal(Call::RedrawNew, &runs).1.contains(&1));
     assert_eq!(refusal(Call::RedrawOld, &runs).0, None);
+}
+
+#[test]
+fn refuses_9_color_not_supported() {
+    let on = |fg, bg| FontColor::WithBackground { fg, bg };
+    let background = changed(1, 1);
+    for color in [FontColor::Transparent(2), FontColor::Transparent(255), on(2, 0), on(0, 2)] {
+        // before 6, and with a text that draws nothing
+        for font in [&T[..], &background] {
+            for text in [&b"-"[..], b"", b"A"] {
+                let input = Input { font, text, color, ..PACKED };
+                refused(DRAWING, &input, Error::ColorNotSupported);
+            }
+        }
+        // in bytes every colour is one
+        for call in DRAWING {
+            let input = Input { font: &background, color, background: 2, ..PLAIN };
+            assert_eq!(refusal(*call, &input).0, None, "{call:?}");
+        }
+    }
+    for color in [INK, FontColor::Transparent(0), on(0, 1), on(1, 1)] {
+        for call in DRAWING {
+            let input = Input { font: &background, color, background: 1, ..PACKED };
+            assert_eq!(refusal(*call, &input).0, None, "{call:?}");
+        }
+    }
+    // what clears is a colour too
+    const STEPS: &[Call] = DRAWING.split_at(2).1;
+    for color in [INK, on(1, 0)] {
+        let input = Input { color, background: 2, ..PACKED };
+        refused(STEPS, &input, Error::ColorNotSupported);
+    }
+    assert_eq!(refusal(Call::Render, &Input { background: 2, ..PACKED }).0, None);
+    assert_eq!(Error::ColorNotSupported.character(), None);
 }
 
 /// What a text brings in the lookups, by each call on it and with each alignment.
@@ -716,7 +854,7 @@ fn names_padded_with_nul() {
     let measured = |font: FontRenderer, text: &str| font.get_rendered_dimensions(text, at, anchor);
     let drawn = |font: FontRenderer, text: &str| {
         let mut pixels = blank;
-        let mut panel = Framebuffer { width: 64, height: 32, pixels: &mut pixels };
+        let mut panel = Framebuffer::new(64, 32, &mut pixels);
         (font.render(text, at, anchor, INK, &mut panel), pixels)
     };
     let measured_aligned = |font: FontRenderer, text: &str, align| {
@@ -724,7 +862,7 @@ fn names_padded_with_nul() {
     };
     let drawn_aligned = |font: FontRenderer, text: &str, align| {
         let mut pixels = blank;
-        let mut panel = Framebuffer { width: 64, height: 32, pixels: &mut pixels };
+        let mut panel = Framebuffer::new(64, 32, &mut pixels);
         (font.render_aligned(text, at, anchor, align, INK, &mut panel), pixels)
     };
     // behind its last record T has bytes that read as a glyph
@@ -767,14 +905,16 @@ fn names_padded_with_nul() {
 fn redraws_names_without_their_padding() {
     let skipping = font(T).with_ignore_unknown_chars(true);
     let place = Place::new(Point::new(1, 5), INK);
-    let mut panel = Framebuffer { width: 16, height: 8, pixels: &mut [0; 16 * 8] };
+    let mut pixels = [0; 16 * 8];
+    let mut panel = Framebuffer::new(16, 8, &mut pixels);
     let mut shown = "";
     for padded in ["-4\0\0\0\0\0\0", "4\0\0\0\0\0\0\0", "-4-4\0\0\0\0", "\0\0\0\0\0\0\0\0"] {
         let name = padded.trim_end_matches('\0');
         let answer = skipping.redraw(shown, name, place, &mut panel);
         assert!(answer.result.is_ok());
         shown = standing(&answer, shown, name);
-        let mut alone = Framebuffer { width: 16, height: 8, pixels: &mut [0; 16 * 8] };
+        let mut pixels = [0; 16 * 8];
+        let mut alone = Framebuffer::new(16, 8, &mut pixels);
         let drawn =
             skipping.render(padded, place.position, place.vertical_pos, INK, &mut alone).result;
         assert_eq!((answer.result, &panel), (drawn, &alone), "{name}");
@@ -787,7 +927,7 @@ fn redraws_names_without_their_padding() {
     assert!(is_taken(&answer) && panel.pixels.iter().all(|pixel| *pixel == 0));
 }
 
-/// The causes are tested in the order of their numbers.
+/// The causes are tested in this order: 1, 2, 3, 4, 5, 9, 6, then 7 and 8.
 #[test]
 fn the_first_cause_is_the_answer() {
     let header = changed(4, 9);
@@ -799,6 +939,8 @@ fn the_first_cause_is_the_answer() {
         at: HERE,
         align: HorizontalAlignment::Left,
         color: INK_ON_PAPER,
+        background: 2,
+        format: PixelFormat::Packed,
         size: (0, 0),
         bytes: 1,
     };
@@ -807,11 +949,13 @@ fn the_first_cause_is_the_answer() {
     refused(DRAWING, &all, Error::FontHeader);
     let all = Input { font: T, ..all };
     refused(DRAWING, &all, Error::FramebufferSize);
-    let all = Input { size: (1, 1), ..all };
+    let all = Input { size: (1, 8), ..all };
     refused(DRAWING, &all, Error::TextEncoding);
     let all = Input { text: b"A", ..all };
     refused(DRAWING, &all, Error::PositionOrLineHeight);
     let all = Input { line_height: 4, ..all };
+    refused(DRAWING, &all, Error::ColorNotSupported);
+    let all = Input { color: FontColor::WithBackground { fg: 1, bg: 0 }, background: 0, ..all };
     refused(DRAWING, &all, Error::BackgroundColorNotSupported);
     refused(DRAWING_LETTERS, &Input { color: INK, ..all }, Error::GlyphNotFound('A'));
 }
@@ -823,7 +967,7 @@ fn refusals_are_errors_in_words() {
     }
     let header = "the font's header has a bit width off limits or a negative bounding box";
     let framebuffer = "the framebuffer is not 1 to 256 pixels wide and high, \
-                       or its buffer has another length";
+                       packed not a multiple of 8 high, or its buffer has another length";
     let position = "x or y is beyond ±1,048,576, or the line height above 65,535";
     let ends = "the font ends before the glyph for '\\u{10ffff}' (U+10FFFF) does";
     let all = [
@@ -835,11 +979,12 @@ fn refusals_are_errors_in_words() {
         (Error::BackgroundColorNotSupported, "the font allows no background colour"),
         (Error::GlyphNotFound('5'), "the font has no glyph for '5' (U+0035)"),
         (Error::FontEnds('\u{10FFFF}'), ends),
+        (Error::ColorNotSupported, "the framebuffer is packed, and a colour is neither 0 nor 1"),
     ];
     for (i, (error, expected)) in all.into_iter().enumerate() {
         assert_eq!(words(error), expected);
         assert_eq!(error.number() as usize, i + 1);
-        assert_eq!(error.character().is_some(), i > 5);
+        assert_eq!(error.character().is_some(), i == 6 || i == 7);
     }
     assert_eq!(Error::GlyphNotFound('5').character(), Some('5'));
 }

@@ -28,10 +28,12 @@ pub fn hand_over<D: DrawTarget>(
     if width == 0 || height == 0 {
         return Ok(());
     }
-    let rows = framebuffer.rows().skip(top).take(height);
-    let pixels = rows.flat_map(|row| row.iter().skip(left).take(width));
     // A framebuffer has up to 256 columns and rows, so that no cast loses anything.
-    let area =
-        Rectangle::new(Point::new(left as i32, top as i32), Size::new(width as u32, height as u32));
-    display.fill_contiguous(&area, pixels.map(|pixel| color_of(*pixel)))
+    let (left, top) = (left as i32, top as i32);
+    let (right, bottom) = (left + width as i32, top + height as i32);
+    let points =
+        (top..bottom).flat_map(|y| (left..right).map(move |x| papayahelm::Point::new(x, y)));
+    let pixels = points.filter_map(|at| framebuffer.pixel(at));
+    let area = Rectangle::new(Point::new(left, top), Size::new(width as u32, height as u32));
+    display.fill_contiguous(&area, pixels.map(color_of))
 }

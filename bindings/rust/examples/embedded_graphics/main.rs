@@ -80,7 +80,7 @@ fn main() -> Result<(), Box<dyn std::error::Error>> {
     // The reading stands a pixel off the panel's left edge, where a part of it is not seen.
     let place = Place::new(Point::new(-1, 8), FontColor::Transparent(1));
     let mut pixels = [0; WIDTH * HEIGHT];
-    let framebuffer = Framebuffer { width: WIDTH, height: HEIGHT, pixels: &mut pixels };
+    let framebuffer = Framebuffer::new(WIDTH, HEIGHT, &mut pixels);
     // What the display shows before is not known.
     let panel = Panel { pixels: [[BinaryColor::On; WIDTH]; HEIGHT], count: 0 };
     let mut screen = Screen::new(font, place, framebuffer, panel, color_of)?;
