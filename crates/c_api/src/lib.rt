@@ -7,12 +7,11 @@
 
 ghost use Rattle.std.specs.Prelude.{◌≡◌, length};
 ghost use Rattle.definitions.specs.Font.{u8g2};
-ghost use Rattle.definitions.specs.Framebuffer.{sized};
 ghost use Rattle.definitions.specs.Calls.{open_font, font_bounding_box, request, plain, measure, measure_aligned};
 ghost use Rattle.definitions.specs.Calls.{draw, draw_buffer, draw_aligned};
 ghost use Rattle.redraw_checks.specs.Drawing.{asked, ground_of};
 ghost use Rattle.redraw.specs.Redraw.{redrawn, redrawn_buffer};
-ghost use Rattle.c_codes.specs.Codes.{meaning_of, ink_of, placed_by};
+ghost use Rattle.c_codes.specs.Codes.{meaning_of, ink_of, placed_by, framebuffer_of};
 ghost use Rattle.c_values.specs.Replies.{Answers, drawn_by, box_reply, text_reply, aligned_reply, with_sums, without_steps};
 ghost use Rattle.c_values.specs.Headers.{Opens};
 ghost use Rattle.c_api.specs.Places.{place_by};
@@ -27,7 +26,6 @@ use measuring::rendered_dimensions_aligned::get_rendered_dimensions_aligned;
 use redraw::reading::redraw;
 use renderer::render::render;
 use renderer::render_aligned::render_aligned;
-use types::framebuffer::Framebuffer;
 use types::geometry::Point;
 use types::place::Place;
 use types::steps::LookupSteps;
@@ -55,11 +53,11 @@ pub extern "C" fn papayahelm_open(font: &[u8], out: &mut [i64]) -> u32
 // The bounding box of all of the font's glyphs.
 #[unsafe(no_mangle)]
 pub extern "C" fn papayahelm_font_box(font: &[u8], anchor: u32, out: &mut [i64]) -> u32
-    ensures { Answers (meaning_of anchor 0 0 0 (length out.old))
+    ensures { Answers (meaning_of anchor 0 0 0 0 (length out.old))
         (λ m. without_steps (box_reply (font_bounding_box font.now m.vertical_pos))) result out.old
         out.new }
 {
-    let Some(m) = known_codes(anchor, 0, 0, 0, out.len()) else {
+    let Some(m) = known_codes(anchor, 0, 0, 0, 0, out.len()) else {
         return BAD_ARGUMENT;
     };
     let result = get_font_bounding_box(font, m.vertical_pos);
@@ -78,12 +76,12 @@ pub extern "C" fn papayahelm_measure(
     skip: u32,
     out: &mut [i64],
 ) -> u32
-    ensures { Answers (meaning_of anchor 0 skip 0 (length out.old))
+    ensures { Answers (meaning_of anchor 0 skip 0 0 (length out.old))
         (λ m. with_sums font.now text.now text_reply (measure (u8g2 font.now)
         (plain text.now (placed_by m x y line_height) m.vertical_pos))) result out.old
         out.new }
 {
-    let Some(m) = known_codes(anchor, 0, skip, 0, out.len()) else {
+    let Some(m) = known_codes(anchor, 0, skip, 0, 0, out.len()) else {
         return BAD_ARGUMENT;
     };
     let placement = m.placement(x, y, line_height);
@@ -104,12 +102,12 @@ pub extern "C" fn papayahelm_measure_aligned(
     skip: u32,
     out: &mut [i64],
 ) -> u32
-    ensures { Answers (meaning_of anchor align skip 0 (length out.old))
+    ensures { Answers (meaning_of anchor align skip 0 0 (length out.old))
         (λ m. with_sums font.now text.now aligned_reply (measure_aligned (u8g2 font.now)
         (request text.now (placed_by m x y line_height) m.vertical_pos m.horizontal_align))) result
         out.old out.new }
 {
-    let Some(m) = known_codes(anchor, align, skip, 0, out.len()) else {
+    let Some(m) = known_codes(anchor, align, skip, 0, 0, out.len()) else {
         return BAD_ARGUMENT;
     };
     let placement = m.placement(x, y, line_height);
@@ -123,7 +121,7 @@ pub extern "C" fn papayahelm_measure_aligned(
     store(out, Reply::of(report.result), report.steps)
 }
 
-// Draws a text into the buffer, one byte a pixel.
+// Draws a text into the buffer.
 #[unsafe(no_mangle)]
 pub extern "C" fn papayahelm_draw(
     font: &[u8],
@@ -136,25 +134,26 @@ pub extern "C" fn papayahelm_draw(
     background: u32,
     fg: u8,
     bg: u8,
+    format: u32,
     width: usize,
     height: usize,
     buffer: &mut [u8],
     out: &mut [i64],
 ) -> u32
-    ensures answered { Answers (meaning_of anchor 0 skip background (length out.old))
+    ensures answered { Answers (meaning_of anchor 0 skip background format (length out.old))
         (λ m. with_sums font.now text.now text_reply (draw (u8g2 font.now)
         (plain text.now (placed_by m x y line_height) m.vertical_pos) (ink_of m.background fg bg)
-        (sized width height) buffer.old)) result out.old out.new }
-    ensures shown { buffer.new ≡ drawn_by (meaning_of anchor 0 skip background (length out.old))
+        (framebuffer_of m width height) buffer.old)) result out.old out.new }
+    ensures shown { buffer.new ≡ drawn_by (meaning_of anchor 0 skip background format (length out.old))
         (λ m. draw_buffer (u8g2 font.now) (plain text.now (placed_by m x y line_height)
-        m.vertical_pos) (ink_of m.background fg bg) (sized width height) buffer.old) buffer.old }
+        m.vertical_pos) (ink_of m.background fg bg) (framebuffer_of m width height) buffer.old) buffer.old }
 {
-    let Some(m) = known_codes(anchor, 0, skip, background, out.len()) else {
+    let Some(m) = known_codes(anchor, 0, skip, background, format, out.len()) else {
         return BAD_ARGUMENT;
     };
     let style = m.style(fg, bg);
     let placement = m.placement(x, y, line_height);
-    let framebuffer = Framebuffer { width, height };
+    let framebuffer = m.framebuffer(width, height);
     let report = render(font, text, placement, style, framebuffer, buffer);
     store(out, Reply::of(report.result), report.steps)
 }
@@ -173,26 +172,27 @@ pub extern "C" fn papayahelm_draw_aligned(
     background: u32,
     fg: u8,
     bg: u8,
+    format: u32,
     width: usize,
     height: usize,
     buffer: &mut [u8],
     out: &mut [i64],
 ) -> u32
-    ensures answered { Answers (meaning_of anchor align skip background (length out.old))
+    ensures answered { Answers (meaning_of anchor align skip background format (length out.old))
         (λ m. with_sums font.now text.now aligned_reply (draw_aligned (u8g2 font.now)
         (request text.now (placed_by m x y line_height) m.vertical_pos m.horizontal_align)
-        (ink_of m.background fg bg) (sized width height) buffer.old)) result out.old out.new }
-    ensures shown { buffer.new ≡ drawn_by (meaning_of anchor align skip background (length out.old))
+        (ink_of m.background fg bg) (framebuffer_of m width height) buffer.old)) result out.old out.new }
+    ensures shown { buffer.new ≡ drawn_by (meaning_of anchor align skip background format (length out.old))
         (λ m. draw_buffer (u8g2 font.now) (request text.now (placed_by m x y line_height)
-        m.vertical_pos m.horizontal_align) (ink_of m.background fg bg) (sized width height)
+        m.vertical_pos m.horizontal_align) (ink_of m.background fg bg) (framebuffer_of m width height)
         buffer.old) buffer.old }
 {
-    let Some(m) = known_codes(anchor, align, skip, background, out.len()) else {
+    let Some(m) = known_codes(anchor, align, skip, background, format, out.len()) else {
         return BAD_ARGUMENT;
     };
     let style = m.style(fg, bg);
     let placement = m.placement(x, y, line_height);
-    let framebuffer = Framebuffer { width, height };
+    let framebuffer = m.framebuffer(width, height);
     let report = render_aligned(
         font,
         text,
@@ -220,24 +220,25 @@ pub extern "C" fn papayahelm_redraw(
     fg: u8,
     bg: u8,
     clear_color: u8,
+    format: u32,
     width: usize,
     height: usize,
     buffer: &mut [u8],
     out: &mut [i64],
 ) -> u32
-    ensures answered { Answers (meaning_of anchor align 0 background (length out.old))
+    ensures answered { Answers (meaning_of anchor align 0 background format (length out.old))
         (λ m. with_sums font.now new_text.now text_reply (redrawn font.now
         old_text.now
-        (asked (place_by m x y line_height fg bg clear_color (sized width height)) new_text.now)
-        (ground_of (place_by m x y line_height fg bg clear_color (sized width height)) buffer.old))) result
+        (asked (place_by m x y line_height fg bg clear_color (framebuffer_of m width height)) new_text.now)
+        (ground_of (place_by m x y line_height fg bg clear_color (framebuffer_of m width height)) buffer.old))) result
         out.old out.new }
-    ensures shown { buffer.new ≡ drawn_by (meaning_of anchor align 0 background (length out.old))
+    ensures shown { buffer.new ≡ drawn_by (meaning_of anchor align 0 background format (length out.old))
         (λ m. redrawn_buffer font.now old_text.now
-        (asked (place_by m x y line_height fg bg clear_color (sized width height)) new_text.now) clear_color
-        (ground_of (place_by m x y line_height fg bg clear_color (sized width height)) buffer.old))
+        (asked (place_by m x y line_height fg bg clear_color (framebuffer_of m width height)) new_text.now) clear_color
+        (ground_of (place_by m x y line_height fg bg clear_color (framebuffer_of m width height)) buffer.old))
         buffer.old }
 {
-    let Some(m) = known_codes(anchor, align, 0, background, out.len()) else {
+    let Some(m) = known_codes(anchor, align, 0, background, format, out.len()) else {
         return BAD_ARGUMENT;
     };
     let style = m.style(fg, bg);
@@ -247,7 +248,7 @@ pub extern "C" fn papayahelm_redraw(
         horizontal_align: m.horizontal_align,
         line_height,
         background: clear_color,
-        framebuffer: Framebuffer { width, height },
+        framebuffer: m.framebuffer(width, height),
     };
     let report = redraw(font, old_text, new_text, place, buffer);
     store(out, Reply::of(report.result), report.steps)
