@@ -1,9 +1,9 @@
 -- A case's sixteen numbers, of four bytes each, in the order of the file.
-use Rattle.std.specs.Prelude.{◌≡◌, Bool, Option, Some, None, ℕ, zero, suc, ◌*◌, ◌≤◌, ◌<◌, ◌%◌, List, length, take, drop, ℤ, eqb, leb, Result, Ok, Err}
+use Rattle.std.specs.Prelude.{◌≡◌, Bool, Option, Some, None, ℕ, zero, suc, ◌*◌, ◌≤◌, ◌<◌, ◌/◌, ◌%◌, List, length, take, drop, ℤ, eqb, leb, Result, Ok, Err}
 use Rattle.std.specs.Int.{w32, from_le_bytes, cast_signed}
 use Rattle.integers.specs.Integers.{pick}
 use Rattle.definitions.specs.Vocabulary.{FontColor, Place}
-use Rattle.c_codes.specs.Codes.{anchor_of, alignment_of, flag_of, ink_of}
+use Rattle.c_codes.specs.Codes.{anchor_of, alignment_of, flag_of, format_of, ink_of}
 use Rattle.cases.specs.declared.reader.CaseError.{CaseError}
 use Rattle.case_calls.specs.declared.case.Call.{Call}
 use Rattle.case_calls.specs.declared.case.Call.TheVariants.{Open, FontBox, Measure, MeasureAligned, Draw}
@@ -45,7 +45,8 @@ pub record IsColor (file : List ℕ) (color : FontColor) : Type 0 where
 pub record IsCase (file : List ℕ) (case : Case) : Type 0 where
   pub long : 4 ≤ length (behind 15 file)
   pub call : call_of (number 0 file % 16) ≡ Some case.call
-  pub sums : case.sums ≡ leb 16 (number 0 file)
+  pub sums : case.sums ≡ leb 16 (number 0 file % 32)
+  pub format : format_of (number 0 file / 32) ≡ Some case.framebuffer.format
   pub x : case.placement.position.x ≡ signed_number 1 file
   pub y : case.placement.position.y ≡ signed_number 2 file
   pub anchor : anchor_of (number 3 file) ≡ Some case.style.vertical_pos

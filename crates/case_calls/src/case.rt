@@ -3,7 +3,7 @@ ghost use Rattle.std.specs.Prelude.{◌≡◌, ok_or};
 ghost use Rattle.cases.specs.declared.reader.CaseError.TheVariants.{UnknownCode};
 ghost use Rattle.case_calls.specs.Numbers.{call_of, place_of, IsCase, IsColor, Reads};
 
-use c_codes::{known_alignment, known_anchor, known_flag};
+use c_codes::{known_alignment, known_anchor, known_flag, known_format};
 use cases::reader::{CaseError, Reader};
 use types::framebuffer::Framebuffer;
 use types::geometry::Point;
@@ -12,6 +12,9 @@ use types::style::{FontColor, FontStyle, HorizontalAlignment, Placement, Vertica
 
 // What a case's kind has on top if the sums of the lookups' steps are printed too.
 const SUMS: u32 = 16;
+
+// .. and for each step of its framebuffer's format
+const FORMAT: u32 = 32;
 
 // Which call a case makes.
 #[derive(Clone, Copy, Debug, PartialEq, Eq)]
@@ -88,6 +91,7 @@ impl Case {
     {
         let kind = cases.number()?;
         let call = Call::try_from(kind % SUMS)?;
+        let format = known_format(kind / FORMAT).ok_or(CaseError::UnknownCode)?;
         let x = cases.signed_number()?;
         let y = cases.signed_number()?;
         let vertical_pos = known_anchor(cases.number()?).ok_or(CaseError::UnknownCode)?;
@@ -105,7 +109,7 @@ impl Case {
         let background = cases.byte()?;
         Ok(Case {
             call,
-            sums: SUMS <= kind,
+            sums: SUMS <= kind % FORMAT,
             placement: Placement {
                 position: Point { x, y },
                 line_height,
@@ -116,7 +120,11 @@ impl Case {
                 vertical_pos,
             },
             horizontal_align,
-            framebuffer: Framebuffer { width, height },
+            framebuffer: Framebuffer {
+                format,
+                width,
+                height,
+            },
             fill,
             len,
             old_len,
