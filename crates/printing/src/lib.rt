@@ -132,6 +132,7 @@ impl fmt::Display for Cause {
                     Character(c)
                 );
             }
+            Error::ColorNotSupported => "the framebuffer is packed, and a colour is neither 0 nor 1",
         };
         f.write_str(words)
     }
