@@ -1,13 +1,14 @@
 -- What the words of the command line ask for.
 use Rattle.std.specs.Prelude.{true, false, List, ℕ, Option, None, Some, Result, Ok, Err, bytes_eq, codes, fold, if◌then◌else◌}
+use Rattle.types.specs.declared.framebuffer.PixelFormat.TheVariants.{Bytes, Packed}
 use Rattle.types.specs.declared.style.HorizontalAlignment.{HorizontalAlignment}
 use Rattle.types.specs.declared.style.HorizontalAlignment.TheVariants.{Left, Center, Right}
 use Rattle.draw_options.specs.declared.Options.{Options}
 use Rattle.draw_options.specs.declared.UnknownWord.{UnknownWord}
 
--- a plain text: its lines stand left, and its answer has an advance
+-- a plain text, a pixel a byte: its lines stand left, and its answer has an advance
 abbrev pub no_words : Options
-no_words = record { pgm = false; background = false; align = None }
+no_words = record { pgm = false; background = false; format = Bytes; align = None }
 
 -- Each of three words is an alignment.
 abbrev pub named_alignment : List ℕ → Option HorizontalAlignment
@@ -22,11 +23,12 @@ abbrev pub with_alignment : Options → Option HorizontalAlignment → Result Op
 with_alignment o None = Err record {}
 with_alignment o (Some align) = Ok record o { align = Some align }
 
--- Each of the two others sets its flag.
+-- Two of the others set a flag, and the third the format.
 abbrev pub with_word : Options → List ℕ → Result Options UnknownWord
 with_word o word =
     if bytes_eq word (codes "pgm") then Ok record o { pgm = true }
     else if bytes_eq word (codes "background") then Ok record o { background = true }
+    else if bytes_eq word (codes "packed") then Ok record o { format = Packed }
     else with_alignment o (named_alignment word)
 
 -- After a wrong word nothing is right again.

@@ -1,5 +1,5 @@
-// What the program is asked for: the words `pgm` and `background`, and an alignment, `left`, `center` or `right`, in any order. A
-// later alignment replaces an earlier one.
+// What the program is asked for: the words `pgm`, `background` and `packed`, and an alignment, `left`, `center` or `right`, in any
+// order. A later alignment replaces an earlier one.
 #![tactic(auto)]
 
 ghost use Rattle.std.specs.Prelude.{◌≡◌, List, ℕ};
@@ -10,17 +10,19 @@ use std::error::Error;
 use std::fmt;
 use std::fmt::{Display, Formatter};
 use system::arguments;
+use types::framebuffer::PixelFormat;
 use types::style::HorizontalAlignment;
 
 #[derive(Clone, Copy, Debug, PartialEq, Eq, Default)]
 pub struct Options {
     pub pgm: bool,
     pub background: bool,
+    pub format: PixelFormat,
     // without one the lines stand left; with one the answer has no advance
     pub align: Option<HorizontalAlignment>,
 }
 
-// A word is none of the five.
+// A word is none of the six.
 #[derive(Clone, Copy, Debug, PartialEq, Eq)]
 pub struct UnknownWord;
 
@@ -29,7 +31,7 @@ impl Display for UnknownWord {
         f.write_str(
             "draw: the arguments are pgm (the image goes into draw.pgm), background (behind the glyphs), ",
         )?;
-        f.write_str("and left, center or right")
+        f.write_str("packed (eight pixels in a byte), and left, center or right")
     }
 }
 
@@ -57,6 +59,10 @@ fn with_word(options: Options, word: &str) -> Result<Options, UnknownWord>
         }),
         "background" => Ok(Options {
             background: true,
+            ..options
+        }),
+        "packed" => Ok(Options {
+            format: PixelFormat::Packed,
             ..options
         }),
         _ => {

@@ -1,11 +1,15 @@
 -- The colours of a picture, and how it is shown as text.
 use Rattle.std.specs.Prelude.{◌≡◌, Bool, ℕ, ◌*◌, ◌≤◌, eqb}
 use Rattle.integers.specs.Integers.{pick}
-use Rattle.definitions.specs.Vocabulary.{FontColor, Transparent, WithBackground}
+use Rattle.definitions.specs.Vocabulary.{PixelFormat, Bytes, Packed, FontColor, Transparent, WithBackground}
 
--- The ink is 0; a background, where it is wanted, is 192.
-abbrev pub ink_of : Bool → FontColor
-ink_of background = pick background (WithBackground 0 192) (Transparent 0)
+-- The ink is 0. A background, where it is wanted, is 192, and on a packed framebuffer 1, its other colour.
+abbrev pub ground_of : PixelFormat → ℕ
+ground_of Bytes = 192
+ground_of Packed = 1
+
+abbrev pub ink_of : PixelFormat → Bool → FontColor
+ink_of format background = pick background (WithBackground 0 (ground_of format)) (Transparent 0)
 
 -- A pixel as a character: '#' (35) for the ink, ':' (58) for a glyph's background, '.' (46) elsewhere.
 abbrev pub shade : ℕ → ℕ

@@ -1,11 +1,13 @@
 // The colours, which are grey values, and the characters that show them.
 #![tactic(auto)]
 
-ghost use Rattle.std.specs.Prelude.{◌≡◌, ◌≤◌, length, map};
-ghost use Rattle.picture_text.specs.Marks.{ink_of, shade};
+ghost use Rattle.std.specs.Prelude.{◌≡◌, ◌≤◌, false, length, map};
+ghost use Rattle.definitions.specs.Limits.{color_off};
+ghost use Rattle.picture_text.specs.Marks.{ground_of, ink_of, shade};
 ghost use Rattle.picture_text.specs.Marks.{IsPicture};
 
 use numbers::text::Text;
+use types::framebuffer::PixelFormat;
 use types::style::FontColor;
 
 const INK: u8 = 0;
@@ -17,13 +19,24 @@ pub const EMPTY: u8 = 255;
 // The widest picture.
 const WIDEST: usize = 256;
 
-pub fn color(background: bool) -> FontColor
-    ensures { result ≡ ink_of background }
+// The ground behind the glyphs. A packed framebuffer has one colour beside the ink's.
+fn ground(format: PixelFormat) -> u8
+    ensures { result ≡ ground_of format }
+{
+    match format {
+        PixelFormat::Bytes => GROUND,
+        PixelFormat::Packed => 1,
+    }
+}
+
+pub fn color(format: PixelFormat, background: bool) -> FontColor
+    ensures color { result ≡ ink_of format background }
+    ensures held { color_off format result ≡ false }
 {
     if background {
         FontColor::WithBackground {
             fg: INK,
-            bg: GROUND,
+            bg: ground(format),
         }
     } else {
         FontColor::Transparent(INK)
