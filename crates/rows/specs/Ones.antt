@@ -2,7 +2,7 @@
 use Rattle.std.specs.Prelude.{List, ℕ, ◌+◌, ◌-◌, ◌*◌, ◌≤◌, ◌<◌}
 use Rattle.definitions.specs.Vocabulary.{FontReader, GlyphReader, Framebuffer}
 use Rattle.definitions.specs.Picture.{Picture}
-use Rattle.framebuffer.specs.Areas.{BufferFits}
+use Rattle.definitions.specs.Framebuffer.{BufferFits}
 use Rattle.runs.specs.Stands.{CheckedGlyph}
 use Rattle.visible_part.specs.declared.VisiblePart.{VisiblePart}
 use Rattle.rows.specs.Ink.{Ones, ink_picture}
@@ -15,7 +15,7 @@ pub record PartFits (g : GlyphReader) (part : VisiblePart) (framebuffer : Frameb
   pub in_height : part.rows.end ≤ g.glyph_height
   pub right : part.left + (part.columns.end - part.columns.start) ≤ framebuffer.width
   pub bottom : part.top + (part.rows.end - part.rows.start) ≤ framebuffer.height
-  pub window : BufferFits bytes framebuffer.width framebuffer.height
+  pub window : BufferFits bytes framebuffer
 
 -- What the drawing of such a part may count on: the runs were checked.
 pub record PartDrawable (font : List ℕ) (head : FontReader) (g : GlyphReader) (part : VisiblePart) (framebuffer : Framebuffer) (bytes : ℕ) : Type 0 where

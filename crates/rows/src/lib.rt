@@ -1,13 +1,13 @@
 // The ones of a glyph, drawn on the framebuffer.
 #![tactic(auto)]
 
-ghost use Rattle.std.specs.Prelude.{◌≡◌, ◌-◌, length};
+ghost use Rattle.std.specs.Prelude.{◌≡◌, length};
 ghost use Rattle.definitions.specs.Font.{u8g2, pixels_of};
 ghost use Rattle.definitions.specs.Framebuffer.{shown};
 ghost use Rattle.rows.specs.Ones.{PartDrawable, ones_picture};
 
 use font_reader::opened::OpenedFont;
-use framebuffer::fill_columns;
+use framebuffer::line::{Line, fill_columns};
 use runs::run_reader::RunReader;
 use runs::seek;
 use types::framebuffer::Framebuffer;
@@ -27,7 +27,7 @@ pub fn draw_rows(
     buffer: &mut [u8],
 )
     requires { PartDrawable font.now.bytes.now font.now.head glyph part framebuffer (length buffer.old) }
-    ensures { buffer.new ≡ shown framebuffer.width (ones_picture (pixels_of (u8g2 font.now.bytes.now) glyph)
+    ensures { buffer.new ≡ shown framebuffer (ones_picture (pixels_of (u8g2 font.now.bytes.now) glyph)
         glyph part value) buffer.old }
 {
     let reader = RunReader::new(font);
@@ -37,29 +37,37 @@ pub fn draw_rows(
     let mut runs = start.runs;
     let mut from = runs.zeros.saturating_sub(start.offset);
     let mut to = runs.count() - start.offset;
-    let mut line = part.top * framebuffer.width + part.left;
+    let mut line = Line::new(framebuffer, part.top, part.left, visible);
     let mut left = part.rows.end - part.rows.start;
     'pairs: loop {
         // the rows that the pair reaches the end of
         while glyph_width <= to {
-            let end = line + visible;
             fill_columns(
                 part.columns.start,
                 from,
                 glyph_width,
                 value,
-                &mut buffer[line..end],
+                framebuffer,
+                line,
+                &mut buffer[..],
             );
             from = from.saturating_sub(glyph_width);
             to -= glyph_width;
-            line += framebuffer.width;
             left -= 1;
             if left == 0 {
                 break 'pairs;
             }
+            line = Line::new(framebuffer, line.row + 1, part.left, visible);
         }
-        let end = line + visible;
-        fill_columns(part.columns.start, from, to, value, &mut buffer[line..end]);
+        fill_columns(
+            part.columns.start,
+            from,
+            to,
+            value,
+            framebuffer,
+            line,
+            &mut buffer[..],
+        );
         runs = reader.next_pair(runs);
         from = to + runs.zeros;
         to = from + runs.ones;
