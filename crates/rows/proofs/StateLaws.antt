@@ -1,46 +1,47 @@
 -- The drawing of rows: what holds at the head of each of its loops, and each step. Assumes nothing.
-use Rattle.integers.proofs.Prelude.{◌≡◌, sym, ap, subst, ◌∙◌, List, ℕ, ◌+◌, ◌-◌, ◌*◌, ◌≤◌, ◌<◌, max, mul-le-mul_right, arith, lt-ltb, le-ltb}
+use Rattle.integers.proofs.Prelude.{◌≡◌, refl, sym, ap, subst, ◌∙◌, List, ℕ, ◌+◌, ◌-◌, ◌*◌, ◌≤◌, ◌<◌, max, mul-le-mul_right, arith, lt-ltb, le-ltb}
 use Rattle.integers.proofs.Prelude.{length, get_or}
-use borrow.Rule.Slice.PartMut.{mid_of, put_mid}
-use Rattle.definitions.specs.Vocabulary.{FontReader, GlyphReader, Framebuffer}
+use Rattle.definitions.specs.Vocabulary.{Some, FontReader, GlyphReader, Framebuffer}
 use Rattle.definitions.specs.Font.{u8g2, pixels_of}
-use Rattle.definitions.specs.Framebuffer.{shown}
+use Rattle.definitions.specs.Framebuffer.{shown, BufferFits}
+use Rattle.definitions.proofs.FramebufferLaws.{length_shown}
 use Rattle.runs.specs.declared.Runs.{Runs}
 use Rattle.runs.specs.RunReads.{Short, in_font, next_pair}
 use Rattle.runs.specs.Stands.{Stands}
 use Rattle.runs.proofs.StandsLaws.{stands_pixel, stands_on, stands_next}
-use Rattle.framebuffer.specs.Columns.{Filled}
+use Rattle.framebuffer.specs.declared.line.Line.{Line}
+use Rattle.framebuffer.specs.Areas.{fill_picture}
+use Rattle.framebuffer.specs.Lines.{line_at, RowFits, LineFits, stretch}
 use Rattle.visible_part.specs.declared.VisiblePart.{VisiblePart}
 use Rattle.rows.specs.Ink.{Ones, ink_picture}
 use Rattle.rows.specs.Ones.{ones_of}
 use Rattle.rows.proofs.InkLaws.{ink_none, ink_zeros, ink_all, ink_ones}
 
 -- The rows lie in a glyph of n pixels, and their visible part on the framebuffer that is `entry` at the call.
-pub record Lies (s : Ones) (n width : ℕ) (entry : List ℕ) : Type 0 where
-  pub some : 1 ≤ width
+pub record Lies (s : Ones) (n : ℕ) (framebuffer : Framebuffer) (entry : List ℕ) : Type 0 where
+  pub window : BufferFits (length entry) framebuffer
   pub in_row : s.first + s.visible ≤ s.wide
   pub in_glyph : s.start + s.rows * s.wide ≤ n
-  pub on_line : s.left + s.visible ≤ width
-  pub on_buffer : (s.top + s.rows) * width ≤ length entry
+  pub right : s.left + s.visible ≤ framebuffer.width
+  pub bottom : s.top + s.rows ≤ framebuffer.height
 
--- Of the rows `left` are left, and the next one's part begins at the byte `line`. The pair ends before the column `to`, counted
--- from the row's first; its ones that are not yet drawn begin at the column `from`.
-pub record At (font : List ℕ) (m0 m1 n : ℕ) (s : Ones) (width : ℕ) (entry buffer : List ℕ) (runs : Runs) (from to line left : ℕ) : Type 0 where
+-- Of the rows `left` are left, and `line` is the next one's part. The pair ends before the column `to`, counted from the row's
+-- first; its ones that are not yet drawn begin at the column `from`.
+pub record At (font : List ℕ) (m0 m1 n : ℕ) (s : Ones) (framebuffer : Framebuffer) (entry buffer : List ℕ) (runs : Runs) (from to : ℕ) (line : Line) (left : ℕ) : Type 0 where
   pub row : ℕ
   pub is_row : row + left ≡ s.rows
   pub some : 1 ≤ left
-  pub is_line : line ≡ (s.top + row) * width + s.left
+  pub is_line : line ≡ line_at framebuffer (s.top + row) s.left s.visible
   pub order : from ≤ to
-  pub drawn : buffer ≡ shown width (ink_picture s (row * s.wide + from)) entry
+  pub drawn : buffer ≡ shown framebuffer (ink_picture s (row * s.wide + from)) entry
   pub stands : Stands font m0 m1 n s.ps runs (runs.zeros + runs.ones) (s.start + (row * s.wide + to))
   pub ones : (k : ℕ) → row * s.wide + from ≤ k → k < row * s.wide + to → k < s.rows * s.wide → get_or s.ps (s.start + k) 0 ≡ 1
 
 -- The same of a glyph's rows, the framebuffer being `entry` at the call: what both loops keep.
 pub record State (font : List ℕ) (head : FontReader) (g : GlyphReader) (part : VisiblePart) (value : ℕ) (framebuffer : Framebuffer) (entry buffer : List ℕ)
-    (runs : Runs) (from to line left : ℕ) : Type 0 where
+    (runs : Runs) (from to : ℕ) (line : Line) (left : ℕ) : Type 0 where
   pub short : Short runs
-  pub long : length buffer ≡ length entry
-  pub at : At font head.m0 head.m1 (g.glyph_width * g.glyph_height) (ones_of (pixels_of (u8g2 font) g) g.glyph_width part value) framebuffer.width
+  pub at : At font head.m0 head.m1 (g.glyph_width * g.glyph_height) (ones_of (pixels_of (u8g2 font) g) g.glyph_width part value) framebuffer
       entry buffer runs from to line left
 
 module _ {font : List ℕ} {m0 m1 n : ℕ} {ps : List ℕ} {runs : Runs} {offset i : ℕ} (s : Stands font m0 m1 n ps runs offset i) where
@@ -51,12 +52,12 @@ module _ {font : List ℕ} {m0 m1 n : ℕ} {ps : List ℕ} {runs : Runs} {offset
   one_on : (k : ℕ) → runs.zeros ≤ offset + k → offset + k < runs.zeros + runs.ones → i + k < n → get_or ps (i + k) 0 ≡ 1
   one_on k h m l = stands_pixel (stands_on s k) m l ∙ simp (le-ltb (offset + k) runs.zeros h)
 
-module _ {font : List ℕ} {m0 m1 n : ℕ} {s : Ones} {width : ℕ} {entry : List ℕ} (f : Lies s n width entry) where
+module _ {font : List ℕ} {m0 m1 n : ℕ} {s : Ones} {framebuffer : Framebuffer} {entry : List ℕ} (f : Lies s n framebuffer entry) where
   -- A pair whose pixels from `offset` on begin at a column of the row: its zeros, and then its ones.
-  module _ {buffer : List ℕ} {runs : Runs} (offset row column from to line left : ℕ) (is_row : row + left ≡ s.rows) (more : 1 ≤ left)
-      (is_line : line ≡ (s.top + row) * width + s.left)
+  module _ {buffer : List ℕ} {runs : Runs} (offset row column from to : ℕ) (line : Line) (left : ℕ) (is_row : row + left ≡ s.rows) (more : 1 ≤ left)
+      (is_line : line ≡ line_at framebuffer (s.top + row) s.left s.visible)
       (is_from : from ≡ column + (runs.zeros - offset)) (is_to : to ≡ column + (runs.zeros + runs.ones - offset))
-      (drawn : buffer ≡ shown width (ink_picture s (row * s.wide + column)) entry) (h : offset ≤ runs.zeros + runs.ones)
+      (drawn : buffer ≡ shown framebuffer (ink_picture s (row * s.wide + column)) entry) (h : offset ≤ runs.zeros + runs.ones)
       (stands : Stands font m0 m1 n s.ps runs offset (s.start + (row * s.wide + column))) where
     pixel : (k : ℕ) → row * s.wide + column ≤ k → s.start + (row * s.wide + column) + (k - (row * s.wide + column)) ≡ s.start + k
     pixel k h = omega arith
@@ -77,81 +78,83 @@ module _ {font : List ℕ} {m0 m1 n : ℕ} {s : Ones} {width : ℕ} {entry : Lis
         let y : s.start + (row * s.wide + column) + (runs.zeros + runs.ones - offset) ≡ s.start + (row * s.wide + to) = omega arith in
         rw (x, y) at (stands_on stands (runs.zeros + runs.ones - offset))
 
-    at_pair : At font m0 m1 n s width entry buffer runs from to line left
+    at_pair : At font m0 m1 n s framebuffer entry buffer runs from to line left
     at_pair = record {
       row = row;
       is_row = is_row;
       some = more;
       is_line = is_line;
       order = omega arith;
-      drawn = drawn ∙ ink_zeros s width f.some entry f.in_row (row * s.wide + column) (row * s.wide + from) (omega arith) zeros;
+      drawn = drawn ∙ ink_zeros s framebuffer f.window.some entry f.in_row (row * s.wide + column) (row * s.wide + from) (omega arith) zeros;
       stands = stands_end;
       ones = ones;
     }
 
   -- The first pair.
-  pub at_start : {runs : Runs} {offset from to : ℕ} → 1 ≤ s.rows → offset ≤ runs.zeros + runs.ones → Stands font m0 m1 n s.ps runs offset s.start
-      → from ≡ runs.zeros - offset → to ≡ runs.zeros + runs.ones - offset
-      → At font m0 m1 n s width entry entry runs from to (s.top * width + s.left) s.rows
-  at_start {runs} {offset} {from} {to} h k stands is_from is_to =
+  pub at_start : {runs : Runs} {offset from to : ℕ} {line : Line} → 1 ≤ s.rows → offset ≤ runs.zeros + runs.ones → Stands font m0 m1 n s.ps runs offset s.start
+      → from ≡ runs.zeros - offset → to ≡ runs.zeros + runs.ones - offset → line ≡ line_at framebuffer s.top s.left s.visible
+      → At font m0 m1 n s framebuffer entry entry runs from to line s.rows
+  at_start {runs} {offset} {from} {to} {line} h k stands is_from is_to is_line =
       let z : 0 * s.wide + 0 ≡ 0 = omega arith in
       let e : s.start ≡ s.start + (0 * s.wide + 0) = omega arith in
       let t : s.top ≡ s.top + 0 = omega arith in
-      at_pair offset 0 0 from to (s.top * width + s.left) s.rows (omega arith) h (ap (λ (y : ℕ). y * width + s.left) t) (omega arith) (omega arith)
-      (rw z (sym (ink_none s width f.some entry f.in_row))) k (subst (λ (i : ℕ). Stands font m0 m1 n s.ps runs offset i) e stands)
+      at_pair offset 0 0 from to line s.rows (omega arith) h (is_line ∙ ap (λ (y : ℕ). line_at framebuffer y s.left s.visible) t) (omega arith) (omega arith)
+      (rw z (sym (ink_none s framebuffer f.window.some entry f.in_row))) k (subst (λ (i : ℕ). Stands font m0 m1 n s.ps runs offset i) e stands)
 
-  module _ {buffer : List ℕ} {runs : Runs} {from to line left : ℕ} (a : At font m0 m1 n s width entry buffer runs from to line left) where
-    line_in : (s.top + a.row) * width + width ≤ length entry
-    line_in =
-        let k : s.top + a.row + 1 ≤ s.top + s.rows = omega (arith, a.is_row, a.some) in
-        omega (arith, mul-le-mul_right width k, f.on_buffer)
+  module _ {buffer : List ℕ} {runs : Runs} {from to : ℕ} {line : Line} {left : ℕ} (a : At font m0 m1 n s framebuffer entry buffer runs from to line left) where
+    -- The row's part lies on the framebuffer,
+    pub line_fits : LineFits (length buffer) framebuffer line
+    line_fits =
+        let l : length buffer ≡ length entry = ap length a.drawn ∙ length_shown framebuffer (ink_picture s (a.row * s.wide + from)) entry in
+        rw (l, a.is_line) record { fits = f.window; below = omega (arith, a.is_row, a.some, f.bottom); right = f.right; start = refl; pixel = refl }
 
-    -- The row's visible part lies on the framebuffer.
-    pub part_in : line + s.visible ≤ length entry
-    part_in = omega (arith, a.is_line, line_in, f.on_line)
+    -- and where there is a next one, so does that one's.
+    pub next_fits : 2 ≤ left → RowFits framebuffer (line.row + 1) s.left s.visible
+    next_fits h = rw a.is_line record { wide = f.window.wide; high = f.window.high; below = omega (arith, a.is_row, f.bottom); right = f.right }
 
-    filled : {m : ℕ} {new : List ℕ} (end : ℕ) → m ≡ s.visible → end ≤ s.wide → end ≤ to → Filled s.first from end s.value (mid_of line m buffer) new
-        → put_mid line m buffer new ≡ shown width (ink_picture s (a.row * s.wide + max from end)) entry
-    filled end l h k p =
-        rw (l, a.is_line, a.drawn)
-        (ink_ones s width f.some entry f.in_row f.on_line a.row from end (omega (arith, a.is_row, a.some)) line_in h (λ i x y.
+    filled : {new : List ℕ} (end : ℕ) → end ≤ s.wide → end ≤ to → new ≡ shown framebuffer (fill_picture s.value (Some (stretch s.first from end line))) buffer
+        → new ≡ shown framebuffer (ink_picture s (a.row * s.wide + max from end)) entry
+    filled end h k e =
+        e
+        ∙ rw (a.is_line, a.drawn) (ink_ones s framebuffer a.row from end f.in_row (omega (arith, a.is_row, a.some)) h (λ i x y.
         let r : a.row + 1 ≤ s.rows = omega (arith, a.is_row, a.some) in
-        a.ones i x (omega arith) (omega (arith, mul-le-mul_right s.wide r)))
-        (rw (l, a.is_line, a.drawn) at p))
+        a.ones i x (omega arith) (omega (arith, mul-le-mul_right s.wide r))) f.window.some entry)
 
     -- The pair reaches the row's end, and there are more rows.
-    pub at_row : {m : ℕ} {new : List ℕ} → m ≡ s.visible → s.wide ≤ to → 2 ≤ left → Filled s.first from s.wide s.value (mid_of line m buffer) new
-        → At font m0 m1 n s width entry (put_mid line m buffer new) runs (from - s.wide) (to - s.wide) (line + width) (left - 1)
-    at_row l h k p =
+    pub at_row : {new : List ℕ} {next : Line} → s.wide ≤ to → 2 ≤ left → new ≡ shown framebuffer (fill_picture s.value (Some (stretch s.first from s.wide line))) buffer
+        → next ≡ line_at framebuffer (line.row + 1) s.left s.visible
+        → At font m0 m1 n s framebuffer entry new runs (from - s.wide) (to - s.wide) next (left - 1)
+    at_row h k e is_next =
         let x : a.row * s.wide + max from s.wide ≡ (a.row + 1) * s.wide + (from - s.wide) = omega arith in
         let y : a.row * s.wide + to ≡ (a.row + 1) * s.wide + (to - s.wide) = omega arith in
+        let z : s.top + a.row + 1 ≡ s.top + (a.row + 1) = omega arith in
         record {
           row = a.row + 1;
           is_row = omega (arith, a.is_row);
           some = omega arith;
-          is_line = omega (arith, a.is_line);
+          is_line = rw (a.is_line, z) at is_next;
           order = omega (arith, a.order);
-          drawn = filled s.wide l (omega arith) h p ∙ ap (λ (p : ℕ). shown width (ink_picture s p) entry) x;
+          drawn = filled s.wide (omega arith) h e ∙ ap (λ (p : ℕ). shown framebuffer (ink_picture s p) entry) x;
           stands = subst (λ (i : ℕ). Stands font m0 m1 n s.ps runs (runs.zeros + runs.ones) (s.start + i)) y a.stands;
           ones = λ i b c d. a.ones i (omega arith) (omega arith) d;
         }
 
     -- .. and it was the last.
-    pub all_rows : {m : ℕ} {new : List ℕ} → m ≡ s.visible → s.wide ≤ to → left ≡ 1 → Filled s.first from s.wide s.value (mid_of line m buffer) new
-        → put_mid line m buffer new ≡ shown width (ink_picture s (s.rows * s.wide)) entry
-    all_rows l h k p =
+    pub all_rows : {new : List ℕ} → s.wide ≤ to → left ≡ 1 → new ≡ shown framebuffer (fill_picture s.value (Some (stretch s.first from s.wide line))) buffer
+        → new ≡ shown framebuffer (ink_picture s (s.rows * s.wide)) entry
+    all_rows h k e =
         let r : a.row + 1 ≡ s.rows = omega (arith, a.is_row) in
-        filled s.wide l (omega arith) h p ∙ ink_all s width f.some entry f.in_row (a.row * s.wide + max from s.wide) (rw (← r) (omega arith))
+        filled s.wide (omega arith) h e ∙ ink_all s framebuffer f.window.some entry f.in_row (a.row * s.wide + max from s.wide) (rw (← r) (omega arith))
 
     -- The row goes on with the next pair.
-    pub at_next : {q : Runs} {m : ℕ} {new : List ℕ} → m ≡ s.visible → to < s.wide → in_font font q ≡ next_pair font m0 m1 runs
-        → Filled s.first from to s.value (mid_of line m buffer) new
-        → At font m0 m1 n s width entry (put_mid line m buffer new) q (to + q.zeros) (to + q.zeros + q.ones) line left
-    at_next {q} l h e p =
+    pub at_next : {q : Runs} {new : List ℕ} → to < s.wide → in_font font q ≡ next_pair font m0 m1 runs
+        → new ≡ shown framebuffer (fill_picture s.value (Some (stretch s.first from to line))) buffer
+        → At font m0 m1 n s framebuffer entry new q (to + q.zeros) (to + q.zeros + q.ones) line left
+    at_next {q} h e d =
         let r : a.row + 1 ≤ s.rows = omega (arith, a.is_row, a.some) in
         let i : s.start + (a.row * s.wide + to) < n = omega (arith, mul-le-mul_right s.wide r, f.in_glyph) in
         let z : runs.zeros + runs.ones - (runs.zeros + runs.ones) ≡ 0 = omega arith in
         let t : max from to ≡ to = omega (arith, a.order) in
         let stands = rw z at (stands_next a.stands (omega arith) i e) in
         at_pair 0 a.row to (to + q.zeros) (to + q.zeros + q.ones) line left a.is_row a.some a.is_line (omega arith) (omega arith)
-        (filled to l (omega arith) (omega arith) p ∙ ap (λ (p : ℕ). shown width (ink_picture s (a.row * s.wide + p)) entry) t) (omega arith) stands
+        (filled to (omega arith) (omega arith) d ∙ ap (λ (p : ℕ). shown framebuffer (ink_picture s (a.row * s.wide + p)) entry) t) (omega arith) stands

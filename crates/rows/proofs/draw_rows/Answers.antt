@@ -1,9 +1,13 @@
--- Each step goes from a state to another (StateLaws), and what is drawn on lies on the framebuffer (PartLaws). Assumes nothing.
-use Rattle.integers.proofs.Prelude.{◌≡◌, refl, ap, ℕ, ◌+◌, ◌-◌, arith}
-use Rattle.std.proofs.Common.{rules}
-use Rattle.rows.proofs.StateLaws.{at_start, at_row, all_rows, at_next}
-use Rattle.rows.proofs.PartLaws.{part_lies, room}
+-- Each step goes from a state to another, and each row's part lies on the framebuffer (StateLaws). Assumes nothing.
+use Rattle.integers.proofs.Prelude.{◌≡◌, ap, ℕ, ◌-◌, arith}
+use Rattle.rows.proofs.StateLaws.{at_start, line_fits, next_fits, at_row, all_rows, at_next}
+use Rattle.rows.proofs.PartLaws.{part_lies}
 use Rattle.rows.proofs.draw_rows.Goals as goal
+
+pub new-line-requires : goal.new-line-requires
+new-line-requires c =
+    let f = c.requires.fits in
+    record { wide = f.window.wide; high = f.window.high; below = omega (arith, f.some_rows, f.bottom); right = f.right }
 
 pub pairs-init : goal.pairs-init
 pairs-init c =
@@ -11,41 +15,38 @@ pairs-init c =
     let wide = c.from-glyph_width.ensures in
     record {
       short = place.ensures.short;
-      long = refl;
-      at = at_start (part_lies c.requires.fits _ _ refl) (omega (arith, c.requires.fits.some_rows)) (omega (arith, place.ensures.inside)) (rw wide at place.ensures.stands)
-          c.saturating_sub-from.ensures (ap (λ (k : ℕ). k - place.result.offset) c.count.ensures);
+      at = at_start (part_lies c.requires.fits _ _) (omega (arith, c.requires.fits.some_rows)) (omega (arith, place.ensures.inside)) (rw wide at place.ensures.stands)
+          c.saturating_sub-from.ensures (ap (λ (k : ℕ). k - place.result.offset) c.count.ensures) c.new-line.ensures;
     }
 
-pub slice_bounds-fill_columns-end : goal.slice_bounds-fill_columns-end
-slice_bounds-fill_columns-end c = let r = room c.requires c.loop-to.invariant in search rules
+pub fill_columns-requires : goal.fill_columns-requires
+fill_columns-requires c = line_fits (part_lies c.requires.fits _ _) c.loop-to.invariant.at
+
+pub new-line-requires-in-loop-to : goal.new-line-requires-in-loop-to
+new-line-requires-in-loop-to c = next_fits (part_lies c.requires.fits _ _) c.loop-to.invariant.at (omega (arith, c.loop-to.invariant.at.some))
 
 pub loop-to-preserved : goal.loop-to-preserved
 loop-to-preserved c =
     let l = c.loop-to in
     let wide = c.from-glyph_width.ensures in
-    let v = c.args.part.columns.end - c.args.part.columns.start in
-    let k : l.line + v - l.line ≡ v = omega arith in
     record {
       short = l.invariant.short;
-      long = search rules;
       at = rw (c.saturating_sub-from-in-loop-to.ensures, wide)
-          (at_row (part_lies c.requires.fits _ _ refl) l.invariant.at k (rw wide at c.loop-to-test.true) (omega (arith, l.invariant.at.some)) (rw wide at c.fill_columns.ensures));
+          (at_row (part_lies c.requires.fits _ _) l.invariant.at (rw wide at c.loop-to-test.true) (omega (arith, l.invariant.at.some)) (rw wide at c.fill_columns.ensures)
+          c.new-line-in-loop-to.ensures);
     }
 
-pub slice_bounds-fill_columns-end-in-pairs : goal.slice_bounds-fill_columns-end-in-pairs
-slice_bounds-fill_columns-end-in-pairs c = let r = room c.requires c.loop-to.invariant in search rules
+pub fill_columns-requires-in-pairs : goal.fill_columns-requires-in-pairs
+fill_columns-requires-in-pairs c = line_fits (part_lies c.requires.fits _ _) c.loop-to.invariant.at
 
 pub pairs-preserved : goal.pairs-preserved
 pairs-preserved c =
     let l = c.loop-to in
     let wide = c.from-glyph_width.ensures in
     let reader = c.new-reader.ensures in
-    let v = c.args.part.columns.end - c.args.part.columns.start in
-    let k : l.line + v - l.line ≡ v = omega arith in
     record {
       short = c.next_pair-runs.ensures.short;
-      long = search rules;
-      at = at_next (part_lies c.requires.fits _ _ refl) l.invariant.at k (rw wide at c.loop-to-test.false)
+      at = at_next (part_lies c.requires.fits _ _) l.invariant.at (rw wide at c.loop-to-test.false)
           (rw (reader.bytes, reader.zeros, reader.ones) at c.next_pair-runs.ensures.read) c.fill_columns-in-pairs.ensures;
     }
 
@@ -53,6 +54,4 @@ pub returns : goal.returns
 returns c =
     let l = c.loop-to in
     let wide = c.from-glyph_width.ensures in
-    let v = c.args.part.columns.end - c.args.part.columns.start in
-    let k : l.line + v - l.line ≡ v = omega arith in
-    all_rows (part_lies c.requires.fits _ _ refl) l.invariant.at k (rw wide at c.loop-to-test.true) (omega (arith, l.invariant.at.some)) (rw wide at c.fill_columns.ensures)
+    all_rows (part_lies c.requires.fits _ _) l.invariant.at (rw wide at c.loop-to-test.true) (omega (arith, l.invariant.at.some)) (rw wide at c.fill_columns.ensures)
