@@ -6,8 +6,7 @@ use Rattle.integers.proofs.Laws.{zarith, plus}
 use Rattle.definitions.specs.Vocabulary.{BoundingBox, None, Some, Rectangle, GlyphReader, FontColor, Framebuffer}
 use Rattle.definitions.specs.Geometry.{left, top}
 use Rattle.definitions.specs.Picture.{rectangle_picture}
-use Rattle.definitions.specs.Framebuffer.{shown}
-use Rattle.framebuffer.specs.Areas.{BufferFits}
+use Rattle.definitions.specs.Framebuffer.{shown, BufferFits}
 use Rattle.visible_part.specs.declared.VisiblePart.{VisiblePart}
 use Rattle.visible_part.specs.Visible.{visible_part}
 use Rattle.rows.specs.Ones.{PartFits}
@@ -46,8 +45,7 @@ module _ {g : GlyphReader} {r : Rectangle} (a : GlyphArea g r) (framebuffer : Fr
       → Seen (top r) r.size.height framebuffer.height part.rows.start part.rows.end part.top
   rows_seen h = rw (e, a.height) (seen_visible (top r) g.glyph_height framebuffer.height (rw e at h))
 
-  pub part_fits : {bytes : ℕ} → BufferFits bytes framebuffer.width framebuffer.height
-      → part.columns.start < part.columns.end → part.rows.start < part.rows.end → PartFits g part framebuffer bytes
+  pub part_fits : {bytes : ℕ} → BufferFits bytes framebuffer → part.columns.start < part.columns.end → part.rows.start < part.rows.end → PartFits g part framebuffer bytes
   part_fits f h k =
       let x = columns_seen h in
       let y = rows_seen k in
@@ -61,15 +59,15 @@ module _ {g : GlyphReader} {r : Rectangle} (a : GlyphArea g r) (framebuffer : Fr
         window = f;
       }
 
-  module _ (buffer : List ℕ) (f : BufferFits (length buffer) framebuffer.width framebuffer.height) (color : FontColor) (ps : List ℕ) where
+  module _ (buffer : List ℕ) (f : BufferFits (length buffer) framebuffer) (color : FontColor) (ps : List ℕ) where
     -- Nothing is seen of a glyph beside the framebuffer,
-    pub beside : part.columns.end ≤ part.columns.start → shown framebuffer.width (rectangle_picture color ps r) buffer ≡ buffer
+    pub beside : part.columns.end ≤ part.columns.start → shown framebuffer (rectangle_picture color ps r) buffer ≡ buffer
     beside h =
-        not_shown buffer f color ps r (λ column row c d i.
+        not_shown framebuffer buffer f color ps r (λ column row c d i.
         none_seen (left r) g.glyph_width framebuffer.width (rw e at h) column c i.from_left (rw a.width at i.to_right))
 
     -- nor of one above or below it.
-    pub above_or_below : part.rows.end ≤ part.rows.start → shown framebuffer.width (rectangle_picture color ps r) buffer ≡ buffer
+    pub above_or_below : part.rows.end ≤ part.rows.start → shown framebuffer (rectangle_picture color ps r) buffer ≡ buffer
     above_or_below h =
-        not_shown buffer f color ps r (λ column row c d i.
+        not_shown framebuffer buffer f color ps r (λ column row c d i.
         none_seen (top r) g.glyph_height framebuffer.height (rw e at h) row d i.from_top (rw a.height at i.to_bottom))

@@ -1,30 +1,30 @@
 -- The ones of a glyph's visible part are the glyph's picture on the framebuffer, and a background may be filled first. Assumes
 -- nothing.
-use Rattle.integers.proofs.Prelude.{◌≡◌, refl, sym, ap, ◌∙◌, Bool, true, false, List, ℕ, ◌+◌, ◌-◌, ◌*◌, ◌≤◌, ◌<◌, add-mul, mul-le-mul_right, arith}
+use Rattle.integers.proofs.Prelude.{◌≡◌, refl, sym, ap, subst, ◌∙◌, Bool, true, false, List, ℕ, ◌+◌, ◌-◌, ◌*◌, ◌≤◌, ◌<◌, add-mul, mul-le-mul_right, arith}
 use Rattle.integers.proofs.Prelude.{eqb, pos, nat_abs, ◌-ℤ◌, length, get_or, eqb-true, eqb-false}
 use Rattle.integers.specs.Integers.{pick}
-use Rattle.definitions.specs.Vocabulary.{BoundingBox, Some, Rectangle, GlyphReader, FontColor, Transparent, WithBackground}
+use Rattle.definitions.specs.Vocabulary.{BoundingBox, Some, Rectangle, GlyphReader, Framebuffer, FontColor, Transparent, WithBackground}
 use Rattle.definitions.specs.Geometry.{Inside, left, top}
 use Rattle.definitions.specs.Picture.{keep, put, above, covers, rectangle_picture, box_picture}
-use Rattle.definitions.specs.Framebuffer.{shown}
+use Rattle.definitions.specs.Framebuffer.{shown, BufferFits}
 use Rattle.definitions.proofs.PictureLaws.{covers_inside, rectangle_inside, rectangle_outside}
-use Rattle.definitions.proofs.FramebufferLaws.{length_shown, same_picture, shown_shown, onto, blank, shown_blank}
-use Rattle.framebuffer.specs.Areas.{BufferFits, fill_picture}
-use Rattle.framebuffer.proofs.RowLaws.{row_of_pixel, outside}
+use Rattle.definitions.proofs.FramebufferLaws.{length_shown, same_picture, shown_shown, onto, blank, shown_blank, on_framebuffer}
+use Rattle.framebuffer.specs.Areas.{fill_picture}
+use Rattle.framebuffer.proofs.RowLaws.{outside}
 use Rattle.visible_part.specs.declared.VisiblePart.{VisiblePart}
-use Rattle.rows.specs.Ink.{Ones, pixel_at, ink_at, ink_picture}
+use Rattle.rows.specs.Ink.{Ones, index_at, ink_at, ink_picture}
 use Rattle.rows.specs.Ones.{ones_of, ones_picture}
 use Rattle.rows.proofs.InkLaws.{Hit, hit_is, hit_not}
 use Rattle.visible_part.proofs.VisibleLaws.{Seen, from_seen, to_seen, seen_index}
 
 -- A rectangle of which no pixel lies on the framebuffer shows nothing.
-pub not_shown : {width height : ℕ} (buffer : List ℕ) → BufferFits (length buffer) width height → (color : FontColor) (ps : List ℕ) (r : Rectangle)
-    → ((column row : ℕ) → column < width → row < height → Inside (pos column) (pos row) r → ⊥) → shown width (rectangle_picture color ps r) buffer ≡ buffer
-not_shown {width} {height} buffer f color ps r out =
-    same_picture f.some (rectangle_picture color ps r) blank buffer
-    (λ column row c l.
-    rectangle_outside color (pos column) (pos row) ps r (out column row c (row_of_pixel width height column row (omega (arith, f.area)))))
-    ∙ shown_blank width buffer
+pub not_shown : (framebuffer : Framebuffer) (buffer : List ℕ) → BufferFits (length buffer) framebuffer → (color : FontColor) (ps : List ℕ) (r : Rectangle)
+    → ((column row : ℕ) → column < framebuffer.width → row < framebuffer.height → Inside (pos column) (pos row) r → ⊥)
+    → shown framebuffer (rectangle_picture color ps r) buffer ≡ buffer
+not_shown framebuffer buffer f color ps r out =
+    same_picture framebuffer f.some (rectangle_picture color ps r) blank buffer
+    (λ column row c l. rectangle_outside color (pos column) (pos row) ps r (out column row c (on_framebuffer f column row c l)))
+    ∙ shown_blank framebuffer buffer
 
 -- a pixel of a covered place, on a background
 on_ground : (t u : Bool) (fg bg : ℕ) → above (pick t (pick u (put fg) keep) keep) (pick t (put bg) keep) ≡ pick t (pick u (put fg) (put bg)) keep
@@ -32,9 +32,9 @@ on_ground true true fg bg = refl
 on_ground true false fg bg = refl
 on_ground false u fg bg = refl
 
-module _ (fg : ℕ) (ps : List ℕ) (r : Rectangle) (part : VisiblePart) {width height : ℕ}
-    (x : Seen (left r) r.size.width width part.columns.start part.columns.end part.left)
-    (y : Seen (top r) r.size.height height part.rows.start part.rows.end part.top) where
+module _ (framebuffer : Framebuffer) (fg : ℕ) (ps : List ℕ) (r : Rectangle) (part : VisiblePart)
+    (x : Seen (left r) r.size.width framebuffer.width part.columns.start part.columns.end part.left)
+    (y : Seen (top r) r.size.height framebuffer.height part.rows.start part.rows.end part.top) where
   abbrev s : Ones
   s = ones_of ps r.size.width part fg
 
@@ -45,7 +45,7 @@ module _ (fg : ℕ) (ps : List ℕ) (r : Rectangle) (part : VisiblePart) {width 
     abbrev place : ℕ
     place = nat_abs (pos row -ℤ top r) * r.size.width + nat_abs (pos column -ℤ left r)
 
-    index : part.left ≤ column → part.top ≤ row → place ≡ part.rows.start * r.size.width + pixel_at s column row
+    index : part.left ≤ column → part.top ≤ row → place ≡ part.rows.start * r.size.width + index_at s column row
     index h k = rw (seen_index x column h, seen_index y row k) (omega (arith, add-mul part.rows.start (row - part.top) r.size.width))
 
     hit_inside : Hit s all column row → Inside (pos column) (pos row) r
@@ -56,7 +56,7 @@ module _ (fg : ℕ) (ps : List ℕ) (r : Rectangle) (part : VisiblePart) {width 
       to_bottom = to_seen y row h.above;
     }
 
-    module _ (c : column < width) (d : row < height) where
+    module _ (c : column < framebuffer.width) (d : row < framebuffer.height) where
       inside_hit : Inside (pos column) (pos row) r → get_or ps place 0 ≡ 1 → Hit s all column row
       inside_hit i e =
           let below = y.from row i.from_top in
@@ -90,27 +90,27 @@ module _ (fg : ℕ) (ps : List ℕ) (r : Rectangle) (part : VisiblePart) {width 
               hit_not s column row all (λ h. out (hit_inside h)) ∙ sym (rectangle_outside (Transparent fg) (pos column) (pos row) ps r out)
 
   -- Drawing the ones is drawing the glyph transparently.
-  ink_rectangle : (buffer : List ℕ) → BufferFits (length buffer) width height → shown width (ink_picture s all) buffer ≡ shown width (rectangle_picture (Transparent fg) ps r) buffer
+  ink_rectangle : (buffer : List ℕ) → BufferFits (length buffer) framebuffer → shown framebuffer (ink_picture s all) buffer ≡ shown framebuffer (rectangle_picture (Transparent fg) ps r) buffer
   ink_rectangle buffer f =
-      same_picture f.some (ink_picture s all) (rectangle_picture (Transparent fg) ps r) buffer
-      (λ column row c l. same_paint column row c (row_of_pixel width height column row (omega (arith, f.area))))
+      same_picture framebuffer f.some (ink_picture s all) (rectangle_picture (Transparent fg) ps r) buffer
+      (λ column row c l. same_paint column row c (on_framebuffer f column row c l))
 
   -- Drawing with a background is filling the rectangle and then drawing the ones.
-  ink_background : (buffer : List ℕ) → BufferFits (length buffer) width height → (bg : ℕ)
-      → shown width (ink_picture s all) (shown width (fill_picture bg (Some r)) buffer) ≡ shown width (rectangle_picture (WithBackground fg bg) ps r) buffer
+  ink_background : (buffer : List ℕ) → BufferFits (length buffer) framebuffer → (bg : ℕ)
+      → shown framebuffer (ink_picture s all) (shown framebuffer (fill_picture bg (Some r)) buffer) ≡ shown framebuffer (rectangle_picture (WithBackground fg bg) ps r) buffer
   ink_background buffer f bg =
-      let l = length_shown width (fill_picture bg (Some r)) buffer in
-      ink_rectangle (shown width (fill_picture bg (Some r)) buffer) (record { some = f.some; wide = f.wide; high = f.high; area = l ∙ f.area })
-      ∙ shown_shown width (rectangle_picture (Transparent fg) ps r) (fill_picture bg (Some r)) buffer
-      ∙ same_picture f.some (onto (rectangle_picture (Transparent fg) ps r) (fill_picture bg (Some r))) (rectangle_picture (WithBackground fg bg) ps r) buffer
+      let l = length_shown framebuffer (fill_picture bg (Some r)) buffer in
+      ink_rectangle (shown framebuffer (fill_picture bg (Some r)) buffer) (subst (λ (n : ℕ). BufferFits n framebuffer) (sym l) f)
+      ∙ shown_shown framebuffer (rectangle_picture (Transparent fg) ps r) (fill_picture bg (Some r)) buffer
+      ∙ same_picture framebuffer f.some (onto (rectangle_picture (Transparent fg) ps r) (fill_picture bg (Some r))) (rectangle_picture (WithBackground fg bg) ps r) buffer
       (λ column row c l. on_ground (covers r (pos column) (pos row)) (eqb (get_or ps (place column row) 0) 1) fg bg)
 
   -- The same of a glyph's box, by the colour: `old` is what the ones are drawn on.
-  module _ (g : GlyphReader) (wide : r.size.width ≡ g.glyph_width) (buffer : List ℕ) {old : List ℕ} (f : BufferFits (length buffer) width height) {color : FontColor}
+  module _ (g : GlyphReader) (wide : r.size.width ≡ g.glyph_width) (buffer : List ℕ) {old : List ℕ} (f : BufferFits (length buffer) framebuffer) {color : FontColor}
       {box : BoundingBox} (b : box ≡ Some r) {value : ℕ} (v : value ≡ fg) where
-    pub draws_transparent : color ≡ Transparent fg → old ≡ buffer → shown width (ones_picture ps g part value) old ≡ shown width (box_picture color ps box) buffer
+    pub draws_transparent : color ≡ Transparent fg → old ≡ buffer → shown framebuffer (ones_picture ps g part value) old ≡ shown framebuffer (box_picture color ps box) buffer
     draws_transparent c o = rw (c, b, v, o, ← wide) (ink_rectangle buffer f)
 
-    pub draws_background : {bg : ℕ} → color ≡ WithBackground fg bg → old ≡ shown width (fill_picture bg (Some r)) buffer
-        → shown width (ones_picture ps g part value) old ≡ shown width (box_picture color ps box) buffer
+    pub draws_background : {bg : ℕ} → color ≡ WithBackground fg bg → old ≡ shown framebuffer (fill_picture bg (Some r)) buffer
+        → shown framebuffer (ones_picture ps g part value) old ≡ shown framebuffer (box_picture color ps box) buffer
     draws_background {bg} c o = rw (o, c, b, v, ← wide) (ink_background buffer f bg)

@@ -3,7 +3,7 @@ use Rattle.std.specs.Prelude.{◌≡◌, List, ℕ, ℤ}
 use Rattle.definitions.specs.Vocabulary.{BoundingBox, Rectangle, FontReader, GlyphReader, Framebuffer}
 use Rattle.definitions.specs.Geometry.{left, top, InReach}
 use Rattle.definitions.specs.Text.{box_at}
-use Rattle.framebuffer.specs.Areas.{BufferFits}
+use Rattle.definitions.specs.Framebuffer.{BufferFits}
 use Rattle.runs.specs.Stands.{CheckedGlyph}
 use Rattle.visible_part.specs.Visible.{EndFits}
 
@@ -25,4 +25,4 @@ pub record GlyphArea (g : GlyphReader) (area : Rectangle) : Type 0 where
 pub record GlyphDrawable (font : List ℕ) (head : FontReader) (g : GlyphReader) (b : BoundingBox) (framebuffer : Framebuffer) (bytes : ℕ) : Type 0 where
   pub checked : CheckedGlyph font head g
   pub box : GlyphBox g b
-  pub window : BufferFits bytes framebuffer.width framebuffer.height
+  pub window : BufferFits bytes framebuffer

@@ -28,7 +28,7 @@ pub fn render_glyph(
     buffer: &mut [u8],
 )
     requires { GlyphDrawable font.now.bytes.now font.now.head glyph bounding_box framebuffer (length buffer.old) }
-    ensures { buffer.new ≡ shown framebuffer.width (box_picture color
+    ensures { buffer.new ≡ shown framebuffer (box_picture color
         (pixels_of (u8g2 font.now.bytes.now) glyph) bounding_box) buffer.old }
 {
     let Some(area) = bounding_box else {
