@@ -1,5 +1,5 @@
 -- Drawing the ones of a glyph stretch by stretch. Assumes nothing.
-use Rattle.integers.proofs.Prelude.{◌≡◌, refl, sym, ap, ◌∙◌, Bool, true, false, List, ℕ, ◌+◌, ◌-◌, ◌*◌, ◌≤◌, ◌<◌, max, mul-le-mul_right, dec_lt}
+use Rattle.integers.proofs.Prelude.{◌≡◌, refl, sym, ◌∙◌, Bool, true, false, List, ℕ, ◌+◌, ◌-◌, ◌*◌, ◌≤◌, ◌<◌, max, mul-le-mul_right, dec_lt}
 use Rattle.integers.proofs.Prelude.{arith, lt-ltb, le-leb, eq-eqb, ltb-true, leb-true, eqb-true, pos, get_or}
 use Rattle.std.proofs.lemmas.Bool.{and_parts}
 use Rattle.integers.proofs.Choices.{impossible}

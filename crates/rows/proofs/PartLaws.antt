@@ -1,16 +1,16 @@
--- The visible part of a glyph lies in the glyph and on the framebuffer. Assumes nothing.
-use Rattle.integers.proofs.Prelude.{List, ℕ, ◌+◌, ◌-◌, ◌*◌, ◌≤◌, add-mul, mul-le-mul_right, mul_comm, arith, length}
+-- The visible part of a glyph lies in the glyph. Assumes nothing.
+use Rattle.integers.proofs.Prelude.{List, ℕ, ◌+◌, ◌-◌, ◌*◌, ◌≤◌, add-mul, mul-le-mul_right, mul_comm, arith}
 use Rattle.definitions.specs.Vocabulary.{GlyphReader, Framebuffer}
 use Rattle.visible_part.specs.declared.VisiblePart.{VisiblePart}
 use Rattle.rows.specs.Ones.{PartFits, ones_of}
 use Rattle.rows.proofs.StateLaws.{Lies}
 
-pub part_lies : {g : GlyphReader} {part : VisiblePart} {framebuffer : Framebuffer} {entry : List ℕ} → PartFits g part framebuffer (length entry) → (ps : List ℕ) (value : ℕ)
-    → Lies (ones_of ps g.glyph_width part value) (g.glyph_width * g.glyph_height) framebuffer entry
+pub part_lies : {g : GlyphReader} {part : VisiblePart} {framebuffer : Framebuffer} {bytes : ℕ} → PartFits g part framebuffer bytes
+    → (ps : List ℕ) (value : ℕ) → Lies (ones_of ps g.glyph_width part value) (g.glyph_width * g.glyph_height) framebuffer
 part_lies {g} {part} f ps value =
     let rows : part.rows.start + (part.rows.end - part.rows.start) ≤ g.glyph_height = omega (arith, f.some_rows, f.in_height) in
     record {
-      window = f.window;
+      some = f.window.some;
       in_row = omega (arith, f.some_columns, f.in_width);
       in_glyph = omega (
         arith,
@@ -18,6 +18,4 @@ part_lies {g} {part} f ps value =
         mul-le-mul_right g.glyph_width rows,
         mul_comm g.glyph_width g.glyph_height,
       );
-      right = f.right;
-      bottom = f.bottom;
     }

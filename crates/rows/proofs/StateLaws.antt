@@ -1,33 +1,31 @@
 -- The drawing of rows: what holds at the head of each of its loops, and each step. Assumes nothing.
-use Rattle.integers.proofs.Prelude.{◌≡◌, refl, sym, ap, subst, ◌∙◌, List, ℕ, ◌+◌, ◌-◌, ◌*◌, ◌≤◌, ◌<◌, max, mul-le-mul_right, arith, lt-ltb, le-ltb}
-use Rattle.integers.proofs.Prelude.{length, get_or}
+use Rattle.integers.proofs.Prelude.{◌≡◌, sym, ap, subst, ◌∙◌, List, ℕ, ◌+◌, ◌-◌, ◌*◌, ◌≤◌, ◌<◌, max, mul-le-mul_right, arith, lt-ltb, le-ltb}
+use Rattle.integers.proofs.Prelude.{get_or}
 use Rattle.definitions.specs.Vocabulary.{Some, FontReader, GlyphReader, Framebuffer}
 use Rattle.definitions.specs.Font.{u8g2, pixels_of}
-use Rattle.definitions.specs.Framebuffer.{shown, BufferFits}
-use Rattle.definitions.proofs.FramebufferLaws.{length_shown}
+use Rattle.definitions.specs.Framebuffer.{shown}
 use Rattle.runs.specs.declared.Runs.{Runs}
 use Rattle.runs.specs.RunReads.{Short, in_font, next_pair}
 use Rattle.runs.specs.Stands.{Stands}
 use Rattle.runs.proofs.StandsLaws.{stands_pixel, stands_on, stands_next}
 use Rattle.framebuffer.specs.declared.line.Line.{Line}
 use Rattle.framebuffer.specs.Areas.{fill_picture}
-use Rattle.framebuffer.specs.Lines.{line_at, RowFits, LineFits, stretch}
+use Rattle.framebuffer.specs.Lines.{line_at, stretch}
 use Rattle.visible_part.specs.declared.VisiblePart.{VisiblePart}
 use Rattle.rows.specs.Ink.{Ones, ink_picture}
 use Rattle.rows.specs.Ones.{ones_of}
 use Rattle.rows.proofs.InkLaws.{ink_none, ink_zeros, ink_all, ink_ones}
 
--- The rows lie in a glyph of n pixels, and their visible part on the framebuffer that is `entry` at the call.
-pub record Lies (s : Ones) (n : ℕ) (framebuffer : Framebuffer) (entry : List ℕ) : Type 0 where
-  pub window : BufferFits (length entry) framebuffer
+-- The rows lie in a glyph of n pixels, and the framebuffer has columns.
+pub record Lies (s : Ones) (n : ℕ) (framebuffer : Framebuffer) : Type 0 where
+  pub some : 0 < framebuffer.width
   pub in_row : s.first + s.visible ≤ s.wide
   pub in_glyph : s.start + s.rows * s.wide ≤ n
-  pub right : s.left + s.visible ≤ framebuffer.width
-  pub bottom : s.top + s.rows ≤ framebuffer.height
 
 -- Of the rows `left` are left, and `line` is the next one's part. The pair ends before the column `to`, counted from the row's
 -- first; its ones that are not yet drawn begin at the column `from`.
-pub record At (font : List ℕ) (m0 m1 n : ℕ) (s : Ones) (framebuffer : Framebuffer) (entry buffer : List ℕ) (runs : Runs) (from to : ℕ) (line : Line) (left : ℕ) : Type 0 where
+pub record At (font : List ℕ) (m0 m1 n : ℕ) (s : Ones) (framebuffer : Framebuffer) (entry buffer : List ℕ)
+    (runs : Runs) (from to : ℕ) (line : Line) (left : ℕ) : Type 0 where
   pub row : ℕ
   pub is_row : row + left ≡ s.rows
   pub some : 1 ≤ left
@@ -52,9 +50,10 @@ module _ {font : List ℕ} {m0 m1 n : ℕ} {ps : List ℕ} {runs : Runs} {offset
   one_on : (k : ℕ) → runs.zeros ≤ offset + k → offset + k < runs.zeros + runs.ones → i + k < n → get_or ps (i + k) 0 ≡ 1
   one_on k h m l = stands_pixel (stands_on s k) m l ∙ simp (le-ltb (offset + k) runs.zeros h)
 
-module _ {font : List ℕ} {m0 m1 n : ℕ} {s : Ones} {framebuffer : Framebuffer} {entry : List ℕ} (f : Lies s n framebuffer entry) where
+module _ {font : List ℕ} {m0 m1 n : ℕ} {s : Ones} {framebuffer : Framebuffer} (f : Lies s n framebuffer) where
   -- A pair whose pixels from `offset` on begin at a column of the row: its zeros, and then its ones.
-  module _ {buffer : List ℕ} {runs : Runs} (offset row column from to : ℕ) (line : Line) (left : ℕ) (is_row : row + left ≡ s.rows) (more : 1 ≤ left)
+  module _ (entry : List ℕ) {buffer : List ℕ} {runs : Runs} (offset row column from to : ℕ) (line : Line) (left : ℕ)
+      (is_row : row + left ≡ s.rows) (more : 1 ≤ left)
       (is_line : line ≡ line_at framebuffer (s.top + row) s.left s.visible)
       (is_from : from ≡ column + (runs.zeros - offset)) (is_to : to ≡ column + (runs.zeros + runs.ones - offset))
       (drawn : buffer ≡ shown framebuffer (ink_picture s (row * s.wide + column)) entry) (h : offset ≤ runs.zeros + runs.ones)
@@ -85,43 +84,36 @@ module _ {font : List ℕ} {m0 m1 n : ℕ} {s : Ones} {framebuffer : Framebuffer
       some = more;
       is_line = is_line;
       order = omega arith;
-      drawn = drawn ∙ ink_zeros s framebuffer f.window.some entry f.in_row (row * s.wide + column) (row * s.wide + from) (omega arith) zeros;
+      drawn = drawn ∙ ink_zeros s framebuffer f.some entry f.in_row (row * s.wide + column) (row * s.wide + from) (omega arith) zeros;
       stands = stands_end;
       ones = ones;
     }
 
   -- The first pair.
-  pub at_start : {runs : Runs} {offset from to : ℕ} {line : Line} → 1 ≤ s.rows → offset ≤ runs.zeros + runs.ones → Stands font m0 m1 n s.ps runs offset s.start
+  pub at_start : {entry : List ℕ} {runs : Runs} {offset from to : ℕ} {line : Line} → 1 ≤ s.rows → offset ≤ runs.zeros + runs.ones
+      → Stands font m0 m1 n s.ps runs offset s.start
       → from ≡ runs.zeros - offset → to ≡ runs.zeros + runs.ones - offset → line ≡ line_at framebuffer s.top s.left s.visible
       → At font m0 m1 n s framebuffer entry entry runs from to line s.rows
-  at_start {runs} {offset} {from} {to} {line} h k stands is_from is_to is_line =
+  at_start {entry} {runs} {offset} {from} {to} {line} h k stands is_from is_to is_line =
       let z : 0 * s.wide + 0 ≡ 0 = omega arith in
       let e : s.start ≡ s.start + (0 * s.wide + 0) = omega arith in
       let t : s.top ≡ s.top + 0 = omega arith in
-      at_pair offset 0 0 from to line s.rows (omega arith) h (is_line ∙ ap (λ (y : ℕ). line_at framebuffer y s.left s.visible) t) (omega arith) (omega arith)
-      (rw z (sym (ink_none s framebuffer f.window.some entry f.in_row))) k (subst (λ (i : ℕ). Stands font m0 m1 n s.ps runs offset i) e stands)
+      at_pair entry offset 0 0 from to line s.rows (omega arith) h (is_line ∙ ap (λ (y : ℕ). line_at framebuffer y s.left s.visible) t) (omega arith) (omega arith)
+      (rw z (sym (ink_none s framebuffer f.some entry f.in_row))) k (subst (λ (i : ℕ). Stands font m0 m1 n s.ps runs offset i) e stands)
 
-  module _ {buffer : List ℕ} {runs : Runs} {from to : ℕ} {line : Line} {left : ℕ} (a : At font m0 m1 n s framebuffer entry buffer runs from to line left) where
-    -- The row's part lies on the framebuffer,
-    pub line_fits : LineFits (length buffer) framebuffer line
-    line_fits =
-        let l : length buffer ≡ length entry = ap length a.drawn ∙ length_shown framebuffer (ink_picture s (a.row * s.wide + from)) entry in
-        rw (l, a.is_line) record { fits = f.window; below = omega (arith, a.is_row, a.some, f.bottom); right = f.right; start = refl; pixel = refl }
-
-    -- and where there is a next one, so does that one's.
-    pub next_fits : 2 ≤ left → RowFits framebuffer (line.row + 1) s.left s.visible
-    next_fits h = rw a.is_line record { wide = f.window.wide; high = f.window.high; below = omega (arith, a.is_row, f.bottom); right = f.right }
-
-    filled : {new : List ℕ} (end : ℕ) → end ≤ s.wide → end ≤ to → new ≡ shown framebuffer (fill_picture s.value (Some (stretch s.first from end line))) buffer
+  module _ {entry buffer : List ℕ} {runs : Runs} {from to : ℕ} {line : Line} {left : ℕ} (a : At font m0 m1 n s framebuffer entry buffer runs from to line left) where
+    filled : {new : List ℕ} (end : ℕ) → end ≤ s.wide → end ≤ to
+        → new ≡ shown framebuffer (fill_picture s.value (Some (stretch s.first from end line))) buffer
         → new ≡ shown framebuffer (ink_picture s (a.row * s.wide + max from end)) entry
     filled end h k e =
         e
         ∙ rw (a.is_line, a.drawn) (ink_ones s framebuffer a.row from end f.in_row (omega (arith, a.is_row, a.some)) h (λ i x y.
         let r : a.row + 1 ≤ s.rows = omega (arith, a.is_row, a.some) in
-        a.ones i x (omega arith) (omega (arith, mul-le-mul_right s.wide r))) f.window.some entry)
+        a.ones i x (omega arith) (omega (arith, mul-le-mul_right s.wide r))) f.some entry)
 
     -- The pair reaches the row's end, and there are more rows.
-    pub at_row : {new : List ℕ} {next : Line} → s.wide ≤ to → 2 ≤ left → new ≡ shown framebuffer (fill_picture s.value (Some (stretch s.first from s.wide line))) buffer
+    pub at_row : {new : List ℕ} {next : Line} → s.wide ≤ to → 2 ≤ left
+        → new ≡ shown framebuffer (fill_picture s.value (Some (stretch s.first from s.wide line))) buffer
         → next ≡ line_at framebuffer (line.row + 1) s.left s.visible
         → At font m0 m1 n s framebuffer entry new runs (from - s.wide) (to - s.wide) next (left - 1)
     at_row h k e is_next =
@@ -140,11 +132,12 @@ module _ {font : List ℕ} {m0 m1 n : ℕ} {s : Ones} {framebuffer : Framebuffer
         }
 
     -- .. and it was the last.
-    pub all_rows : {new : List ℕ} → s.wide ≤ to → left ≡ 1 → new ≡ shown framebuffer (fill_picture s.value (Some (stretch s.first from s.wide line))) buffer
+    pub all_rows : {new : List ℕ} → s.wide ≤ to → left ≡ 1
+        → new ≡ shown framebuffer (fill_picture s.value (Some (stretch s.first from s.wide line))) buffer
         → new ≡ shown framebuffer (ink_picture s (s.rows * s.wide)) entry
     all_rows h k e =
         let r : a.row + 1 ≡ s.rows = omega (arith, a.is_row) in
-        filled s.wide (omega arith) h e ∙ ink_all s framebuffer f.window.some entry f.in_row (a.row * s.wide + max from s.wide) (rw (← r) (omega arith))
+        filled s.wide (omega arith) h e ∙ ink_all s framebuffer f.some entry f.in_row (a.row * s.wide + max from s.wide) (rw (← r) (omega arith))
 
     -- The row goes on with the next pair.
     pub at_next : {q : Runs} {new : List ℕ} → to < s.wide → in_font font q ≡ next_pair font m0 m1 runs
@@ -156,5 +149,5 @@ module _ {font : List ℕ} {m0 m1 n : ℕ} {s : Ones} {framebuffer : Framebuffer
         let z : runs.zeros + runs.ones - (runs.zeros + runs.ones) ≡ 0 = omega arith in
         let t : max from to ≡ to = omega (arith, a.order) in
         let stands = rw z at (stands_next a.stands (omega arith) i e) in
-        at_pair 0 a.row to (to + q.zeros) (to + q.zeros + q.ones) line left a.is_row a.some a.is_line (omega arith) (omega arith)
+        at_pair entry 0 a.row to (to + q.zeros) (to + q.zeros + q.ones) line left a.is_row a.some a.is_line (omega arith) (omega arith)
         (filled to (omega arith) (omega arith) d ∙ ap (λ (p : ℕ). shown framebuffer (ink_picture s (a.row * s.wide + p)) entry) t) (omega arith) stands

@@ -1,13 +1,8 @@
--- Each step goes from a state to another, and each row's part lies on the framebuffer (StateLaws). Assumes nothing.
-use Rattle.integers.proofs.Prelude.{◌≡◌, ap, ℕ, ◌-◌, arith}
-use Rattle.rows.proofs.StateLaws.{at_start, line_fits, next_fits, at_row, all_rows, at_next}
+-- Each step goes from a state to another (StateLaws). Assumes nothing.
+use Rattle.integers.proofs.Prelude.{ap, ℕ, ◌-◌, arith}
+use Rattle.rows.proofs.StateLaws.{at_start, at_row, all_rows, at_next}
 use Rattle.rows.proofs.PartLaws.{part_lies}
 use Rattle.rows.proofs.draw_rows.Goals as goal
-
-pub new-line-requires : goal.new-line-requires
-new-line-requires c =
-    let f = c.requires.fits in
-    record { wide = f.window.wide; high = f.window.high; below = omega (arith, f.some_rows, f.bottom); right = f.right }
 
 pub pairs-init : goal.pairs-init
 pairs-init c =
@@ -19,12 +14,6 @@ pairs-init c =
           c.saturating_sub-from.ensures (ap (λ (k : ℕ). k - place.result.offset) c.count.ensures) c.new-line.ensures;
     }
 
-pub fill_columns-requires : goal.fill_columns-requires
-fill_columns-requires c = line_fits (part_lies c.requires.fits _ _) c.loop-to.invariant.at
-
-pub new-line-requires-in-loop-to : goal.new-line-requires-in-loop-to
-new-line-requires-in-loop-to c = next_fits (part_lies c.requires.fits _ _) c.loop-to.invariant.at (omega (arith, c.loop-to.invariant.at.some))
-
 pub loop-to-preserved : goal.loop-to-preserved
 loop-to-preserved c =
     let l = c.loop-to in
@@ -35,9 +24,6 @@ loop-to-preserved c =
           (at_row (part_lies c.requires.fits _ _) l.invariant.at (rw wide at c.loop-to-test.true) (omega (arith, l.invariant.at.some)) (rw wide at c.fill_columns.ensures)
           c.new-line-in-loop-to.ensures);
     }
-
-pub fill_columns-requires-in-pairs : goal.fill_columns-requires-in-pairs
-fill_columns-requires-in-pairs c = line_fits (part_lies c.requires.fits _ _) c.loop-to.invariant.at
 
 pub pairs-preserved : goal.pairs-preserved
 pairs-preserved c =
