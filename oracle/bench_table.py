@@ -22,10 +22,10 @@ def numbers(path):
 
 
 def counts(folder, rows):
-    """Instructions a call, Rust and ours: four dumps a row, of which the second and the fourth are of ten calls."""
+    """Instructions a call, Rust, ours and ours packed: six dumps a row, of which each second is of ten calls."""
     def total(i):
         return next(int(line.split()[1]) for line in lines('%s/count.%d' % (folder, i)) if line.startswith('totals:')) / 10
-    return [(total(4 * i + 2), total(4 * i + 4)) for i in range(rows)]
+    return [(total(6 * i + 2), total(6 * i + 4), total(6 * i + 6)) for i in range(rows)]
 
 
 def ratio(a, b, goal):
@@ -87,13 +87,18 @@ def main(folder, library, header):
     release, lto = (counts('%s/%s' % (folder, build), len(names)) for build in ('release', 'lto'))
     times, lto_times = (numbers('%s/%s/time' % (folder, build)) for build in ('release', 'lto'))
     rows = []
-    for name, (rust, ours), (fat, _), time, lto_time in zip(names, release, lto, times, lto_times):
+    for name, (rust, ours, _), (fat, *_), time, lto_time in zip(names, release, lto, times, lto_times):
         goals = GOALS[re.match(r'\w+', name)[0]]
         rows.append((name, *map('{:,.0f}'.format, (rust, fat, ours)), ratio(ours, rust, goals[0]), ratio(ours, fat, goals[1]),
                      ratio(time[1], time[0], None), ratio(lto_time[1], lto_time[0], None)))
     table(('Row', 'Rust', 'Rust, LTO', 'ours', 'ours / Rust', 'ours / LTO', 'time / Rust', 'time / LTO'), *rows)
     apart = max(abs(a[1] - b[1]) for a, b in zip(release, lto))
     print('\nThe most by which ours differs between the two programs, in instructions a call: %.0f.' % apart)
+
+    # what the calls that draw take on a packed framebuffer
+    table(('Row', 'ours', 'ours, packed', 'packed / bytes'),
+          *((name, *map('{:,.0f}'.format, (ours, packed)), ratio(packed, ours, 1.5))
+            for name, (_, ours, packed) in zip(names, release) if name.startswith('draw')))
 
     table(*growth(names, release, lto))
 

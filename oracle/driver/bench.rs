@@ -1,6 +1,6 @@
 //! The benchmark: the same inputs through the Rust and through the static library. FOLDER holds the fonts made of strokes.
-//!   bench FOLDER names    compares both sides' answers and framebuffers but for centred drawing, and names the inputs
-//!   bench FOLDER count    makes ten calls of each input between calls of `bench_mark`, for a tool that counts instructions
+//!   bench FOLDER names    compares both sides' answers and framebuffers but for centred drawing, ours in both formats, and names the inputs
+//!   bench FOLDER count    makes ten calls of each input between calls of `bench_mark`, for a tool that counts instructions: Rust, ours, ours packed
 //!   bench FOLDER time     nanoseconds a call: Rust, ours
 //!   bench FOLDER stack    bytes of stack a call: Rust, ours
 
@@ -138,13 +138,14 @@ fn rust(input: &Input, buffer: &mut [u8]) -> i32 {
     }
 }
 
-fn ours(input: &Input, buffer: &mut [u8]) -> i32 {
+/// On a packed framebuffer, whose pixels are 0 and 1, the background is 0.
+fn ours_on(format: ours::PixelFormat, bg: u8, input: &Input, buffer: &mut [u8]) -> i32 {
     let font = ours::FontRenderer::new_unread(&input.font, input.line_height);
     let text = input.text.as_str();
     let position = ours::Point::new(input.place.0, input.place.1);
     let anchor = ours::VerticalPosition::Baseline;
     let draw = |color, pixels| {
-        let mut framebuffer = ours::Framebuffer::new(WIDTH, HEIGHT, pixels);
+        let mut framebuffer = ours::Framebuffer { format, width: WIDTH, height: HEIGHT, pixels };
         seen(&font.render(text, position, anchor, color, &mut framebuffer)).result.map_or(-1, |d| d.advance.x)
     };
     match input.call {
@@ -156,15 +157,31 @@ fn ours(input: &Input, buffer: &mut [u8]) -> i32 {
                 .map_or(-1, |b| b.map_or(0, |b| b.top_left.x))
         }
         Call::Transparent => draw(ours::FontColor::Transparent(1), buffer),
-        Call::Background => draw(ours::FontColor::WithBackground { fg: 1, bg: 2 }, buffer),
+        Call::Background => draw(ours::FontColor::WithBackground { fg: 1, bg }, buffer),
         Call::Centred => {
-            let mut framebuffer = ours::Framebuffer::new(WIDTH, HEIGHT, buffer);
+            let mut framebuffer = ours::Framebuffer { format, width: WIDTH, height: HEIGHT, pixels: buffer };
             let (align, color) = (ours::HorizontalAlignment::Center, ours::FontColor::Transparent(1));
             seen(&font.render_aligned(text, position, anchor, align, color, &mut framebuffer))
                 .result
                 .map_or(-1, |b| b.map_or(0, |b| b.top_left.x))
         }
     }
+}
+
+fn ours(input: &Input, buffer: &mut [u8]) -> i32 {
+    ours_on(ours::PixelFormat::Bytes, 2, input, buffer)
+}
+
+fn packed(input: &Input, buffer: &mut [u8]) -> i32 {
+    ours_on(ours::PixelFormat::Packed, 0, input, &mut buffer[..WIDTH * HEIGHT / 8])
+}
+
+/// Whether ours answers and shows the same in both formats.
+fn same_packed(input: &Input) -> bool {
+    let (mut bytes, mut bits) = (vec![0; WIDTH * HEIGHT], vec![0; WIDTH * HEIGHT]);
+    let answers = (ours_on(ours::PixelFormat::Bytes, 0, input, &mut bytes), packed(input, &mut bits));
+    let pixel = |i: usize| bits[i / WIDTH / 8 * WIDTH + i % WIDTH] >> (i / WIDTH % 8) & 1;
+    answers.0 == answers.1 && (0..WIDTH * HEIGHT).all(|i| bytes[i] == pixel(i))
 }
 
 type Side = fn(&Input, &mut [u8]) -> i32;
@@ -222,11 +239,11 @@ fn main() {
                 let answers = (rust(input, &mut a), ours(input, &mut b));
                 // Centred lines may part: the Rust measures them by another path (docs/DIFFERENCES.md).
                 let alike = answers.0 == answers.1 && a == b || matches!(input.call, Call::Centred);
-                assert!(alike && answers.0 != -1, "{}: {answers:?}", input.name);
+                assert!(alike && answers.0 != -1 && same_packed(input), "{}: {answers:?}", input.name);
                 println!("{}", input.name);
             }
             "count" => {
-                for side in [rust, ours] {
+                for side in [rust, ours, packed] {
                     repeat(side, 2, input, &mut buffer);
                     bench_mark();
                     repeat(side, 10, input, &mut buffer);
