@@ -1,24 +1,25 @@
 -- The causes are tested in the definition's order: the framebuffer and the old text between the font and the new text, and the
--- colour last.
+-- colours last.
 use Rattle.std.proofs.lemmas.Result.{err_from_is_err_and}
 use Rattle.integers.proofs.Prelude.{◌≡◌, refl, sym, ap, ◌∙◌, false, List, [], ◌∷◌, w8, SFits, to_z-of_z, rules}
-use Rattle.definitions.specs.Vocabulary.{Point}
+use Rattle.definitions.specs.Vocabulary.{Point, Transparent}
 use Rattle.definitions.specs.Refusals.{Cause, any_applies}
 use Rattle.definitions.specs.Header.{Opened}
 use Rattle.definitions.specs.Framebuffer.{framebuffer_cause}
-use Rattle.definitions.specs.Limits.{text_cause, background_off, background_cause}
+use Rattle.definitions.specs.Limits.{text_cause, color_off, color_cause, background_off, background_cause}
 use Rattle.definitions.specs.Font.{u8g2}
 use Rattle.definitions.specs.Calls.{Request}
 use Rattle.definitions.proofs.OpenedLaws.{opened}
-use Rattle.definitions.proofs.RefusalLaws.{each_off}
+use Rattle.definitions.proofs.RefusalLaws.{or_false, each_off}
 use Rattle.checks.specs.Origins.{place_causes}
 use Rattle.checks.proofs.OriginLaws.{origin_read, placed_checked}
 use Rattle.checks.proofs.LimitLaws.{color_is}
-use Rattle.checks.proofs.SizeLaws.{size_fits}
+use Rattle.definitions.proofs.FramebufferLaws.{size_fits}
 use Rattle.checks.proofs.SetupLaws.{refused_at, refused_after, font_refused, between_refused, place_refused, last_refused, none_refused}
 use Rattle.redraw_checks.specs.Drawing.{Drawing, asks, asked, with_text}
 use Rattle.redraw_checks.proofs.check_step.Goals as goal
-use Rattle.redraw_checks.proofs.check_step.Goals.{Start, In_ok-font, Else-has_bad_size, Else-has_bad_text}
+use Rattle.redraw_checks.proofs.ChecksLaws.{refused_either}
+use Rattle.redraw_checks.proofs.check_step.Goals.{Start, In_ok-font, Else-has_bad_size, Else-has_bad_text, Else-has_unsupported_colors}
 
 module _ (c : Start) where
   abbrev new : Drawing
@@ -27,8 +28,17 @@ module _ (c : Start) where
   abbrev between : List Cause
   between = framebuffer_cause c.args.place.framebuffer c.args.buffer.now ∷ text_cause c.args.old_text.now ∷ []
 
+  abbrev ink : Cause
+  ink = color_cause c.args.place.framebuffer.format c.args.place.style.color
+
+  abbrev clearing : Cause
+  clearing = color_cause c.args.place.framebuffer.format (Transparent c.args.place.background)
+
+  abbrev allowance : Cause
+  allowance = background_cause c.args.place.style.color (u8g2 c.args.font.now).background
+
   abbrev color : List Cause
-  color = background_cause c.args.place.style.color (u8g2 c.args.font.now).background ∷ []
+  color = ink ∷ clearing ∷ allowance ∷ []
 
 -- the framebuffer has its size, the old text can be drawn
 size_in : (c : Else-has_bad_size) → (framebuffer_cause c.args.place.framebuffer c.args.buffer.now).applies ≡ false
@@ -36,6 +46,11 @@ size_in c = sym c.has_bad_size.ensures ∙ c.if-has_bad_size.false
 
 old_in : (c : Else-has_bad_text) → (text_cause c.args.old_text.now).applies ≡ false
 old_in c = sym c.has_bad_text.ensures ∙ c.if-has_bad_text.false
+
+-- each of the colours is one that the framebuffer has
+colors_in : (c : Else-has_unsupported_colors) → let p = c.args.place in
+    (color_off p.framebuffer.format p.style.color ≡ false) × (color_off p.framebuffer.format (Transparent p.background) ≡ false)
+colors_in c = or_false _ _ (sym c.has_unsupported_colors.ensures ∙ c.if-has_unsupported_colors.false)
 
 -- the answer to the colour is the cause's
 color_tested : (c : In_ok-font) → let a = c.args in (background_cause a.place.style.color (u8g2 a.font.now).background).applies
@@ -72,15 +87,25 @@ returns-in_err-setup c =
     rw (p.1, p.2)
     (place_refused c.args.font.now (between s) (asks (new s)) (color s) c.in_ok-font.ensures.1 (rw (size_in e, old_in o) refl) c.in_err-setup.ensures)
 
+pub returns-then-has_unsupported_colors : goal.returns-then-has_unsupported_colors
+returns-then-has_unsupported_colors c =
+    let s = (goal.at.returns-then-has_unsupported_colors c).Start in
+    let e = (goal.at.returns-then-has_unsupported_colors c).Else-has_bad_size in
+    let o = (goal.at.returns-then-has_unsupported_colors c).Else-has_bad_text in
+    last_refused c.args.font.now (between s) (asks (new s)) (color s) c.in_ok-font.ensures.1 (rw (size_in e, old_in o) refl) c.in_ok-setup.ensures.0
+    (refused_either 9 (ink s).applies (clearing s).applies (allowance s ∷ []) (sym c.has_unsupported_colors.ensures ∙ c.if-has_unsupported_colors.true))
+
 pub returns-then-has_bad_color : goal.returns-then-has_bad_color
 returns-then-has_bad_color c =
     let s = (goal.at.returns-then-has_bad_color c).Start in
     let e = (goal.at.returns-then-has_bad_color c).Else-has_bad_size in
     let o = (goal.at.returns-then-has_bad_color c).Else-has_bad_text in
     let k = (goal.at.returns-then-has_bad_color c).In_ok-font in
+    let b = colors_in (goal.at.returns-then-has_bad_color c).Else-has_unsupported_colors in
     last_refused c.args.font.now (between s) (asks (new s)) (color s) c.in_ok-font.ensures.1 (rw (size_in e, old_in o) refl) c.in_ok-setup.ensures.0
-    (refused_at (background_cause c.args.place.style.color (u8g2 c.args.font.now).background) []
-    (color_tested k ∙ sym c.has_bad_color.ensures ∙ c.if-has_bad_color.true))
+    (refused_after (ink s ∷ clearing s ∷ []) (allowance s ∷ []) (rw (b.0, b.1) refl)
+    (refused_at (allowance s) []
+    (color_tested k ∙ sym c.has_bad_color.ensures ∙ c.if-has_bad_color.true)))
 
 pub returns : goal.returns
 returns c =
@@ -97,7 +122,9 @@ returns c =
     let placed : any_applies (place_causes r) ≡ false = rw (old_in t, (each_off (place_causes (asks (new s))) c.in_ok-setup.ensures.0).1.0) refl in
     let is = c.new-old_pen.ensures
     ∙ ap (λ (o : Point). record { origin = o; line_height = r.line_height; ignore_unknown_chars = false }) (simp (to_z-of_z, up, down) at c.text_origin-old_origin.ensures) in
-    let none : any_applies (color s) ≡ false = rw (color_tested (goal.at.returns c).In_ok-font ∙ sym c.has_bad_color.ensures ∙ c.if-has_bad_color.false) refl in (
+    let b = colors_in (goal.at.returns c).Else-has_unsupported_colors in
+    let allowed = color_tested (goal.at.returns c).In_ok-font ∙ sym c.has_bad_color.ensures ∙ c.if-has_bad_color.false in
+    let none : any_applies (color s) ≡ false = rw (b.0, b.1, allowed) refl in (
       none_refused font (between s) (asks (new s)) (color s) c.in_ok-font.ensures.1 (rw (size_in e, old_in t) refl) c.in_ok-setup.ensures.0 none,
       record {
         old_set = record {
