@@ -45,7 +45,8 @@ module _ {g : GlyphReader} {r : Rectangle} (a : GlyphArea g r) (framebuffer : Fr
       → Seen (top r) r.size.height framebuffer.height part.rows.start part.rows.end part.top
   rows_seen h = rw (e, a.height) (seen_visible (top r) g.glyph_height framebuffer.height (rw e at h))
 
-  pub part_fits : {bytes : ℕ} → BufferFits bytes framebuffer → part.columns.start < part.columns.end → part.rows.start < part.rows.end → PartFits g part framebuffer bytes
+  pub part_fits : {bytes : ℕ} → BufferFits bytes framebuffer
+      → part.columns.start < part.columns.end → part.rows.start < part.rows.end → PartFits g part framebuffer bytes
   part_fits f h k =
       let x = columns_seen h in
       let y = rows_seen k in

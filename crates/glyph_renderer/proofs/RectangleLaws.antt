@@ -1,7 +1,7 @@
 -- The ones of a glyph's visible part are the glyph's picture on the framebuffer, and a background may be filled first. Assumes
 -- nothing.
-use Rattle.integers.proofs.Prelude.{◌≡◌, refl, sym, ap, subst, ◌∙◌, Bool, true, false, List, ℕ, ◌+◌, ◌-◌, ◌*◌, ◌≤◌, ◌<◌, add-mul, mul-le-mul_right, arith}
-use Rattle.integers.proofs.Prelude.{eqb, pos, nat_abs, ◌-ℤ◌, length, get_or, eqb-true, eqb-false}
+use Rattle.integers.proofs.Prelude.{◌≡◌, refl, sym, ap, subst, ◌∙◌, Bool, true, false, List, ℕ, ◌+◌, ◌-◌, ◌*◌, ◌≤◌, ◌<◌}
+use Rattle.integers.proofs.Prelude.{add-mul, mul-le-mul_right, arith, eqb, pos, nat_abs, ◌-ℤ◌, length, get_or, eqb-true, eqb-false}
 use Rattle.integers.specs.Integers.{pick}
 use Rattle.definitions.specs.Vocabulary.{BoundingBox, Some, Rectangle, GlyphReader, Framebuffer, FontColor, Transparent, WithBackground}
 use Rattle.definitions.specs.Geometry.{Inside, left, top}
@@ -18,7 +18,8 @@ use Rattle.rows.proofs.InkLaws.{Hit, hit_is, hit_not}
 use Rattle.visible_part.proofs.VisibleLaws.{Seen, from_seen, to_seen, seen_index}
 
 -- A rectangle of which no pixel lies on the framebuffer shows nothing.
-pub not_shown : (framebuffer : Framebuffer) (buffer : List ℕ) → BufferFits (length buffer) framebuffer → (color : FontColor) (ps : List ℕ) (r : Rectangle)
+pub not_shown : (framebuffer : Framebuffer) (buffer : List ℕ) → BufferFits (length buffer) framebuffer
+    → (color : FontColor) (ps : List ℕ) (r : Rectangle)
     → ((column row : ℕ) → column < framebuffer.width → row < framebuffer.height → Inside (pos column) (pos row) r → ⊥)
     → shown framebuffer (rectangle_picture color ps r) buffer ≡ buffer
 not_shown framebuffer buffer f color ps r out =
@@ -90,25 +91,30 @@ module _ (framebuffer : Framebuffer) (fg : ℕ) (ps : List ℕ) (r : Rectangle) 
               hit_not s column row all (λ h. out (hit_inside h)) ∙ sym (rectangle_outside (Transparent fg) (pos column) (pos row) ps r out)
 
   -- Drawing the ones is drawing the glyph transparently.
-  ink_rectangle : (buffer : List ℕ) → BufferFits (length buffer) framebuffer → shown framebuffer (ink_picture s all) buffer ≡ shown framebuffer (rectangle_picture (Transparent fg) ps r) buffer
+  ink_rectangle : (buffer : List ℕ) → BufferFits (length buffer) framebuffer
+      → shown framebuffer (ink_picture s all) buffer ≡ shown framebuffer (rectangle_picture (Transparent fg) ps r) buffer
   ink_rectangle buffer f =
       same_picture framebuffer f.some (ink_picture s all) (rectangle_picture (Transparent fg) ps r) buffer
       (λ column row c l. same_paint column row c (on_framebuffer f column row c l))
 
   -- Drawing with a background is filling the rectangle and then drawing the ones.
   ink_background : (buffer : List ℕ) → BufferFits (length buffer) framebuffer → (bg : ℕ)
-      → shown framebuffer (ink_picture s all) (shown framebuffer (fill_picture bg (Some r)) buffer) ≡ shown framebuffer (rectangle_picture (WithBackground fg bg) ps r) buffer
+      → shown framebuffer (ink_picture s all) (shown framebuffer (fill_picture bg (Some r)) buffer)
+      ≡ shown framebuffer (rectangle_picture (WithBackground fg bg) ps r) buffer
   ink_background buffer f bg =
-      let l = length_shown framebuffer (fill_picture bg (Some r)) buffer in
-      ink_rectangle (shown framebuffer (fill_picture bg (Some r)) buffer) (subst (λ (n : ℕ). BufferFits n framebuffer) (sym l) f)
-      ∙ shown_shown framebuffer (rectangle_picture (Transparent fg) ps r) (fill_picture bg (Some r)) buffer
-      ∙ same_picture framebuffer f.some (onto (rectangle_picture (Transparent fg) ps r) (fill_picture bg (Some r))) (rectangle_picture (WithBackground fg bg) ps r) buffer
+      let ones = rectangle_picture (Transparent fg) ps r in
+      let ground = fill_picture bg (Some r) in
+      let l = length_shown framebuffer ground buffer in
+      ink_rectangle (shown framebuffer ground buffer) (subst (λ (n : ℕ). BufferFits n framebuffer) (sym l) f)
+      ∙ shown_shown framebuffer ones ground buffer
+      ∙ same_picture framebuffer f.some (onto ones ground) (rectangle_picture (WithBackground fg bg) ps r) buffer
       (λ column row c l. on_ground (covers r (pos column) (pos row)) (eqb (get_or ps (place column row) 0) 1) fg bg)
 
   -- The same of a glyph's box, by the colour: `old` is what the ones are drawn on.
-  module _ (g : GlyphReader) (wide : r.size.width ≡ g.glyph_width) (buffer : List ℕ) {old : List ℕ} (f : BufferFits (length buffer) framebuffer) {color : FontColor}
-      {box : BoundingBox} (b : box ≡ Some r) {value : ℕ} (v : value ≡ fg) where
-    pub draws_transparent : color ≡ Transparent fg → old ≡ buffer → shown framebuffer (ones_picture ps g part value) old ≡ shown framebuffer (box_picture color ps box) buffer
+  module _ (g : GlyphReader) (wide : r.size.width ≡ g.glyph_width) (buffer : List ℕ) {old : List ℕ}
+      (f : BufferFits (length buffer) framebuffer) {color : FontColor} {box : BoundingBox} (b : box ≡ Some r) {value : ℕ} (v : value ≡ fg) where
+    pub draws_transparent : color ≡ Transparent fg → old ≡ buffer
+        → shown framebuffer (ones_picture ps g part value) old ≡ shown framebuffer (box_picture color ps box) buffer
     draws_transparent c o = rw (c, b, v, o, ← wide) (ink_rectangle buffer f)
 
     pub draws_background : {bg : ℕ} → color ≡ WithBackground fg bg → old ≡ shown framebuffer (fill_picture bg (Some r)) buffer

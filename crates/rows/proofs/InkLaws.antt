@@ -107,7 +107,8 @@ module _ (s : Ones) (framebuffer : Framebuffer) (some : 0 < framebuffer.width) (
       ∙ shown_blank framebuffer buffer
 
   -- All rows are drawn.
-  pub ink_all : (p : ℕ) → s.rows * s.wide ≤ p → shown framebuffer (ink_picture s p) buffer ≡ shown framebuffer (ink_picture s (s.rows * s.wide)) buffer
+  pub ink_all : (p : ℕ) → s.rows * s.wide ≤ p
+      → shown framebuffer (ink_picture s p) buffer ≡ shown framebuffer (ink_picture s (s.rows * s.wide)) buffer
   ink_all p h =
       sym (same_picture framebuffer some (ink_picture s (s.rows * s.wide)) (ink_picture s p) buffer
       (λ column y c l. more_ink s column y (s.rows * s.wide) p h (in_rows s column y p f)))
@@ -185,7 +186,9 @@ module _ (s : Ones) (framebuffer : Framebuffer) (r from to : ℕ) (f : s.first +
 
   -- Filling the stretch is drawing its ones.
   pub ink_ones : 0 < framebuffer.width → (buffer : List ℕ)
-      → shown framebuffer (fill_picture s.value (Some part)) (shown framebuffer (ink_picture s p) buffer) ≡ shown framebuffer (ink_picture s q) buffer
+      → shown framebuffer (fill_picture s.value (Some part)) (shown framebuffer (ink_picture s p) buffer)
+      ≡ shown framebuffer (ink_picture s q) buffer
   ink_ones some buffer =
-      shown_shown framebuffer (fill_picture s.value (Some part)) (ink_picture s p) buffer
-      ∙ same_picture framebuffer some (onto (fill_picture s.value (Some part)) (ink_picture s p)) (ink_picture s q) buffer (λ column y c l. part_ink column y)
+      let fill = fill_picture s.value (Some part) in
+      shown_shown framebuffer fill (ink_picture s p) buffer
+      ∙ same_picture framebuffer some (onto fill (ink_picture s p)) (ink_picture s q) buffer (λ column y c l. part_ink column y)

@@ -1,6 +1,6 @@
 -- The drawing of rows: what holds at the head of each of its loops, and each step. Assumes nothing.
-use Rattle.integers.proofs.Prelude.{◌≡◌, sym, ap, subst, ◌∙◌, List, ℕ, ◌+◌, ◌-◌, ◌*◌, ◌≤◌, ◌<◌, max, mul-le-mul_right, arith, lt-ltb, le-ltb}
-use Rattle.integers.proofs.Prelude.{get_or}
+use Rattle.integers.proofs.Prelude.{◌≡◌, sym, ap, subst, ◌∙◌, List, ℕ, ◌+◌, ◌-◌, ◌*◌, ◌≤◌, ◌<◌, max, mul-le-mul_right}
+use Rattle.integers.proofs.Prelude.{arith, lt-ltb, le-ltb, get_or}
 use Rattle.definitions.specs.Vocabulary.{Some, FontReader, GlyphReader, Framebuffer}
 use Rattle.definitions.specs.Font.{u8g2, pixels_of}
 use Rattle.definitions.specs.Framebuffer.{shown}
@@ -98,10 +98,12 @@ module _ {font : List ℕ} {m0 m1 n : ℕ} {s : Ones} {framebuffer : Framebuffer
       let z : 0 * s.wide + 0 ≡ 0 = omega arith in
       let e : s.start ≡ s.start + (0 * s.wide + 0) = omega arith in
       let t : s.top ≡ s.top + 0 = omega arith in
-      at_pair entry offset 0 0 from to line s.rows (omega arith) h (is_line ∙ ap (λ (y : ℕ). line_at framebuffer y s.left s.visible) t) (omega arith) (omega arith)
+      at_pair entry offset 0 0 from to line s.rows (omega arith) h
+      (is_line ∙ ap (λ (y : ℕ). line_at framebuffer y s.left s.visible) t) (omega arith) (omega arith)
       (rw z (sym (ink_none s framebuffer f.some entry f.in_row))) k (subst (λ (i : ℕ). Stands font m0 m1 n s.ps runs offset i) e stands)
 
-  module _ {entry buffer : List ℕ} {runs : Runs} {from to : ℕ} {line : Line} {left : ℕ} (a : At font m0 m1 n s framebuffer entry buffer runs from to line left) where
+  module _ {entry buffer : List ℕ} {runs : Runs} {from to : ℕ} {line : Line} {left : ℕ}
+      (a : At font m0 m1 n s framebuffer entry buffer runs from to line left) where
     filled : {new : List ℕ} (end : ℕ) → end ≤ s.wide → end ≤ to
         → new ≡ shown framebuffer (fill_picture s.value (Some (stretch s.first from end line))) buffer
         → new ≡ shown framebuffer (ink_picture s (a.row * s.wide + max from end)) entry

@@ -36,7 +36,10 @@ draw_rows-requires c =
     let g = area_of_box c.in-Some.is c.requires.box in
     -- the background keeps the buffer's length
     let same_size : length c.match-color.buffer ≡ length a.buffer.now =
-    elim c.match-color.branch [ in-Transparent w ↦ ap length w.buffer-is | in-WithBackground w ↦ ap length (w.buffer-is ∙ w.fill_box.ensures) ∙ simp length_map_at ]
+    elim c.match-color.branch [
+      | in-Transparent w ↦ ap length w.buffer-is
+      | in-WithBackground w ↦ ap length (w.buffer-is ∙ w.fill_box.ensures) ∙ simp length_map_at
+    ]
     in
     let part = c.get_visible_part-part.result in
     let columns : part.columns.start < part.columns.end = search rules in
@@ -53,7 +56,10 @@ returns c =
     let y = rows_seen g a.framebuffer part.ensures (search rules) in
     c.draw_rows.ensures
     ∙ elim c.match-color.branch [
-      | in-Transparent w ↦ draws_transparent a.framebuffer _ _ c.in-Some.area _ x y a.glyph g.width a.buffer.now c.requires.window c.in-Some.is w.value-is w.in-Transparent.is w.buffer-is
-      | in-WithBackground w ↦ draws_background a.framebuffer _ _ c.in-Some.area _ x y a.glyph g.width a.buffer.now c.requires.window c.in-Some.is w.value-is w.in-WithBackground.is
-          (w.buffer-is ∙ w.fill_box.ensures)
+      | in-Transparent w ↦
+          draws_transparent a.framebuffer _ _ c.in-Some.area _ x y a.glyph g.width a.buffer.now c.requires.window c.in-Some.is
+          w.value-is w.in-Transparent.is w.buffer-is
+      | in-WithBackground w ↦
+          draws_background a.framebuffer _ _ c.in-Some.area _ x y a.glyph g.width a.buffer.now c.requires.window c.in-Some.is
+          w.value-is w.in-WithBackground.is (w.buffer-is ∙ w.fill_box.ensures)
     ]

@@ -10,8 +10,8 @@ pairs-init c =
     let wide = c.from-glyph_width.ensures in
     record {
       short = place.ensures.short;
-      at = at_start (part_lies c.requires.fits _ _) (omega (arith, c.requires.fits.some_rows)) (omega (arith, place.ensures.inside)) (rw wide at place.ensures.stands)
-          c.saturating_sub-from.ensures (ap (λ (k : ℕ). k - place.result.offset) c.count.ensures) c.new-line.ensures;
+      at = at_start (part_lies c.requires.fits _ _) (omega (arith, c.requires.fits.some_rows)) (omega (arith, place.ensures.inside))
+          (rw wide at place.ensures.stands) c.saturating_sub-from.ensures (ap (λ (k : ℕ). k - place.result.offset) c.count.ensures) c.new-line.ensures;
     }
 
 pub loop-to-preserved : goal.loop-to-preserved
@@ -21,8 +21,8 @@ loop-to-preserved c =
     record {
       short = l.invariant.short;
       at = rw (c.saturating_sub-from-in-loop-to.ensures, wide)
-          (at_row (part_lies c.requires.fits _ _) l.invariant.at (rw wide at c.loop-to-test.true) (omega (arith, l.invariant.at.some)) (rw wide at c.fill_columns.ensures)
-          c.new-line-in-loop-to.ensures);
+          (at_row (part_lies c.requires.fits _ _) l.invariant.at (rw wide at c.loop-to-test.true) (omega (arith, l.invariant.at.some))
+          (rw wide at c.fill_columns.ensures) c.new-line-in-loop-to.ensures);
     }
 
 pub pairs-preserved : goal.pairs-preserved
@@ -40,4 +40,5 @@ pub returns : goal.returns
 returns c =
     let l = c.loop-to in
     let wide = c.from-glyph_width.ensures in
-    all_rows (part_lies c.requires.fits _ _) l.invariant.at (rw wide at c.loop-to-test.true) (omega (arith, l.invariant.at.some)) (rw wide at c.fill_columns.ensures)
+    all_rows (part_lies c.requires.fits _ _) l.invariant.at (rw wide at c.loop-to-test.true) (omega (arith, l.invariant.at.some))
+    (rw wide at c.fill_columns.ensures)
