@@ -132,7 +132,8 @@ impl fmt::Display for Cause {
                     Character(c)
                 );
             }
-            Error::ColorNotSupported => "the framebuffer is packed, and a colour is neither 0 nor 1",
+            Error::ColorNotSupported =>
+                "the framebuffer is packed, and a colour is neither 0 nor 1",
         };
         f.write_str(words)
     }
