@@ -1,11 +1,11 @@
 -- A text that is measured at (0, 0) and drawn at the opposite of its box's corner is seen whole (Whole.antt): the box's corner is
 -- within the limits for places, the box has a pixel, and drawing comes to what measuring does, moved. Assumes nothing.
-use Rattle.integers.proofs.Prelude.{◌≡◌, refl, sym, ap, subst, ◌∙◌, Bool, true, false, ◌||◌, not, inl, inr, List, [], ◌∷◌, ℕ, ◌*◌, ◌≤◌, arith, ltb}
+use Rattle.integers.proofs.Prelude.{◌≡◌, refl, sym, ap, subst, ◌∙◌, Bool, true, false, ◌||◌, not, inl, inr, List, [], ◌∷◌, ℕ, ◌%◌, ◌≤◌, div-add-mod', arith, ltb}
 use Rattle.integers.proofs.Prelude.{eqb, ℤ, pos, negsuc, ◌+ℤ◌, ◌-ℤ◌, lt_z, length, ltb-false, le-ltb, ne_eqb, eq-eqb, not-false}
 use Rattle.integers.proofs.Choices.{impossible}
 use Rattle.integers.specs.Integers.{pick}
 use Rattle.integers.proofs.Laws.{zarith, plus, minus}
-use Rattle.definitions.specs.Vocabulary.{Point, Rectangle, RenderedDimensions, GlyphReader, FontColor}
+use Rattle.definitions.specs.Vocabulary.{Framebuffer, Point, Rectangle, RenderedDimensions, GlyphReader, FontColor}
 use Rattle.definitions.specs.Refusals.{Outcome, success, refused, any_applies}
 use Rattle.definitions.specs.Header.{header}
 use Rattle.definitions.specs.Geometry.{left, top}
@@ -14,12 +14,12 @@ use Rattle.definitions.specs.Utf8.{decode, is_utf8}
 use Rattle.definitions.specs.Text.{shows, answer, join_all, Layout, dimensions}
 use Rattle.definitions.specs.TextSteps.{moved_rectangle}
 use Rattle.definitions.specs.Font.{u8g2, measured_answer, drawn_answer}
-use Rattle.definitions.specs.Framebuffer.{side_off, framebuffer_cause}
-use Rattle.definitions.specs.Limits.{coordinate_off, position_cause, background_cause}
+use Rattle.definitions.specs.Framebuffer.{per_byte, size_in_bytes, side_off, framebuffer_cause, BufferFits}
+use Rattle.definitions.specs.Limits.{coordinate_off, position_cause, color_off, color_cause, background_cause}
 use Rattle.definitions.specs.Calls.{Request, code_points_of, origin, measure_causes, measured_text, measure, drawn_text, draw}
 use Rattle.definitions.specs.Agreement.{limits, on}
 use Rattle.corner.specs.declared.Setting.{Setting}
-use Rattle.corner.specs.Whole.{at_zero, whole, measured_at_zero, opposite, room_for, drawn_whole, in_corner, boxed, SeenWhole}
+use Rattle.corner.specs.Whole.{at_zero, whole, measured_at_zero, opposite, in_corner, boxed, SeenWhole}
 use Rattle.definitions.proofs.OpenedLaws.{opened_limits}
 use Rattle.definitions.proofs.RefusalLaws.{or_false, succeeded, passed}
 use Rattle.definitions.proofs.CausesLaws.{MeasurePasses, measure_passes, LimitsPass, limits_off}
@@ -108,22 +108,25 @@ module _ (font text : List ℕ) (s : Setting) (advance : Point) (r : Rectangle) 
       by (inl e) = rw (e, at_zero_lem.1) (ap (boxed advance) to_corner)
       by (inr e) = rw e.1 (inr refl)
 
-  -- on a framebuffer of the box's size
-  module _ (color : FontColor) (pixels : List ℕ) (wide : r.size.width ≤ 256) (high : r.size.height ≤ 256) (area : length pixels ≡ r.size.width * r.size.height) where
-    fits : (framebuffer_cause (room_for r) pixels).applies ≡ false
+  -- on a framebuffer that is as high as the box, in colours for it
+  module _ (color : FontColor) (p : Framebuffer) (buffer : List ℕ) (f : BufferFits (length buffer) p) (high : r.size.height ≤ p.height)
+      (bits : color_off p.format color ≡ false) where
+    fits : (framebuffer_cause p buffer).applies ≡ false
     fits =
-        rw (side_in r.size.width near.some.wide wide, side_in r.size.height near.some.high high, eq-eqb (length pixels) (r.size.width * r.size.height) area)
+        let whole : p.height % per_byte p.format ≡ 0 = omega (arith, f.whole, div-add-mod' p.height (per_byte p.format)) in
+        rw (side_in p.width f.some f.wide, side_in p.height (omega (arith, near.some.high, high)) f.high, whole, eq-eqb (length buffer) (size_in_bytes p) f.area)
 
     by_background : (t : Bool) → SeenWhole advance r (pick t (refused 6 0) answers)
     by_background true = inl refl
     by_background false = seen_answer
 
     -- All of the text is seen.
-    pub seen_whole : SeenWhole advance r (drawn_whole font text s color r pixels)
+    pub seen_whole : SeenWhole advance r (draw (u8g2 font) (whole text s (opposite r)) color p buffer)
     unfolding draw
     seen_whole =
-        let asked-there = limits (u8g2 font) (whole text s (opposite r)) (on (room_for r) pixels) in
+        let asked-there = limits (u8g2 font) (whole text s (opposite r)) (on p buffer) in
         let background = background_cause color (header font).supports_background_color in
-        let there : LimitsPass font (whole text s (opposite r)) (on (room_for r) pixels) =
+        let there : LimitsPass font (whole text s (opposite r)) (on p buffer) =
         record { length_in = passes.length_in; header_in = passes.header_in; size_in = fits; text_in = passes.text_in; place_in = stands } in
-        subst (SeenWhole advance r) (sym (passed answers asked-there (background ∷ []) (limits_off font _ _ there))) (by_background background.applies)
+        subst (SeenWhole advance r) (sym (passed answers asked-there (color_cause p.format color ∷ background ∷ []) (limits_off font _ _ there)))
+        (rw bits (by_background background.applies))

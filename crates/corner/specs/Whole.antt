@@ -1,14 +1,14 @@
--- A text drawn where all of it is seen: it is measured at (0, 0), and then drawn at the opposite of its box's corner, on a
--- framebuffer of its box's size. How its lines are set, a `Setting`, is the same both times.
+-- A text drawn where all of it is seen: it is measured at (0, 0), and then drawn at the opposite of its box's corner, on the
+-- smallest framebuffer that holds its box. How its lines are set, a `Setting`, is the same both times.
 use Rattle.std.specs.Prelude.{◌≡◌, false, List, ◌⊎◌, ℕ, pos, ◌-ℤ◌}
-use Rattle.definitions.specs.Vocabulary.{Framebuffer, Some, Point, Rectangle, RenderedDimensions, FontColor, HorizontalAlignment}
+use Rattle.definitions.specs.Vocabulary.{Framebuffer, PixelFormat, Some, Point, Rectangle, RenderedDimensions, FontColor, HorizontalAlignment}
 use Rattle.types.specs.declared.style.VerticalPosition.TheVariants.{Baseline}
 use Rattle.definitions.specs.Refusals.{Outcome, success, refused}
 use Rattle.definitions.specs.Geometry.{left, top}
 use Rattle.definitions.specs.Text.{point}
 use Rattle.definitions.specs.Font.{u8g2}
-use Rattle.definitions.specs.Framebuffer.{sized}
 use Rattle.definitions.specs.Calls.{Request, placed, request, measure, draw, draw_buffer}
+use Rattle.unpacking.specs.Rooms.{room_for}
 use Rattle.corner.specs.declared.Setting.{Setting}
 
 abbrev pub at_zero : Point
@@ -28,21 +28,21 @@ measured_at_zero font text s = measure (u8g2 font) (whole text s at_zero)
 abbrev pub opposite : Rectangle → Point
 opposite r = point (pos 0 -ℤ left r) (pos 0 -ℤ top r)
 
--- a framebuffer of that size
-abbrev pub room_for : Rectangle → Framebuffer
-room_for r = sized r.size.width r.size.height
+-- the smallest framebuffer that holds the box
+abbrev pub room_of : PixelFormat → Rectangle → Framebuffer
+room_of format r = room_for format r.size.width r.size.height
 
--- what drawing there answers, and what the framebuffer, which held `pixels`, then holds
-abbrev pub drawn_whole : List ℕ → List ℕ → Setting → FontColor → Rectangle → List ℕ → Outcome RenderedDimensions
-drawn_whole font text s color r pixels = draw (u8g2 font) (whole text s (opposite r)) color (room_for r) pixels
+-- what drawing there answers, and what the framebuffer, which held `bytes`, then holds
+abbrev pub drawn_whole : List ℕ → List ℕ → Setting → FontColor → PixelFormat → Rectangle → List ℕ → Outcome RenderedDimensions
+drawn_whole font text s color format r bytes = draw (u8g2 font) (whole text s (opposite r)) color (room_of format r) bytes
 
-abbrev pub shown_whole : List ℕ → List ℕ → Setting → FontColor → Rectangle → List ℕ → List ℕ
-shown_whole font text s color r pixels = draw_buffer (u8g2 font) (whole text s (opposite r)) color (room_for r) pixels
+abbrev pub shown_whole : List ℕ → List ℕ → Setting → FontColor → PixelFormat → Rectangle → List ℕ → List ℕ
+shown_whole font text s color format r bytes = draw_buffer (u8g2 font) (whole text s (opposite r)) color (room_of format r) bytes
 
 abbrev pub boxed : Point → Rectangle → RenderedDimensions
 boxed advance r = record { advance = advance; bounding_box = Some r }
 
--- the rectangle of that size in the framebuffer's corner: all of a framebuffer of that size
+-- the rectangle of that size in the framebuffer's corner
 abbrev pub in_corner : Rectangle → Rectangle
 in_corner r = record { top_left = at_zero; size = r.size }
 

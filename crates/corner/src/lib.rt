@@ -33,11 +33,11 @@ pub fn draw_at_corner(
     rectangle: Rectangle,
     color: FontColor,
     framebuffer: Framebuffer,
-    pixels: &mut [u8],
+    buffer: &mut [u8],
 ) -> Result<RenderedDimensions, Error>
-    requires { Cornered font.now text.now setting rectangle framebuffer (length pixels.old) }
-    ensures { CornerDrawn font.now text.now setting color rectangle pixels.old
-        pixels.new (outcome result) }
+    requires { Cornered font.now text.now setting color rectangle framebuffer (length buffer.old) }
+    ensures { CornerDrawn font.now text.now setting color framebuffer.format rectangle buffer.old
+        buffer.new (outcome result) }
 {
     let placement = Placement {
         position: Point {
@@ -52,6 +52,6 @@ pub fn draw_at_corner(
         vertical_pos: VerticalPosition::Baseline,
     };
     let align = setting.align;
-    let report = aligned_drawing(font, text, placement, style, align, framebuffer, pixels);
+    let report = aligned_drawing(font, text, placement, style, align, framebuffer, buffer);
     report.result
 }

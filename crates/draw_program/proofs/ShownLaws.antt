@@ -1,23 +1,24 @@
 -- What is drawn can be shown. Assumes nothing.
 use Rattle.std.specs.Prelude.{IfSome, Option, Some, None, Result, Ok, Err}
-use Rattle.integers.proofs.Prelude.{◌≡◌, subst, List, ℕ, ◌*◌, arith, length, take, length-take-le}
-use Rattle.definitions.specs.Vocabulary.{Size, FontColor}
+use Rattle.integers.proofs.Prelude.{◌≡◌, subst, List, ℕ, ◌*◌, ◌≤◌, mul-le-mul_right}
+use Rattle.definitions.specs.Vocabulary.{PixelFormat, Size, FontColor}
+use Rattle.unpacking.specs.Rooms.{whole_rows}
+use Rattle.unpacking.proofs.RoomLaws.{holds_rows, pixels_most, bytes_most}
 use Rattle.corner.specs.declared.Setting.{Setting}
 use Rattle.pictures.specs.declared.whole.Drawing.{Drawing}
 use Rattle.pictures.specs.declared.whole.DrawError.{DrawError}
 use Rattle.pictures.specs.Drawings.{IsDrawing, IsDrawnAs}
-use Rattle.pictures.proofs.DrawingLaws.{area_most}
-use Rattle.draw_program.specs.Shown.{Small, Showable}
+use Rattle.draw_program.specs.Shown.{Held, Showable}
 
-pub showable : (font text : List ℕ) (s : Setting) (color : FontColor) (before after : List ℕ) (d : Result Drawing DrawError)
-    → IsDrawing font text s color before after d → Showable d
-showable font text s color before after (Ok d) h = by d.size h
+pub showable : (font text : List ℕ) (s : Setting) (color : FontColor) (format : PixelFormat) (before after : List ℕ) (d : Result Drawing DrawError)
+    → IsDrawing font text s color format before after d → Showable format d
+showable font text s color format before after (Ok d) h = by d.size h
   where
-    by : (size : Option Size) → IsDrawnAs font text s color before after d.dimensions size → IfSome size Small
-    by (Some size) h = subst Small h.size_is record { wide = h.called.wide; high = h.called.high }
+    by : (size : Option Size) → IsDrawnAs font text s color format before after d.dimensions size → IfSome size (Held format)
+    by (Some size) h = subst (Held format) h.size_is h.called.fits
     by None h = tt
-showable font text s color before after (Err e) h = tt
+showable font text s color format before after (Err e) h = tt
 
-pub shown_length : (size : Size) (buffer : List ℕ) → Small size → length buffer ≡ 65536
-    → length (take (size.width * size.height) buffer) ≡ size.width * size.height
-shown_length size buffer s room = length-take-le (size.width * size.height) buffer (omega (arith, area_most s.wide s.high))
+-- The rows of the box are among the framebuffer's.
+pub box_rows : (format : PixelFormat) (size : Size) → size.height * size.width ≤ whole_rows format size.height * size.width
+box_rows format size = mul-le-mul_right size.width (holds_rows format size.height)

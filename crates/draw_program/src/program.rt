@@ -1,7 +1,7 @@
 // The program: draws a text in the font font.bin and prints the answer and the picture.
 ghost use Rattle.std.specs.Prelude.{IfSome, length};
 ghost use Rattle.picture_text.specs.Marks.{IsPicture};
-ghost use Rattle.draw_program.specs.Shown.{Small, Showable};
+ghost use Rattle.draw_program.specs.Shown.{Held, Showable};
 
 use draw_options::{Options, UnknownWord};
 use pgm::write_image;
@@ -12,6 +12,8 @@ use std::io::Read;
 use std::rt::Files;
 use types::geometry::{RenderedDimensions, Size};
 use types::style::HorizontalAlignment;
+use unpacking::room::{room_for, size_in_bytes};
+use unpacking::unpack::{to_greys, unpack};
 
 // The call's answer: an aligned one has no advance.
 fn answer<R: Print>(rt: &R, dimensions: RenderedDimensions, align: Option<HorizontalAlignment>) {
@@ -32,6 +34,25 @@ fn show_pixels<R: Files + Print + Eprint + Alloc>(rt: &R, size: Size, pgm: bool,
     print_rows(rt, pixels, size.width as usize, size.height as usize);
 }
 
+// The picture: of the framebuffer's pixels, as grey values, the rows of the text's box.
+fn show_box<R: Files + Print + Eprint + Alloc>(
+    rt: &R,
+    size: Size,
+    options: Options,
+    buffer: &[u8; 65536],
+)
+    requires { Held options.format size }
+{
+    let width = size.width as usize;
+    let height = size.height as usize;
+    let framebuffer = room_for(options.format, width, height);
+    let mut pixels = [0u8; 65536];
+    let pixels = &mut pixels[..framebuffer.height * width];
+    unpack(framebuffer, &buffer[..size_in_bytes(framebuffer)], &mut pixels[..]);
+    to_greys(options.format, &mut pixels[..]);
+    show_pixels(rt, size, options.pgm, &pixels[..height * width]);
+}
+
 // The answer, and the picture, if there is one.
 fn show_drawn<R: Files + Print + Eprint + Alloc>(
     rt: &R,
@@ -39,14 +60,12 @@ fn show_drawn<R: Files + Print + Eprint + Alloc>(
     options: Options,
     buffer: &[u8; 65536],
 )
-    requires { IfSome drawing.size Small }
+    requires { IfSome drawing.size (Held options.format) }
 {
     answer(rt, drawing.dimensions, options.align);
-    let Some(size) = drawing.size else {
-        return;
-    };
-    let n = (size.width as usize) * (size.height as usize);
-    show_pixels(rt, size, options.pgm, &buffer[..n]);
+    if let Some(size) = drawing.size {
+        show_box(rt, size, options, buffer);
+    }
 }
 
 fn show<R: Files + Print + Eprint + Alloc>(
@@ -55,7 +74,7 @@ fn show<R: Files + Print + Eprint + Alloc>(
     options: Options,
     buffer: &[u8; 65536],
 )
-    requires { Showable drawing }
+    requires { Showable options.format drawing }
 {
     match drawing {
         Err(error) => {
@@ -76,8 +95,8 @@ fn draw_input<R: Files + Print + Eprint + Alloc, I: Read>(
     let text = system::read_full(input, &mut text);
     let mut buffer = [EMPTY; 65536];
     let align = options.align.unwrap_or_default();
-    let color = color(options.background);
-    let drawing = draw_whole(font, text, align, color, &mut buffer);
+    let color = color(options.format, options.background);
+    let drawing = draw_whole(font, text, align, color, options.format, &mut buffer);
     show(rt, drawing, options, &buffer);
 }
 

@@ -1,50 +1,63 @@
 -- What each step of drawing a text on a framebuffer of its own comes to. Assumes nothing.
-use Rattle.integers.proofs.Prelude.{◌≡◌, refl, sym, ap, subst, ◌∙◌, List, [], ◌∷◌, ◌++◌, ℕ, ◌*◌, ◌≤◌, ◌<◌, mul-le-mul, arith, pos, nat_abs}
+use Rattle.integers.proofs.Prelude.{◌≡◌, refl, sym, ap, subst, ◌∙◌, List, [], ◌∷◌, ◌++◌, ℕ, ◌≤◌, ◌<◌, arith, pos, nat_abs}
 use Rattle.integers.proofs.Prelude.{◌+ℤ◌, ◌≤ℤ◌, length, get_or, take, drop, length-take-le}
 use Rattle.integers.specs.Integers.{signed8}
 use Rattle.integers.proofs.Laws.{zarith, plus, range, size, signed8_fits}
-use Rattle.definitions.specs.Vocabulary.{FontReader, BoundingBox, Some, Rectangle, RenderedDimensions, FontColor}
+use Rattle.definitions.specs.Vocabulary.{FontReader, Framebuffer, PixelFormat, BoundingBox, Some, Rectangle, RenderedDimensions, FontColor}
 use Rattle.definitions.specs.Refusals.{Outcome, success, refused, unless_refused}
 use Rattle.definitions.specs.Header.{header, signed_byte}
 use Rattle.definitions.specs.Text.{dimensions}
+use Rattle.definitions.specs.Framebuffer.{size_in_bytes, BufferFits}
 use Rattle.definitions.specs.Limits.{text_cause, position_cause}
 use Rattle.definitions.specs.Font.{u8g2}
 use Rattle.definitions.specs.Calls.{open_font, measured_text, measure}
 use Rattle.corner.specs.declared.Setting.{Setting}
-use Rattle.corner.specs.Whole.{room_for, at_zero, whole, measured_at_zero, SeenWhole}
+use Rattle.unpacking.proofs.RoomLaws.{room_fits, bytes_most}
+use Rattle.corner.specs.Whole.{room_of, at_zero, whole, measured_at_zero, SeenWhole}
 use Rattle.definitions.proofs.OpenedLaws.{opened, open_refused}
-use Rattle.corner.specs.Corners.{Measured, Framed, CornerDrawn}
-use Rattle.pictures.specs.Drawings.{area, Called, IsDrawn}
+use Rattle.corner.specs.Corners.{Measured, Framed, Cornered, CornerDrawn}
+use Rattle.corner.proofs.WholeLaws.{near}
+use Rattle.pictures.specs.Drawings.{Buffered, bytes_of, Called, IsDrawn}
 
--- the largest framebuffer
-pub area_most : {width height : ℕ} → width ≤ 256 → height ≤ 256 → width * height ≤ 65536
-area_most w h = mul-le-mul w h
+-- the smallest framebuffer, and how many bytes it has, at the front of the buffer
+module _ {font text : List ℕ} {s : Setting} {color : FontColor} {format : PixelFormat} {r : Rectangle} (before : List ℕ)
+    (b : Buffered font text s color format r (length before)) (wide : r.size.width ≤ 256) (high : r.size.height ≤ 256)
+    {p : Framebuffer} {n : ℕ} (is : p ≡ room_of format r) (size : n ≡ size_in_bytes p) where
+  fits : BufferFits (bytes_of format r) (room_of format r)
+  fits =
+      let m = b.measured in
+      room_fits format r.size.width r.size.height (near font text s m.advance r m.low m.box).some.wide wide high
 
-module _ (r : Rectangle) (before : List ℕ) (wide : r.size.width ≤ 256) (high : r.size.height ≤ 256) (room : length before ≡ 65536) where
-  pub part_length : length (take (area r) before) ≡ area r
-  part_length = length-take-le (area r) before (omega (arith, area_most wide high))
+  bytes_are : n ≡ bytes_of format r
+  bytes_are = size ∙ ap size_in_bytes is
 
-  pub framed : Framed r (room_for r) (length (take (area r) before))
-  framed = record { width_is = refl; height_is = refl; wide = wide; high = high; area = part_length }
+  pub in_buffer : n ≤ length before
+  in_buffer = omega (arith, bytes_are, bytes_most fits, b.drawable.room)
 
-  module _ {font text : List ℕ} {s : Setting} (color : FontColor) (m : Measured font text s r) where
-    -- the call's answer, read, and the pixels it left
-    pub called : {after : List ℕ} {answer o : Outcome RenderedDimensions} → answer ≡ o
-        → CornerDrawn font text s color r (take (area r) before) after answer
-        → Called font text s color before (after ++ drop (area r) before) r o
-    called {after} {answer} {o} is c = record {
-      advance = m.advance;
-      measured = m.box;
-      wide = wide;
-      high = high;
-      answered = sym c.answered ∙ is;
-      shown = ap (λ (l : List ℕ). l ++ drop (area r) before) c.shown;
-      seen = subst (SeenWhole m.advance r) is (c.seen m.advance m.box);
-    }
+  pub cornered : Cornered font text s color r p (length (take n before))
+  cornered =
+      let e = length-take-le n before in_buffer ∙ bytes_are in
+      rw (e, is) record { measured = b.measured; framed = record { is = refl; fits = fits; bits = b.drawable.bits } }
+
+  -- the call's answer, read, and the bytes it left
+  pub called : {after : List ℕ} {answer o : Outcome RenderedDimensions} → answer ≡ o
+      → CornerDrawn font text s color p.format r (take n before) after answer
+      → Called font text s color format before (after ++ drop n before) r o
+  called {after} {answer} {o} is_o c = by (rw (is, bytes_are) at c)
+    where
+      by : CornerDrawn font text s color format r (take (bytes_of format r) before) after answer → Called font text s color format before (after ++ drop n before) r o
+      by c = record {
+        advance = b.measured.advance;
+        measured = b.measured.box;
+        fits = fits;
+        answered = sym c.answered ∙ is_o;
+        shown = rw bytes_are (ap (λ (l : List ℕ). l ++ drop (bytes_of format r) before) c.shown);
+        seen = subst (SeenWhole b.measured.advance r) is_o (c.seen b.measured.advance b.measured.box);
+      }
 
 -- a drawing that succeeded
-pub is_drawn : {font text before after : List ℕ} {s : Setting} {color : FontColor} {r : Rectangle} {d : RenderedDimensions}
-    → Called font text s color before after r (success d) → IsDrawn font text s color before after d r.size
+pub is_drawn : {font text before after : List ℕ} {s : Setting} {color : FontColor} {format : PixelFormat} {r : Rectangle} {d : RenderedDimensions}
+    → Called font text s color format before after r (success d) → IsDrawn font text s color format before after d r.size
 is_drawn {r = r} c = record { box = r; size_is = refl; called = c }
 
 -- a measuring that succeeded with a box

@@ -1,9 +1,9 @@
-// A text drawn on a framebuffer of its own, just large enough for all of it.
+// A text drawn on a framebuffer of its own, the smallest that holds all of it.
 ghost use Rattle.std.specs.Prelude.{◌≡◌, ◌≤◌, length};
 ghost use Rattle.definitions.specs.Header.{header};
 ghost use Rattle.corner.specs.Whole.{setting_of};
 ghost use Rattle.pictures.specs.declared.whole.DrawError.TheVariants.{Refused};
-ghost use Rattle.pictures.specs.Drawings.{Buffered, IsDrawing};
+ghost use Rattle.pictures.specs.Drawings.{Drawable, Buffered, IsDrawing};
 
 use corner::{Setting, draw_at_corner};
 use font_reader::new_from_raw_data;
@@ -11,11 +11,12 @@ use measuring::aligned_dimensions::aligned_dimensions;
 use printing::RefusalLine;
 use std::fmt;
 use types::error::Error;
-use types::framebuffer::Framebuffer;
+use types::framebuffer::PixelFormat;
 use types::geometry::{Point, Rectangle, RenderedDimensions, Size};
 use types::style::{FontColor, HorizontalAlignment, Placement, VerticalPosition};
+use unpacking::room::{room_for, size_in_bytes};
 
-// What is answered, and the framebuffer's size, if the text has a pixel. The framebuffer's pixels begin the buffer; a slice of them
+// What is answered, and the size of the text's box, if it has a pixel. The framebuffer's bytes begin the buffer; a slice of them
 // would lend it out until the drawing is dropped (fixed memory: it is the caller's), and what it then holds is what is proved.
 #[derive(Clone, Copy, Debug, PartialEq, Eq)]
 pub struct Drawing {
@@ -64,21 +65,20 @@ fn draw_box(
     setting: Setting,
     rectangle: Rectangle,
     color: FontColor,
+    format: PixelFormat,
     buffer: &mut [u8],
 ) -> Result<Drawing, DrawError>
-    requires { Buffered font.now text.now setting rectangle (length buffer.old) }
-    ensures { IsDrawing font.now text.now setting color buffer.old
+    requires { Buffered font.now text.now setting color format rectangle (length buffer.old) }
+    ensures { IsDrawing font.now text.now setting color format buffer.old
         buffer.new result }
 {
     let size = rectangle.size;
     if 256 < size.width || 256 < size.height {
         return Err(DrawError::TooLarge(rectangle));
     }
-    let width = size.width as usize;
-    let height = size.height as usize;
-    let framebuffer = Framebuffer { width, height };
-    let pixels = &mut buffer[..width * height];
-    let dimensions = draw_at_corner(font, text, setting, rectangle, color, framebuffer, pixels)?;
+    let framebuffer = room_for(format, size.width as usize, size.height as usize);
+    let part = &mut buffer[..size_in_bytes(framebuffer)];
+    let dimensions = draw_at_corner(font, text, setting, rectangle, color, framebuffer, part)?;
     Ok(Drawing {
         dimensions,
         size: Some(size),
@@ -91,10 +91,11 @@ fn draw_measured(
     text: &[u8],
     setting: Setting,
     color: FontColor,
+    format: PixelFormat,
     buffer: &mut [u8],
 ) -> Result<Drawing, DrawError>
-    requires { (setting.line_height ≤ 128) × (length buffer.old ≡ 65536) }
-    ensures { IsDrawing font.now text.now setting color buffer.old
+    requires { (setting.line_height ≤ 128) × Drawable color format (length buffer.old) }
+    ensures { IsDrawing font.now text.now setting color format buffer.old
         buffer.new result }
 {
     let placement = Placement {
@@ -110,7 +111,7 @@ fn draw_measured(
             dimensions,
             size: None,
         }),
-        Some(rectangle) => draw_box(font, text, setting, rectangle, color, buffer),
+        Some(rectangle) => draw_box(font, text, setting, rectangle, color, format, buffer),
     }
 }
 
@@ -121,16 +122,17 @@ pub fn draw_whole(
     text: &[u8],
     align: HorizontalAlignment,
     color: FontColor,
+    format: PixelFormat,
     buffer: &mut [u8],
 ) -> Result<Drawing, DrawError>
-    requires { length buffer.old ≡ 65536 }
+    requires { Drawable color format (length buffer.old) }
     ensures { IsDrawing font.now text.now
-        (setting_of (header font.now).line_height align) color buffer.old buffer.new result }
+        (setting_of (header font.now).line_height align) color format buffer.old buffer.new result }
 {
     let head = new_from_raw_data(font)?;
     let setting = Setting {
         line_height: head.line_height,
         align,
     };
-    draw_measured(font, text, setting, color, buffer)
+    draw_measured(font, text, setting, color, format, buffer)
 }

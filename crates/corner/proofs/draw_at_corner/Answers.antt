@@ -32,5 +32,5 @@ returns c =
     let x = stored w32 c.opposite.type_inv (simp to_z-of_z at c.opposite.ensures) in
     let y = stored w32 c.opposite-2.type_inv (simp to_z-of_z at c.opposite-2.ensures) in
     let call = c.aligned_drawing-report.ensures in
-    corner_drawn a.font.now a.text.now a.setting a.color a.rectangle _ _ a.framebuffer a.pixels.now x y
+    corner_drawn a.font.now a.text.now a.setting a.color a.rectangle _ _ a.framebuffer a.buffer.now x y
     c.requires.measured c.requires.framed call.answered call.shown

@@ -22,6 +22,6 @@ pub returns : goal.returns
 returns c =
     let a = c.args in
     let call = c.draw_measured in
-    subst (λ (n : ℕ). IsDrawing a.font.now a.text.now (setting_of n a.align) a.color a.buffer.now call.new.buffer call.result)
+    subst (λ (n : ℕ). IsDrawing a.font.now a.text.now (setting_of n a.align) a.color a.format a.buffer.now call.new.buffer call.result)
     (is_default a.font.now _ (sym c.in_ok-head.ensures))
     call.ensures
