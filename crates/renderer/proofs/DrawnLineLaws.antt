@@ -2,7 +2,7 @@
 use Rattle.integers.proofs.Prelude.{◌≡◌, refl, sym, ap, subst, ◌∙◌, Bool, true, false, List, ℕ, eqb}
 use Rattle.integers.specs.Integers.{pick}
 use Rattle.integers.proofs.Choices.{impossible}
-use Rattle.definitions.specs.Vocabulary.{Point, RenderedDimensions, GlyphReader, LookupSteps, FontColor, HorizontalAlignment, Error, Report}
+use Rattle.definitions.specs.Vocabulary.{Point, RenderedDimensions, GlyphReader, LookupSteps, FontColor, HorizontalAlignment, Framebuffer, Error, Report}
 use Rattle.types.specs.declared.style.HorizontalAlignment.TheVariants.{Left}
 use Rattle.definitions.specs.Refusals.{Outcome, success, refused, and_then, refusal}
 use Rattle.definitions.specs.Lookup.{no_steps}
@@ -40,7 +40,7 @@ from_start {font} {text} {pen} {context} {before} l = record {
     summed = l.summed;
   };
   shown = l.shown
-      ∙ draw_from_lem context.framebuffer.width context.color (pixels_of (u8g2 font)) (drawn_by font pen) pen.line_height pen.origin (code_points_of text) start before;
+      ∙ draw_from_lem context.framebuffer context.color (pixels_of (u8g2 font)) (drawn_by font pen) pen.line_height pen.origin (code_points_of text) start before;
 }
 
 pub plain_text : {font text : List ℕ} {pen : Pen} {context : Context} {before after : List ℕ} {r : Report RenderedDimensions} {a : HorizontalAlignment} {d : RenderedDimensions}
@@ -81,10 +81,10 @@ module _ (font text : List ℕ) (a : HorizontalAlignment) (pen : Pen) where
     stopped_counted : (d : RenderedDimensions) → refused n c ≡ dimensions_from d.bounding_box (line_laid font a pen d.advance (code_points_of text))
     stopped_counted d = rw e
 
-    stopped_painted : (width : ℕ) (color : FontColor) (pixels_of : GlyphReader → List ℕ) (advance : Point) (before : List ℕ)
-        → before ≡ shown width (text_picture color pixels_of (line_laid font a pen advance (code_points_of text)).glyphs) before
+    stopped_painted : (q : Framebuffer) (color : FontColor) (pixels_of : GlyphReader → List ℕ) (advance : Point) (before : List ℕ)
+        → before ≡ shown q (text_picture color pixels_of (line_laid font a pen advance (code_points_of text)).glyphs) before
     unfolding text_picture
-    stopped_painted width color pixels_of advance before = rw e (sym (shown_blank width before))
+    stopped_painted q color pixels_of advance before = rw e (sym (shown_blank q before))
 
   module _ (one : newlines (code_points_of text) ≡ 0) {p : Pen} (m : Moved p) (d : RenderedDimensions) where
     abbrev there : Point → Layout
@@ -102,14 +102,14 @@ module _ (font text : List ℕ) (a : HorizontalAlignment) (pen : Pen) where
         ∙ ap (dimensions_from d.bounding_box)
         (one_line (drawn_by font pen) pen.line_height (pen_at m.end).origin d.advance (code_points_of text) one ∙ sym laid_there))
 
-    line_painted : (width : ℕ) (color : FontColor) (pixels_of : GlyphReader → List ℕ) (before : List ℕ)
-        → draw_from width color pixels_of (drawn_by font p) p.line_height p.origin d before (code_points_of text)
-        ≡ shown width (text_picture color pixels_of (line_laid font a pen d.advance (code_points_of text)).glyphs) before
-    line_painted width color pixels_of before =
-        subst (λ (q : Pen). draw_from width color pixels_of (drawn_by font q) q.line_height q.origin d before (code_points_of text)
-        ≡ shown width (text_picture color pixels_of (line_laid font a pen d.advance (code_points_of text)).glyphs) before) m.is
-        (draw_from_lem width color pixels_of (drawn_by font pen) pen.line_height (pen_at m.end).origin (code_points_of text) d before
-        ∙ ap (λ (l : Layout). shown width (text_picture color pixels_of l.glyphs) before)
+    line_painted : (q : Framebuffer) (color : FontColor) (pixels_of : GlyphReader → List ℕ) (before : List ℕ)
+        → draw_from q color pixels_of (drawn_by font p) p.line_height p.origin d before (code_points_of text)
+        ≡ shown q (text_picture color pixels_of (line_laid font a pen d.advance (code_points_of text)).glyphs) before
+    line_painted q color pixels_of before =
+        subst (λ (r : Pen). draw_from q color pixels_of (drawn_by font r) r.line_height r.origin d before (code_points_of text)
+        ≡ shown q (text_picture color pixels_of (line_laid font a pen d.advance (code_points_of text)).glyphs) before) m.is
+        (draw_from_lem q color pixels_of (drawn_by font pen) pen.line_height (pen_at m.end).origin (code_points_of text) d before
+        ∙ ap (λ (l : Layout). shown q (text_picture color pixels_of l.glyphs) before)
         (one_line (drawn_by font pen) pen.line_height (pen_at m.end).origin d.advance (code_points_of text) one ∙ sym laid_there))
 
 -- ---- what the line comes to
@@ -132,7 +132,7 @@ module _ {font text : List ℕ} {s : LineSetting} {d : RenderedDimensions} {cont
       record {
         counted = stopped_counted font text s.horizontal_align s.pen stop d;
         painted = kept
-            ∙ stopped_painted font text s.horizontal_align s.pen stop context.framebuffer.width context.color (pixels_of (u8g2 font)) d.advance before;
+            ∙ stopped_painted font text s.horizontal_align s.pen stop context.framebuffer context.color (pixels_of (u8g2 font)) d.advance before;
         summed = kept_sums font text _ _ (counted ∙ ap (sums (u8g2 font) text) stop);
         reach = λ e k. impossible cc;
       }
@@ -142,7 +142,7 @@ module _ {font text : List ℕ} {s : LineSetting} {d : RenderedDimensions} {cont
       → {r : Report RenderedDimensions} → LettersDrawn font text p d context before after r → LineDrawn font text s d context before after r
   drawn_line one m l = record {
     counted = l.counted ∙ line_counted font text s.horizontal_align s.pen one m d;
-    painted = l.shown ∙ line_painted font text s.horizontal_align s.pen one m d context.framebuffer.width context.color (pixels_of (u8g2 font)) before;
+    painted = l.shown ∙ line_painted font text s.horizontal_align s.pen one m d context.framebuffer context.color (pixels_of (u8g2 font)) before;
     summed = l.summed;
     reach = l.reach;
   }

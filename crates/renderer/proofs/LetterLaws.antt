@@ -1,7 +1,7 @@
 -- Drawing letters: each of them, the loop over them, and their sums. Assumes nothing.
 use Rattle.integers.proofs.Prelude.{◌≡◌, refl, sym, ap, ◌∙◌, Bool, List, ◌∷◌, ℕ, eqb, length}
 use Rattle.integers.specs.Integers.{pick}
-use Rattle.definitions.specs.Vocabulary.{FontReader, Point, RenderedDimensions, GlyphReader, LookupSteps, FontColor}
+use Rattle.definitions.specs.Vocabulary.{FontReader, Point, RenderedDimensions, GlyphReader, LookupSteps, FontColor, Framebuffer}
 use Rattle.definitions.specs.Refusals.{Outcome, success, refused}
 use Rattle.definitions.specs.Lookup.{no_steps}
 use Rattle.definitions.specs.Header.{Opened}
@@ -31,16 +31,16 @@ drawn_small {font} {head} o skip c g e = in_range_small (glyph_range font head c
 
 -- ---- the loop: what holds where `left` is left of the text
 
-module _ (width : ℕ) (color : FontColor) (pixels_of : GlyphReader → List ℕ) (answers : ℕ → Answer) (line_height : ℕ) (origin : Point) (text before : List ℕ) (d₀ : RenderedDimensions) where
+module _ (p : Framebuffer) (color : FontColor) (pixels_of : GlyphReader → List ℕ) (answers : ℕ → Answer) (line_height : ℕ) (origin : Point) (text before : List ℕ) (d₀ : RenderedDimensions) where
   -- what the whole text draws
   abbrev whole : List ℕ
-  whole = draw_from width color pixels_of answers line_height origin d₀ before (code_points (decode text))
+  whole = draw_from p color pixels_of answers line_height origin d₀ before (code_points (decode text))
 
   -- The rest of the text draws from here on what the whole text draws from its start.
   pub record DrawnTo (buffer : List ℕ) (d : RenderedDimensions) (left : List ℕ) : Type 0 where
     pub reached : Measured answers line_height origin text d₀ d left
     pub kept : length buffer ≡ length before
-    pub drawn : whole ≡ draw_from width color pixels_of answers line_height origin d buffer reached.reached.rest
+    pub drawn : whole ≡ draw_from p color pixels_of answers line_height origin d buffer reached.reached.rest
 
   module _ (k : CheckedLine text origin line_height) where
     pub drawn_start : Within line_height 0 (code_points (decode text)) d₀ → DrawnTo before d₀ text
@@ -53,11 +53,11 @@ module _ (width : ℕ) (color : FontColor) (pixels_of : GlyphReader → List ℕ
       drawn_end h = sym (t.drawn ∙ rw (reached_last t.reached.reached h))
 
       module _ {c : ℕ} {tail : List ℕ} (first : FirstAndRest left c tail) where
-        here : whole ≡ draw_from width color pixels_of answers line_height origin d buffer (c ∷ (split_next first t.reached.reached.decoded).rest)
-        here = t.drawn ∙ ap (draw_from width color pixels_of answers line_height origin d buffer) (split_next first t.reached.reached.decoded).is
+        here : whole ≡ draw_from p color pixels_of answers line_height origin d buffer (c ∷ (split_next first t.reached.reached.decoded).rest)
+        here = t.drawn ∙ ap (draw_from p color pixels_of answers line_height origin d buffer) (split_next first t.reached.reached.decoded).is
 
         pub drawn_next : (small : (c : ℕ) (g : GlyphReader) → answers c ≡ shows g → Small g) {d' : RenderedDimensions} {buffer' : List ℕ}
-            → step answers line_height origin d c ≡ success d' → buffer' ≡ step_shown width color pixels_of answers origin d c buffer → length buffer' ≡ length buffer
+            → step answers line_height origin d c ≡ success d' → buffer' ≡ step_shown p color pixels_of answers origin d c buffer → length buffer' ≡ length buffer
             → DrawnTo buffer' d' tail
         unfolding measured_next reached_next
         drawn_next small {d'} {buffer'} e s l =
@@ -66,15 +66,15 @@ module _ (width : ℕ) (color : FontColor) (pixels_of : GlyphReader → List ℕ
               reached = measured_next k t.reached first small e;
               kept = l ∙ t.kept;
               drawn = here
-                  ∙ draw_next answers line_height origin d c cs width color pixels_of buffer e
-                  ∙ ap (λ (b : List ℕ). draw_from width color pixels_of answers line_height origin d' b cs) (sym s);
+                  ∙ draw_next answers line_height origin d c cs p color pixels_of buffer e
+                  ∙ ap (λ (b : List ℕ). draw_from p color pixels_of answers line_height origin d' b cs) (sym s);
             }
 
-        pub drawn_stops : {m e : ℕ} {buffer' : List ℕ}
-            → step answers line_height origin d c ≡ refused m e → buffer' ≡ step_shown width color pixels_of answers origin d c buffer
+        pub drawn_stops : {m k : ℕ} {buffer' : List ℕ}
+            → step answers line_height origin d c ≡ refused m k → buffer' ≡ step_shown p color pixels_of answers origin d c buffer
             → buffer' ≡ whole
         unfolding draw_from
-        drawn_stops p s = s ∙ sym (here ∙ rw p)
+        drawn_stops e s = s ∙ sym (here ∙ rw e)
 
 -- ---- .. with the sums
 

@@ -14,6 +14,7 @@ use Rattle.definitions.specs.Text.{Answer, stops, Layout, join_all, point, dimen
 use Rattle.definitions.specs.TextSteps.{newline_step, start}
 use Rattle.definitions.specs.Font.{u8g2, pixels_of}
 use Rattle.definitions.specs.Picture.{text_picture}
+use Rattle.definitions.specs.Framebuffer.{BufferFits}
 use Rattle.definitions.specs.Calls.{code_points_of}
 use Rattle.definitions.specs.Sums.{plus_steps, total, up_to, counted, sums, Fits32}
 use Rattle.definitions.proofs.Agreement.{dimensions_success}
@@ -31,7 +32,6 @@ use Rattle.layout.proofs.MeasureLaws.{checked_characters, within_start}
 use Rattle.layout.proofs.SumLoopLaws.{GoesOn, Summed, summed_start}
 use Rattle.renderer.specs.declared.letters.Context.{Context}
 use Rattle.renderer.specs.declared.lines.LineSetting.{LineSetting}
-use Rattle.renderer.specs.CharAnswers.{Fits}
 use Rattle.renderer.specs.Lines.{line_of, rest_of}
 use Rattle.renderer.specs.Texts.{measured_by, line_laid, DrawableLine, LineDrawn, Moves, laid_with, TextDrawn}
 use Rattle.renderer.proofs.FirstLineLaws.{line_level, line_whole, Split, split, line_short, line_taken, line_decoded, rest_decoded}
@@ -78,7 +78,7 @@ module _ (font text before : List ℕ) (s : LineSetting) (context : Context) whe
   counts d cs = dimensions_from d.bounding_box (from d cs)
 
   abbrev shows : Layout → List ℕ → List ℕ
-  shows l buffer = painted context.framebuffer.width context.color (pixels_of (u8g2 font)) l.glyphs buffer
+  shows l buffer = painted context.framebuffer context.color (pixels_of (u8g2 font)) l.glyphs buffer
 
   -- What is left of the text leads from here to where the whole text leads from its start.
   pub record LinesTo (buffer : List ℕ) (d : RenderedDimensions) (sum : LookupSteps) (here : List ℕ) : Type 0 where
@@ -138,7 +138,7 @@ module _ (font text before : List ℕ) (s : LineSetting) (context : Context) whe
     same_newlines : newlines here ≡ newlines rest
     same_newlines = newlines_decoded here decoded
 
-    pub line_drawable : {p : Framebuffer} → Checked text s.pen.origin line_height → Fits (length before) p
+    pub line_drawable : {p : Framebuffer} → Checked text s.pen.origin line_height → BufferFits (length before) p
         → {lent : List ℕ} → lent ≡ bytes → DrawableLine lent s d p (length buffer)
     line_drawable {p} k fits is = subst (λ (b : List ℕ). DrawableLine b s d p (length buffer)) (sym is) record {
       checked = record {
@@ -160,7 +160,7 @@ module _ (font text before : List ℕ) (s : LineSetting) (context : Context) whe
         };
         box = i.room.box;
       };
-      fits = subst (λ (n : ℕ). Fits n p) (sym i.kept) fits;
+      fits = subst (λ (n : ℕ). BufferFits n p) (sym i.kept) fits;
     }
       where
         none : newlines (line_of rest) * line_height ≡ 0
@@ -198,7 +198,7 @@ module _ (font text before : List ℕ) (s : LineSetting) (context : Context) whe
       only_line : newlines rest ≡ 0 → from d rest ≡ done
       only_line none =
           ap (line_by_line line line_height d.advance) (lines_last rest none)
-          ∙ is_last context.framebuffer.width context.color (pixels_of (u8g2 font)) line line_height d rest
+          ∙ is_last context.framebuffer context.color (pixels_of (u8g2 font)) line line_height d rest
           ∙ ap (line d.advance) (sym (line_whole rest none))
 
       -- with the steps of the line the sum fits
@@ -274,7 +274,7 @@ module _ (font text before : List ℕ) (s : LineSetting) (context : Context) whe
                 ∙ sym (total_newline (u8g2 font).steps i.summed.read (line_of rest));
           }
 
-          next_is : below context.framebuffer.width context.color (pixels_of (u8g2 font)) line line_height d (line_of rest) longer.advance ≡ newline_step line_height longer
+          next_is : below context.framebuffer context.color (pixels_of (u8g2 font)) line line_height d (line_of rest) longer.advance ≡ newline_step line_height longer
           next_is = rw ends.1
 
           taller : newlines rest * line_height ≡ line_height + newlines (rest_of rest) * line_height
@@ -307,14 +307,14 @@ module _ (font text before : List ℕ) (s : LineSetting) (context : Context) whe
               record {
                 summed = next_summed;
                 room = next_room;
-                kept = ap length left ∙ length_shown context.framebuffer.width (text_picture context.color (pixels_of (u8g2 font)) done.glyphs) buffer ∙ i.kept;
+                kept = ap length left ∙ length_shown context.framebuffer (text_picture context.color (pixels_of (u8g2 font)) done.glyphs) buffer ∙ i.kept;
                 counted = i.counted
                     ∙ ap (λ (ls : Lines). dimensions_from d.bounding_box (lay d.advance ls)) parted.lines_are
-                    ∙ counted_on context.framebuffer.width context.color (pixels_of (u8g2 font)) line line_height d (line_of rest) (lines (rest_of rest)) ends.0
+                    ∙ counted_on context.framebuffer context.color (pixels_of (u8g2 font)) line line_height d (line_of rest) (lines (rest_of rest)) ends.0
                     ∙ ap (λ (e : RenderedDimensions). dimensions_from e.bounding_box (lay e.advance (lines (rest_of rest)))) next_is;
                 shown = i.shown
                     ∙ ap (λ (ls : Lines). shows (lay d.advance ls) buffer) parted.lines_are
-                    ∙ painted_on context.framebuffer.width context.color (pixels_of (u8g2 font)) line line_height d (line_of rest) (lines (rest_of rest)) ends.0 buffer
+                    ∙ painted_on context.framebuffer context.color (pixels_of (u8g2 font)) line line_height d (line_of rest) (lines (rest_of rest)) ends.0 buffer
                     ∙ ap (λ (b : List ℕ). shows (lay (newline line_height longer.advance) (lines (rest_of rest))) b) (sym left);
               }
 
@@ -346,7 +346,7 @@ module _ (font text before : List ℕ) (s : LineSetting) (context : Context) whe
             by zero e = only_line e
             by (suc m) e =
                 ap (line_by_line line line_height d.advance) (split rest (omega arith)).lines_are
-                ∙ stopped_first context.framebuffer.width context.color (pixels_of (u8g2 font)) line line_height d (line_of rest) (lines (rest_of rest)) ended
+                ∙ stopped_first context.framebuffer context.color (pixels_of (u8g2 font)) line line_height d (line_of rest) (lines (rest_of rest)) ended
 
         pub stopped_counted : refused n k ≡ counts start (code_points_of text)
         stopped_counted = sym stopped ∙ comes_to ∙ ap (dimensions_from d.bounding_box) (sym stopped_from) ∙ sym i.counted

@@ -1,23 +1,17 @@
 -- What the causes leave of a call that draws. Assumes nothing.
 use Rattle.integers.proofs.Prelude.{◌≡◌, refl, sym, ap, subst, ◌∙◌, false, List, ℕ, length}
-use Rattle.definitions.specs.Vocabulary.{FontReader, Framebuffer, Point, RenderedDimensions, FontColor, Error, Report, HorizontalAlignment, VerticalPosition, Placement}
-use Rattle.definitions.specs.Refusals.{Outcome, success, error_number, code_point, Cause, any_applies, outcome}
-use Rattle.definitions.specs.Header.{font_causes}
+use Rattle.definitions.specs.Vocabulary.{Framebuffer, RenderedDimensions, FontColor, Error, Report, HorizontalAlignment, VerticalPosition, Placement}
+use Rattle.definitions.specs.Refusals.{Outcome, error_number, code_point, Cause, any_applies, outcome}
 use Rattle.definitions.specs.Text.{dimensions}
 use Rattle.definitions.specs.Font.{u8g2}
-use Rattle.definitions.specs.Framebuffer.{framebuffer_cause}
-use Rattle.definitions.specs.Limits.{background_cause}
-use Rattle.definitions.specs.Calls.{open_font, Request, request, plain, drawn_text, draw_causes, draw, draw_buffer}
+use Rattle.definitions.specs.Calls.{Request, request, plain, drawn_text, draw_causes, draw, draw_buffer}
 use Rattle.definitions.specs.Sums.{sums}
 use Rattle.definitions.proofs.SumsLaws.{no_sums, refused_early}
-use Rattle.definitions.proofs.OpenedLaws.{passes_font}
-use Rattle.definitions.proofs.ComesLaws.{comes_none, comes_off, comes_passed}
 use Rattle.definitions.proofs.RefusalLaws.{none_applies, stopped}
 use Rattle.checks.specs.declared.origin.Pen.{Pen}
 use Rattle.checks.specs.declared.origin.Setup.{Setup}
-use Rattle.checks.specs.Origins.{place_causes, pen_of}
+use Rattle.checks.specs.Origins.{pen_of}
 use Rattle.checks.specs.Setups.{Refuse}
-use Rattle.checks.proofs.OriginLaws.{begun, tested, origin_is}
 use Rattle.lookup_sums.specs.Reports.{refused_report}
 use Rattle.renderer.specs.declared.letters.Context.{Context}
 use Rattle.renderer.specs.Texts.{counted_with, drawn_with, TextDrawn}
@@ -38,25 +32,6 @@ module _ (font : List ℕ) (r : Request) (color : FontColor) (p : Framebuffer) (
       → Defined (counted_with font r.text r.align (pen_of font r)) (drawn_with font r.text r.align (pen_of font r) context buffer)
   unfolding draw draw_buffer
   drawn_unrefused off = (sym (none_applies (dimensions (drawn_text (u8g2 font) r)) (draw_causes (u8g2 font) r color p buffer) off), rw off)
-
-  -- the same, test by test, with the header that was read
-  module _ {head : FontReader} (opens : open_font font ≡ success head) (size : (framebuffer_cause p buffer).applies ≡ false)
-      {o : Point} (passes : tested font opens r ≡ success o) where
-    abbrev color_cause : Cause
-    color_cause = background_cause color (u8g2 font).background
-
-    abbrev pen_from : Point → Pen
-    pen_from q = record { origin = q; line_height = r.line_height; ignore_unknown_chars = r.skip }
-
-    pub drawn_whole_lem : color_cause.applies ≡ false
-        → Defined (counted_with font r.text r.align (pen_from o)) (drawn_with font r.text r.align (pen_from o) context buffer)
-    unfolding draw draw_buffer
-    drawn_whole_lem e =
-        let placed = (begun head.ascent head.descent r passes).0 in
-        let whole = comes_passed (font_causes font) (passes_font font opens)
-        (comes_off (framebuffer_cause p buffer) size (comes_passed (place_causes r) placed (comes_off color_cause e comes_none))) in
-        subst (λ (q : Point). Defined (counted_with font r.text r.align (pen_from q)) (drawn_with font r.text r.align (pen_from q) context buffer))
-        (origin_is font opens r passes) (whole.answered, whole.held)
 
 -- ---- the call
 
@@ -79,7 +54,7 @@ module _ (font text : List ℕ) (placement : Placement) (v : VerticalPosition) (
   unfolding draw draw_buffer
   refused_by is off =
       let h = stopped (tt {0}) (dimensions (drawn_text (u8g2 font) r)) checked off in
-      let early = refused_early (tt {0}) checked (refl, (refl, (refl, (refl, (refl, (refl, tt)))))) off in
+      let early = refused_early (tt {0}) checked (refl, (refl, (refl, (refl, (refl, (refl, (refl, tt))))))) off in
       rw is record { answered = sym h.1; shown = rw h.0; summed = no_sums (u8g2 font) text (sym h.1) early }
 
   -- drawn with the font's bytes and the request's pen

@@ -9,7 +9,7 @@ use Rattle.definitions.specs.Text.{Answer, Layout, join_all, dimensions_of, dime
 use Rattle.definitions.specs.TextSteps.{measure_from, draw_from}
 use Rattle.definitions.specs.Font.{u8g2, measured_answer, drawn_answer, pixels_of}
 use Rattle.definitions.specs.Picture.{text_picture}
-use Rattle.definitions.specs.Framebuffer.{shown}
+use Rattle.definitions.specs.Framebuffer.{shown, BufferFits}
 use Rattle.definitions.specs.Calls.{code_points_of}
 use Rattle.definitions.specs.Sums.{sums}
 use Rattle.checks.specs.declared.origin.Pen.{Pen}
@@ -17,7 +17,6 @@ use Rattle.checks.specs.Origins.{Checked, CheckedLine}
 use Rattle.layout.specs.Ranges.{Within}
 use Rattle.renderer.specs.declared.letters.Context.{Context}
 use Rattle.renderer.specs.declared.lines.LineSetting.{LineSetting}
-use Rattle.renderer.specs.CharAnswers.{Fits}
 
 -- ---- letters, from the dimensions so far on
 
@@ -25,7 +24,7 @@ use Rattle.renderer.specs.CharAnswers.{Fits}
 pub record DrawableLetters (text : List ℕ) (pen : Pen) (before : RenderedDimensions) (framebuffer : Framebuffer) (bytes : ℕ) : Type 0 where
   pub checked : CheckedLine text pen.origin pen.line_height
   pub room : Within pen.line_height 0 (code_points_of text) before
-  pub fits : Fits bytes framebuffer
+  pub fits : BufferFits bytes framebuffer
 
 -- what each letter answers in measuring, and in drawing
 abbrev pub measured_by : List ℕ → Pen → ℕ → Answer
@@ -37,7 +36,7 @@ drawn_by font pen = drawn_answer (u8g2 font) pen.ignore_unknown_chars
 -- The letters are counted and shown, and their steps are added up.
 pub record LettersDrawn (font text : List ℕ) (pen : Pen) (d : RenderedDimensions) (context : Context) (before after : List ℕ) (r : Report RenderedDimensions) : Type 0 where
   pub counted : outcome r.result ≡ measure_from (drawn_by font pen) pen.line_height pen.origin d (code_points_of text)
-  pub shown : after ≡ draw_from context.framebuffer.width context.color (pixels_of (u8g2 font)) (drawn_by font pen)
+  pub shown : after ≡ draw_from context.framebuffer context.color (pixels_of (u8g2 font)) (drawn_by font pen)
       pen.line_height pen.origin d before (code_points_of text)
   pub summed : r.steps ≡ sums (u8g2 font) text (outcome r.result)
   pub reach : (e : RenderedDimensions) → outcome r.result ≡ success e → InReach e.bounding_box
@@ -48,7 +47,7 @@ pub record DrawableLine (text : List ℕ) (s : LineSetting) (d : RenderedDimensi
   pub checked : Checked text s.pen.origin s.pen.line_height
   pub one : newlines (code_points_of text) ≡ 0
   pub room : Within s.pen.line_height 0 (code_points_of text) d
-  pub fits : Fits bytes framebuffer
+  pub fits : BufferFits bytes framebuffer
 
 abbrev pub line_laid : List ℕ → HorizontalAlignment → Pen → Point → List ℕ → Layout
 line_laid font a pen = moved_line a (measured_by font pen) (drawn_by font pen) pen.origin
@@ -58,7 +57,7 @@ pub record LineDrawn (font text : List ℕ) (s : LineSetting) (d : RenderedDimen
       ≡ (let l = line_laid font s.horizontal_align s.pen d.advance (code_points_of text) in
       dimensions_of (join d.bounding_box (join_all l.glyphs)) l.advance)
   pub painted : after
-      ≡ shown context.framebuffer.width
+      ≡ shown context.framebuffer
       (text_picture context.color (pixels_of (u8g2 font)) (line_laid font s.horizontal_align s.pen d.advance (code_points_of text)).glyphs) before
   pub summed : r.steps ≡ sums (u8g2 font) text (outcome r.result)
   pub reach : (e : RenderedDimensions) → outcome r.result ≡ success e → InReach e.bounding_box
@@ -75,7 +74,7 @@ Moves Right = Unit {0}
 -- (It stays a clause, of a text, a pen and a framebuffer whose buffer is lent beside it: no one struct has all of them.)
 pub record DrawableText (text : List ℕ) (pen : Pen) (framebuffer : Framebuffer) (bytes : ℕ) : Type 0 where
   pub checked : Checked text pen.origin pen.line_height
-  pub fits : Fits bytes framebuffer
+  pub fits : BufferFits bytes framebuffer
 
 abbrev pub laid_with : List ℕ → List ℕ → HorizontalAlignment → Pen → Layout
 laid_with font text a pen =
@@ -86,7 +85,7 @@ counted_with font text a pen = dimensions (laid_with font text a pen)
 
 abbrev pub drawn_with : List ℕ → List ℕ → HorizontalAlignment → Pen → Context → List ℕ → List ℕ
 drawn_with font text a pen context buffer =
-    shown context.framebuffer.width (text_picture context.color (pixels_of (u8g2 font)) (laid_with font text a pen).glyphs) buffer
+    shown context.framebuffer (text_picture context.color (pixels_of (u8g2 font)) (laid_with font text a pen).glyphs) buffer
 
 -- The text is counted, and its steps are added up ..
 pub record TextCounted (font text : List ℕ) (a : HorizontalAlignment) (pen : Pen) (r : Report RenderedDimensions) : Type 0 where

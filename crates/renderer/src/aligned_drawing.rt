@@ -9,7 +9,7 @@ ghost use Rattle.renderer.specs.Checks.{DrawnFor};
 
 use crate::letters::Context;
 use crate::lines::draw_aligned;
-use checks::limits::{has_bad_color, has_bad_size};
+use checks::limits::{has_bad_color, has_bad_size, has_unsupported_color};
 use checks::origin::Setup;
 use font_reader::opened::OpenedFont;
 use lookup_sums::refused;
@@ -19,7 +19,7 @@ use types::geometry::RenderedDimensions;
 use types::results::Report;
 use types::style::{FontStyle, HorizontalAlignment, Placement};
 
-// Causes 1 to 6, in this order (SPECIFICATION, Refusals).
+// Causes 1 to 5, 9 and 6, in this order (SPECIFICATION, Refusals).
 fn check<'a>(
     font: &'a [u8],
     text: &[u8],
@@ -36,6 +36,9 @@ fn check<'a>(
         return Err(Error::FramebufferSize);
     }
     let setup = Setup::checked(font, text, placement, style.vertical_pos)?;
+    if has_unsupported_color(framebuffer.format, style.color) {
+        return Err(Error::ColorNotSupported);
+    }
     if has_bad_color(style.color, font.head.supports_background_color) {
         return Err(Error::BackgroundColorNotSupported);
     }

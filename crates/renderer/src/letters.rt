@@ -40,7 +40,7 @@ fn draw_answer(
 )
     requires { DrawableAnswer font.now.bytes.now font.now.head (as_answer answer) origin dimensions context.framebuffer
         (length buffer.old) }
-    ensures { buffer.new ≡ answer_shown context.framebuffer.width context.color
+    ensures { buffer.new ≡ answer_shown context.framebuffer context.color
         (pixels_of (u8g2 font.now.bytes.now)) origin dimensions (as_answer answer) buffer.old }
 {
     let Ok(shown) = answer else {

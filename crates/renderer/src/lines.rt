@@ -12,7 +12,7 @@ use font_reader::opened::OpenedFont;
 use layout::steps::add_newline;
 use line_alignment::align_pen;
 use lookup_sums::{add_steps, stopped};
-use types::framebuffer::Framebuffer;
+use types::framebuffer::{Framebuffer, PixelFormat};
 use types::geometry::RenderedDimensions;
 use types::results::Report;
 use types::steps::LookupSteps;
@@ -155,6 +155,7 @@ pub fn get_drawn_dimensions(
     let context = Context {
         color: FontColor::Transparent(0),
         framebuffer: Framebuffer {
+            format: PixelFormat::Bytes,
             width: 1,
             height: 0,
         },

@@ -1,18 +1,18 @@
--- The causes are tested in the definition's order: the framebuffer between the font and the text, and the colour last.
+-- The causes are tested in the definition's order: the framebuffer between the font and the text, and the colours last.
 use Rattle.std.proofs.lemmas.Result.{err_from_is_err_and}
 use Rattle.integers.proofs.Prelude.{◌≡◌, refl, sym, subst, ◌∙◌, false, List, [], ◌∷◌, ℕ}
 use Rattle.definitions.specs.Refusals.{Cause, any_applies}
 use Rattle.definitions.specs.Font.{u8g2}
 use Rattle.definitions.specs.Framebuffer.{framebuffer_cause}
-use Rattle.definitions.specs.Limits.{background_off, background_cause}
+use Rattle.definitions.specs.Limits.{color_off, color_cause, background_off, background_cause}
 use Rattle.definitions.specs.Calls.{Request, plain}
 use Rattle.definitions.proofs.OpenedLaws.{opened}
 use Rattle.checks.specs.Setups.{SetFor}
 use Rattle.checks.proofs.LimitLaws.{color_is}
-use Rattle.checks.proofs.SizeLaws.{size_fits}
-use Rattle.checks.proofs.SetupLaws.{refused_at, font_refused, between_refused, place_refused, last_refused, none_refused}
+use Rattle.definitions.proofs.FramebufferLaws.{size_fits}
+use Rattle.checks.proofs.SetupLaws.{refused_at, refused_after, font_refused, between_refused, place_refused, last_refused, none_refused}
 use Rattle.renderer.proofs.aligned_drawing.check.Goals as goal
-use Rattle.renderer.proofs.aligned_drawing.check.Goals.{Start, Else-has_bad_size, In_ok-font}
+use Rattle.renderer.proofs.aligned_drawing.check.Goals.{Start, Else-has_bad_size, Else-has_unsupported_color, In_ok-font}
 
 module _ (c : Start) where
   abbrev asked : Request
@@ -21,12 +21,22 @@ module _ (c : Start) where
   abbrev size : List Cause
   size = framebuffer_cause c.args.framebuffer c.args.buffer.now ∷ []
 
+  abbrev ink : Cause
+  ink = color_cause c.args.framebuffer.format c.args.style.color
+
+  abbrev allowance : Cause
+  allowance = background_cause c.args.style.color (u8g2 c.args.font.now).background
+
   abbrev color : List Cause
-  color = background_cause c.args.style.color (u8g2 c.args.font.now).background ∷ []
+  color = ink ∷ allowance ∷ []
 
 -- the framebuffer has its size
 size_in : (c : Else-has_bad_size) → (framebuffer_cause c.args.framebuffer c.args.buffer.now).applies ≡ false
 size_in c = sym c.has_bad_size.ensures ∙ c.if-has_bad_size.false
+
+-- its pixels take the colours
+ink_in : (c : Else-has_unsupported_color) → color_off c.args.framebuffer.format c.args.style.color ≡ false
+ink_in c = sym c.has_unsupported_color.ensures ∙ c.if-has_unsupported_color.false
 
 -- the answer to the colour is the cause's
 color_tested : (c : In_ok-font) → let a = c.args in (background_cause a.style.color (u8g2 a.font.now).background).applies
@@ -52,21 +62,30 @@ returns-in_err-setup c =
     let p = err_from_is_err_and c.from_residual-in_err-setup.result c.from_residual-in_err-setup.ensures.1 in
     rw (p.1, p.2) (place_refused c.args.font.now (size s) (asked s) (color s) c.in_ok-font.ensures.1 (rw (size_in e) refl) c.in_err-setup.ensures)
 
+pub returns-then-has_unsupported_color : goal.returns-then-has_unsupported_color
+returns-then-has_unsupported_color c =
+    let s = (goal.at.returns-then-has_unsupported_color c).Start in
+    let e = (goal.at.returns-then-has_unsupported_color c).Else-has_bad_size in
+    last_refused c.args.font.now (size s) (asked s) (color s) c.in_ok-font.ensures.1 (rw (size_in e) refl) c.in_ok-setup.ensures.0
+    (refused_at (ink s) (allowance s ∷ []) (sym c.has_unsupported_color.ensures ∙ c.if-has_unsupported_color.true))
+
 pub returns-then-has_bad_color : goal.returns-then-has_bad_color
 returns-then-has_bad_color c =
     let s = (goal.at.returns-then-has_bad_color c).Start in
     let e = (goal.at.returns-then-has_bad_color c).Else-has_bad_size in
     let k = (goal.at.returns-then-has_bad_color c).In_ok-font in
+    let b = ink_in (goal.at.returns-then-has_bad_color c).Else-has_unsupported_color in
     last_refused c.args.font.now (size s) (asked s) (color s) c.in_ok-font.ensures.1 (rw (size_in e) refl) c.in_ok-setup.ensures.0
-    (refused_at (background_cause c.args.style.color (u8g2 c.args.font.now).background) []
-    (color_tested k ∙ sym c.has_bad_color.ensures ∙ c.if-has_bad_color.true))
+    (refused_after (ink s ∷ []) (allowance s ∷ []) (rw b refl)
+    (refused_at (allowance s) [] (color_tested k ∙ sym c.has_bad_color.ensures ∙ c.if-has_bad_color.true)))
 
 pub returns : goal.returns
 returns c =
     let s = (goal.at.returns c).Start in
     let e = (goal.at.returns c).Else-has_bad_size in
     let k = (goal.at.returns c).In_ok-font in
-    let none : any_applies (color s) ≡ false = rw (color_tested k ∙ sym c.has_bad_color.ensures ∙ c.if-has_bad_color.false) refl in (
+    let b = ink_in (goal.at.returns c).Else-has_unsupported_color in
+    let none : any_applies (color s) ≡ false = rw (b, color_tested k ∙ sym c.has_bad_color.ensures ∙ c.if-has_bad_color.false) refl in (
       none_refused c.args.font.now (size s) (asked s) (color s) c.in_ok-font.ensures.1 (rw (size_in e) refl) c.in_ok-setup.ensures.0 none,
       record {
         set = subst (λ (b : List ℕ). SetFor b (asked s) c.in_ok-setup.setup) c.in_ok-font.ensures.0 c.in_ok-setup.ensures.1;
