@@ -229,7 +229,7 @@ pub extern "C" fn papayahelm_redraw(
     ensures answered { Answers (meaning_of anchor align 0 background format (length out.old))
         (λ m. with_sums font.now new_text.now text_reply (redrawn font.now
         old_text.now
-        (asked (place_by m x y line_height fg bg clear_color (framebuffer_of m width height)) new_text.now)
+        (asked (place_by m x y line_height fg bg clear_color (framebuffer_of m width height)) new_text.now) clear_color
         (ground_of (place_by m x y line_height fg bg clear_color (framebuffer_of m width height)) buffer.old))) result
         out.old out.new }
     ensures shown { buffer.new ≡ drawn_by (meaning_of anchor align 0 background format (length out.old))
