@@ -1,18 +1,21 @@
 -- The ground, reading by reading: a cleared box is background and stays so, and beside all boxes the rubbish stays. Assumes nothing.
-use Rattle.integers.proofs.Prelude.{◌≡◌, refl, sym, ap, subst, ◌∙◌, Bool, true, false, List, ℕ, zero, suc, ◌+◌, ◌*◌, ◌≤◌, ◌<◌, mul-le-mul_right}
-use Rattle.integers.proofs.Prelude.{mul_comm, zero-add, dec_lt, arith, pos, length, get_or, replicate, length-replicate, ext_get_or}
+use Rattle.integers.proofs.Prelude.{◌≡◌, refl, sym, ap, subst, ◌∙◌, Bool, true, false, List, ℕ, zero, suc, ◌+◌, ◌%◌, ◌<◌, eqb}
+use Rattle.integers.proofs.Prelude.{eqb-true, eqb-false, ltb-false, zero-add, dec_lt, arith, pos, length, get_or, replicate, length-replicate, ext_get_or}
 use Rattle.integers.proofs.Choices.{impossible}
-use Rattle.definitions.specs.Vocabulary.{BoundingBox, None, Some, RenderedDimensions, Place}
+use Rattle.integers.specs.Integers.{pick}
+use Rattle.definitions.specs.Vocabulary.{Framebuffer, PixelFormat, Bytes, Packed, BoundingBox, None, Some, RenderedDimensions, Transparent, Place}
 use Rattle.definitions.specs.Refusals.{Outcome, success, refused}
 use Rattle.definitions.specs.Geometry.{InsideBox}
-use Rattle.definitions.specs.Picture.{Paint, covers}
-use Rattle.definitions.specs.Framebuffer.{over, shown}
+use Rattle.definitions.specs.Picture.{Paint, put, covers}
+use Rattle.definitions.specs.Framebuffer.{over, per_byte, stored, in_byte, shown, byte_at, size_in_bytes}
+use Rattle.definitions.specs.Limits.{color_off}
 use Rattle.definitions.specs.Agreement.{pixel}
 use Rattle.framebuffer.specs.Areas.{fill_picture}
 use Rattle.redraw_checks.specs.Drawing.{measured, ground_of}
 use Rattle.redraw.specs.Redraw.{cleared_by}
 use Rattle.definitions.proofs.PictureLaws.{covers_inside}
-use Rattle.definitions.proofs.FramebufferLaws.{length_map_at, getd_map_at, length_shown, shown_at}
+use Rattle.definitions.proofs.ByteLaws.{length_map_at, getd_map_at, over_keep}
+use Rattle.definitions.proofs.FramebufferLaws.{length_shown, shown_at, on_buffer}
 use Rattle.framebuffer.proofs.RowLaws.{outside}
 use Rattle.framebuffer.proofs.FillLaws.{fill_inside, fill_outside}
 use Rattle.sheet_ground.specs.Readings.{reading, PlaceFits}
@@ -36,36 +39,47 @@ all_rubbish l n e each =
 
 -- ---- one box
 
-module _ (place : Place) (fits : PlaceFits place.framebuffer.width place.framebuffer.height) (bytes : List ℕ)
-    (whole : length bytes ≡ place.framebuffer.width * place.framebuffer.height) where
-  module _ (box : BoundingBox) where
-    pub length_cleared : length (shown place.framebuffer.width (fill_picture place.background box) bytes) ≡ place.framebuffer.width * place.framebuffer.height
-    length_cleared = length_shown place.framebuffer.width (fill_picture place.background box) bytes ∙ whole
+-- a colour that a pixel takes
+taken_whole : (f : PixelFormat) (c old : ℕ) → color_off f (Transparent c) ≡ false → over (stored f (put c)) old ≡ c
+taken_whole Bytes c old e = refl
+taken_whole Packed c old e = by (eqb c 0) refl
+  where
+    by : (t : Bool) → eqb c 0 ≡ t → pick t 0 1 ≡ c
+    by true k = sym (eqb-true c 0 k)
+    by false k = let some : c ≡ 0 → ⊥ = eqb-false c 0 k in omega (arith, some, ltb-false 1 c e)
 
-    module _ (column row : ℕ) (c : column < place.framebuffer.width) (r : row < place.framebuffer.height) where
-      lies : row * place.framebuffer.width + column < length bytes
-      lies =
-          let below : suc row ≤ place.framebuffer.height = omega arith in
-          omega (arith, whole, mul-le-mul_right place.framebuffer.width below, mul_comm place.framebuffer.width place.framebuffer.height)
+module _ (place : Place) (fits : PlaceFits (size_in_bytes place.framebuffer) place) (bytes : List ℕ) (whole : length bytes ≡ size_in_bytes place.framebuffer) where
+  abbrev p : Framebuffer
+  p = place.framebuffer
+
+  module _ (box : BoundingBox) where
+    pub length_cleared : length (shown p (fill_picture place.background box) bytes) ≡ size_in_bytes p
+    length_cleared = length_shown p (fill_picture place.background box) bytes ∙ whole
+
+    module _ (column row : ℕ) (c : column < p.width) (r : row < p.height) where
+      abbrev before : ℕ
+      before = pixel (ground_of place bytes) bytes column row
 
       abbrev after : ℕ
-      after = pixel (ground_of place bytes) (shown place.framebuffer.width (fill_picture place.background box) bytes) column row
+      after = pixel (ground_of place bytes) (shown p (fill_picture place.background box) bytes) column row
 
-      cleared_pixel : after ≡ over (fill_picture place.background box (pos column) (pos row)) (pixel (ground_of place bytes) bytes column row)
-      cleared_pixel = shown_at place.framebuffer.width (fill_picture place.background box) bytes column row c lies
+      cleared_pixel : after ≡ over (stored p.format (fill_picture place.background box (pos column) (pos row))) before
+      cleared_pixel = shown_at p (fill_picture place.background box) bytes column row c (omega (arith, whole, on_buffer fits.fits column row c r))
 
-  module _ (column row : ℕ) (c : column < place.framebuffer.width) (r : row < place.framebuffer.height) where
+  module _ (column row : ℕ) (c : column < p.width) (r : row < p.height) where
     in_box : (box : BoundingBox) → InsideBox (pos column) (pos row) box → after box column row c r ≡ place.background
     in_box None i = absurd i
     in_box (Some b) i =
         cleared_pixel (Some b) column row c r
-        ∙ ap (λ (x : Paint). over x (pixel (ground_of place bytes) bytes column row)) (fill_inside place.background b (pos column) (pos row) i)
+        ∙ ap (λ (x : Paint). over (stored p.format x) (before (Some b) column row c r)) (fill_inside place.background b (pos column) (pos row) i)
+        ∙ taken_whole p.format place.background (before (Some b) column row c r) fits.takes
 
     beside : (box : BoundingBox) → (InsideBox (pos column) (pos row) box → ⊥) → after box column row c r ≡ pixel (ground_of place bytes) bytes column row
-    beside None i = cleared_pixel None column row c r
+    beside None i = cleared_pixel None column row c r ∙ over_keep p.format (before None column row c r)
     beside (Some b) i =
         cleared_pixel (Some b) column row c r
-        ∙ ap (λ (x : Paint). over x (pixel (ground_of place bytes) bytes column row)) (fill_outside place.background b (pos column) (pos row) i)
+        ∙ ap (λ (x : Paint). over (stored p.format x) (before (Some b) column row c r)) (fill_outside place.background b (pos column) (pos row) i)
+        ∙ over_keep p.format (before (Some b) column row c r)
 
     -- background stays background
     stays : (box : BoundingBox) → pixel (ground_of place bytes) bytes column row ≡ place.background → after box column row c r ≡ place.background
@@ -84,19 +98,19 @@ same_box {d} {e} h = let same : d ≡ e = cc in ap (λ (x : RenderedDimensions).
 not_both : {n c : ℕ} {d : RenderedDimensions} → ◌≡◌ {A = Outcome RenderedDimensions} (refused n c) (success d) → ⊥
 not_both e = impossible cc
 
-module _ (font : List ℕ) (place : Place) (fits : PlaceFits place.framebuffer.width place.framebuffer.height) where
-  length_by : (o : Outcome RenderedDimensions) (bytes : List ℕ) → length bytes ≡ place.framebuffer.width * place.framebuffer.height
-      → length (cleared_by place.framebuffer.width place.background o bytes) ≡ place.framebuffer.width * place.framebuffer.height
+module _ (font : List ℕ) (place : Place) (fits : PlaceFits (size_in_bytes place.framebuffer) place) where
+  length_by : (o : Outcome RenderedDimensions) (bytes : List ℕ) → length bytes ≡ size_in_bytes place.framebuffer
+      → length (cleared_by place.framebuffer place.background o bytes) ≡ size_in_bytes place.framebuffer
   length_by (success d) bytes l = length_cleared place fits bytes l d.bounding_box
   length_by (refused n c) bytes l = l
 
   module _ (n : ℕ) (bytes : List ℕ)
-      (whole : length bytes ≡ place.framebuffer.width * place.framebuffer.height) where
+      (whole : length bytes ≡ size_in_bytes place.framebuffer) where
     clear_next : (o : Outcome RenderedDimensions) → measured font (reading place n) ≡ o → ClearTo n font place bytes
-        → ClearTo (suc n) font place (cleared_by place.framebuffer.width place.background o bytes)
+        → ClearTo (suc n) font place (cleared_by place.framebuffer place.background o bytes)
     clear_next (success d) m clear k h e f column row c r i = by (dec_lt k n)
       where
-        by : Dec (k < n) → pixel (ground_of place bytes) (shown place.framebuffer.width (fill_picture place.background d.bounding_box) bytes) column row ≡ place.background
+        by : Dec (k < n) → pixel (ground_of place bytes) (shown place.framebuffer (fill_picture place.background d.bounding_box) bytes) column row ≡ place.background
         by (yes p) = stays place fits bytes whole column row c r d.bounding_box (clear k p e f column row c r i)
         by (no p) =
             let last : n ≡ k = omega arith in
@@ -109,18 +123,18 @@ module _ (font : List ℕ) (place : Place) (fits : PlaceFits place.framebuffer.w
         by (no p) = let last : n ≡ k = omega arith in absurd (not_both (sym m ∙ ap (λ (j : ℕ). measured font (reading place j)) last ∙ f))
 
     rubbish_next : (o : Outcome RenderedDimensions) → measured font (reading place n) ≡ o → RubbishBeside n font place bytes
-        → RubbishBeside (suc n) font place (cleared_by place.framebuffer.width place.background o bytes)
+        → RubbishBeside (suc n) font place (cleared_by place.framebuffer place.background o bytes)
     rubbish_next (success d) m stays column row c r out =
         beside place fits bytes whole column row c r d.bounding_box (λ i. out n (omega arith) d m i)
         ∙ stays column row c r (λ k h e f i. out k (omega arith) e f i)
     rubbish_next (refused a b) m stays column row c r out = stays column row c r (λ k h e f i. out k (omega arith) e f i)
 
   abbrev first : ℕ → List ℕ
-  first k = cleared_to font place k (rubbish (place.framebuffer.width * place.framebuffer.height))
+  first k = cleared_to font place k (rubbish (size_in_bytes place.framebuffer))
 
-  pub length_first : (k : ℕ) → length (first k) ≡ place.framebuffer.width * place.framebuffer.height
+  pub length_first : (k : ℕ) → length (first k) ≡ size_in_bytes place.framebuffer
   unfolding cleared_to
-  length_first zero = length_rubbish (place.framebuffer.width * place.framebuffer.height)
+  length_first zero = length_rubbish (size_in_bytes place.framebuffer)
   length_first (suc k) = length_by (measured font (reading place k)) (first k) (length_first k)
 
   pub is_clear : (k : ℕ) → ClearTo k font place (first k)
@@ -131,8 +145,8 @@ module _ (font : List ℕ) (place : Place) (fits : PlaceFits place.framebuffer.w
   pub rubbish_stays : (k : ℕ) → RubbishBeside k font place (first k)
   unfolding cleared_to
   rubbish_stays zero = λ column row c r out.
-      rubbish_at_lem (place.framebuffer.width * place.framebuffer.height) (row * place.framebuffer.width + column)
-      (omega (arith, lies place fits (first zero) (length_first zero) None column row c r, length_first zero))
+      ap (in_byte place.framebuffer.format (row % per_byte place.framebuffer.format))
+      (rubbish_at_lem (size_in_bytes place.framebuffer) (byte_at place.framebuffer column row) (on_buffer fits.fits column row c r))
   rubbish_stays (suc k) = rubbish_next k (first k) (length_first k) (measured font (reading place k)) refl (rubbish_stays k)
 
 -- as the loop goes
@@ -147,18 +161,20 @@ module _ (font : List ℕ) (place : Place) where
     pub is : after ≡ cleared_to font place k (rubbish (length before))
 
   pub laid_next : (n k : ℕ) {bytes next : List ℕ} → bytes ≡ cleared_to font place k (rubbish n)
-      → next ≡ cleared_by place.framebuffer.width place.background (measured font (reading place k)) bytes
+      → next ≡ cleared_by place.framebuffer place.background (measured font (reading place k)) bytes
       → next ≡ cleared_to font place (k + 1) (rubbish n)
   unfolding cleared_to
   laid_next n k e h =
       let suc_is : suc k ≡ k + 1 = omega arith in
-      h ∙ ap (λ (b : List ℕ). cleared_by place.framebuffer.width place.background (measured font (reading place k)) b) e ∙ ap (λ (j : ℕ). cleared_to font place j (rubbish n)) suc_is
+      h ∙ ap (λ (b : List ℕ). cleared_by place.framebuffer place.background (measured font (reading place k)) b) e ∙ ap (λ (j : ℕ). cleared_to font place j (rubbish n)) suc_is
 
   -- All readings' boxes are cleared.
-  pub laid : PlaceFits place.framebuffer.width place.framebuffer.height → (n k : ℕ) (bytes : List ℕ) → n ≡ place.framebuffer.width * place.framebuffer.height → k ≡ 901
+  pub laid : (n k : ℕ) (bytes : List ℕ) → PlaceFits n place → k ≡ 901
       → bytes ≡ cleared_to font place k (rubbish n)
       → GroundLaid font place bytes
-  laid fits n k bytes whole all e =
+  laid n k bytes fits_n all e =
+      let whole = fits_n.fits.area in
+      let fits = subst (λ (m : ℕ). PlaceFits m place) whole fits_n in
       let is : bytes ≡ ground font place = e ∙ ap (λ (j : ℕ). cleared_to font place j (rubbish n)) all ∙ ap (λ (m : ℕ). cleared_to font place 901 (rubbish m)) whole in
       record {
         laid = is;

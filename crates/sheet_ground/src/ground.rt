@@ -1,7 +1,7 @@
 // Lays the ground: rubbish, then the background in the box of every reading.
-ghost use Rattle.std.specs.Prelude.{◌≡◌, ◌*◌, length};
+ghost use Rattle.std.specs.Prelude.{◌≡◌, length};
+ghost use Rattle.definitions.specs.Framebuffer.{BufferFits};
 ghost use Rattle.redraw_checks.specs.Drawing.{measured};
-ghost use Rattle.redraw.specs.Contexts.{FitsPlace};
 ghost use Rattle.redraw.specs.Redraw.{cleared_by};
 ghost use Rattle.sheet_ground.specs.Readings.{reading, PlaceFits};
 ghost use Rattle.sheet_ground.specs.Ground.{rubbish, GroundLaid};
@@ -21,8 +21,8 @@ fn fill_with_rubbish(buffer: &mut [u8])
 
 // Fills the reading's box with the background. A refused reading has none.
 fn clear_reading(font: &[u8], k: usize, place: Place, buffer: &mut [u8])
-    requires { FitsPlace (length buffer.old) place }
-    ensures { buffer.new ≡ cleared_by place.framebuffer.width place.background
+    requires { BufferFits (length buffer.old) place.framebuffer }
+    ensures { buffer.new ≡ cleared_by place.framebuffer place.background
         (measured font.now (reading place k)) buffer.old }
 {
     // spelled out three times (readings, redraw_checks): no plainer by a function, whose equation two callers' proofs would carry
@@ -44,8 +44,7 @@ fn clear_reading(font: &[u8], k: usize, place: Place, buffer: &mut [u8])
 }
 
 pub fn lay_ground(font: &[u8], place: Place, buffer: &mut [u8])
-    requires { PlaceFits place.framebuffer.width place.framebuffer.height
-        × (length buffer.old ≡ place.framebuffer.width * place.framebuffer.height) }
+    requires { PlaceFits (length buffer.old) place }
     ensures { GroundLaid font.now place buffer.new }
 {
     fill_with_rubbish(buffer);

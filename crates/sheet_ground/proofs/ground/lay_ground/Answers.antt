@@ -1,6 +1,7 @@
 -- `lay_ground` meets its contract: the boxes of the first k readings are cleared, and GroundLaws.antt has what that leaves.
 -- Assumes nothing.
-use Rattle.integers.proofs.Prelude.{refl, arith, length}
+use Rattle.integers.proofs.Prelude.{refl, sym, subst, ℕ, arith, length}
+use Rattle.sheet_ground.specs.Readings.{PlaceFits}
 use Rattle.sheet_ground.proofs.GroundLaws.{laid_start, laid_next, laid}
 use Rattle.sheet_ground.proofs.ground.lay_ground.Goals as goal
 
@@ -22,4 +23,4 @@ pub returns : goal.returns
 returns c =
     let a = c.args in
     let l = c.loop-k in
-    laid a.font.now a.place c.requires.0 _ l.k l.buffer (omega (arith, c.fill_with_rubbish.auto.buffer, c.requires.1)) (omega arith) l.invariant.is
+    laid a.font.now a.place _ l.k l.buffer (subst (λ (n : ℕ). PlaceFits n a.place) (sym c.fill_with_rubbish.auto.buffer) c.requires) (omega arith) l.invariant.is
