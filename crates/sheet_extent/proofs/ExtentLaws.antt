@@ -6,20 +6,23 @@ use Rattle.std.specs.Prelude.{cond, Option}
 use Rattle.std.specs.Int.{int_min, int_max}
 use Rattle.integers.specs.Integers.{pick, min_z, max_z}
 use Rattle.integers.proofs.Laws.{zarith, up, down, plus, minus, size, min_is, max_is, range, stored}
-use Rattle.definitions.specs.Vocabulary.{Framebuffer, BoundingBox, None, Some, Point, Rectangle, RenderedDimensions, Transparent, HorizontalAlignment, VerticalPosition, Place}
+use Rattle.definitions.specs.Vocabulary.{Framebuffer, PixelFormat, Bytes, Packed, BoundingBox, None, Some, Point, Rectangle, RenderedDimensions, Transparent, HorizontalAlignment, VerticalPosition, Place}
 use Rattle.definitions.specs.Refusals.{Outcome, success, refused}
 use Rattle.definitions.specs.Geometry.{left, top, right, bottom, InsideBox}
 use Rattle.definitions.specs.TextSteps.{moved_box}
 use Rattle.sheet_extent.specs.declared.values.Extent.{Extent}
 use Rattle.sheet_extent.specs.declared.values.Options.{Options}
 use Rattle.definitions.specs.Font.{u8g2}
-use Rattle.definitions.specs.Framebuffer.{sized}
+use Rattle.definitions.specs.Framebuffer.{size_in_bytes}
+use Rattle.definitions.specs.Limits.{color_off}
 use Rattle.definitions.specs.Calls.{placed, request}
 use Rattle.definitions.proofs.MovedLaws.{measured_at_zero_lem}
+use Rattle.unpacking.specs.Rooms.{room_for}
+use Rattle.unpacking.proofs.RoomLaws.{holds_rows, room_fits}
 use Rattle.sheet_ground.specs.Readings.{reading_text, PlaceFits}
 use Rattle.sheet_extent.specs.Extent.{at_origin, widened, with_box, with_reading, extent_of, Within, HoldsReadings, NearEdge, NearExtent, AllMeasured}
 use Rattle.sight.specs.Sights.{OnFramebuffer}
-use Rattle.sheet_extent.specs.Extent.{before_zero, inside, position_for, side_of, side, place_at, place_for, Uncut, AllSeen}
+use Rattle.sheet_extent.specs.Extent.{before_zero, inside, position_for, side_of, side, background_of, place_at, place_for, Uncut, AllSeen}
 
 -- ---- the library's lesser and greater are the definitions'
 
@@ -161,11 +164,17 @@ side_limits : (z : ℤ) → (1 ≤ side_of z) × (side_of z ≤ 256)
 side_limits (pos n) = (omega arith, omega arith)
 side_limits (negsuc n) = (omega arith, omega arith)
 
-place_fits : (v : VerticalPosition) (a : HorizontalAlignment) (p : Point) (e : Extent) → PlaceFits (place_at v a p e).framebuffer.width (place_at v a p e).framebuffer.height
-place_fits v a p e =
+pub side_most : (start end : ℤ) → side start end ≤ 256
+side_most start end = (side_limits (start +ℤ end +ℤ pos 3)).1
+
+background_taken : (f : PixelFormat) → color_off f (Transparent (background_of f)) ≡ false
+background_taken Bytes = refl
+background_taken Packed = refl
+
+place_fits : (o : Options) (p : Point) (e : Extent) → PlaceFits (size_in_bytes (place_at o p e).framebuffer) (place_at o p e)
+place_fits o p e =
     let w = side_limits (p.x +ℤ e.right +ℤ pos 3) in
-    let h = side_limits (p.y +ℤ e.bottom +ℤ pos 3) in
-    record { some_wide = w.0; wide = w.1; some_high = h.0; high = h.1 }
+    record { fits = room_fits o.format (side p.x e.right) (side p.y e.bottom) w.0 w.1 (side_most p.y e.bottom); takes = background_taken o.format }
 
 uncut_side : (z : ℤ) → z ≤ℤ pos 256 → z ≤ℤ pos (side_of z)
 uncut_side (pos n) h = omega zarith
@@ -223,7 +232,7 @@ module _ (font : List ℕ) (o : Options) (nowhere : o.at ≡ None) where
   edges = extent_of font o.vertical_pos o.horizontal_align 901
 
   abbrev there : Place
-  there = place_at o.vertical_pos o.horizontal_align (position_for None edges) edges
+  there = place_at o (position_for None edges) edges
 
   on_framebuffer : Uncut there edges → (b : BoundingBox) → ((r : Rectangle) → b ≡ Some r → Within r edges) → (column row : ℤ)
       → InsideBox column row (moved_box there.position.x there.position.y b) → OnFramebuffer there.framebuffer column row
@@ -233,7 +242,7 @@ module _ (font : List ℕ) (o : Options) (nowhere : o.at ≡ None) where
       let z = past_origin font o.vertical_pos o.horizontal_align 901 in
       let c = seen edges.left edges.right (left r) r.size.width column w.from_left w.to_right z.0 uncut.0 i.from_left i.to_right in
       let l = seen edges.top edges.bottom (top r) r.size.height row w.from_top w.to_bottom z.1 uncut.1 i.from_top i.to_bottom in
-      record { from_left = c.0; to_right = c.1; from_top = l.0; to_bottom = l.1 }
+      record { from_left = c.0; to_right = c.1; from_top = l.0; to_bottom = omega (zarith, l.1, holds_rows o.format (side (inside edges.top) edges.bottom)) }
 
   pub all_seen : Uncut (place_for font o) edges → AllSeen font (place_for font o)
   unfolding place_for
@@ -252,29 +261,30 @@ pub seen_position : {at : Option Point} (e : Extent) {x y : ℤ} → at ≡ None
     → record { x = x; y = y } ≡ position_for at e
 seen_position e w h k = rw w (cc (h, k))
 
--- a place with that framebuffer
-abbrev place_in : Framebuffer → Options → Point → Place
-place_in framebuffer o p = record {
+-- a place with that background and framebuffer
+abbrev place_in : ℕ → Framebuffer → Options → Point → Place
+place_in background framebuffer o p = record {
   position = p;
   style = record { color = Transparent 0; vertical_pos = o.vertical_pos };
   horizontal_align = o.horizontal_align;
   line_height = 0;
-  background = 255;
+  background = background;
   framebuffer = framebuffer;
 }
 
-pub is_place : (font : List ℕ) (o : Options) {e : Extent} {p : Point} {width height : ℕ} → e ≡ extent_of font o.vertical_pos o.horizontal_align 901
-    → p ≡ position_for o.at e → width ≡ side p.x e.right → height ≡ side p.y e.bottom
-    → place_in (sized width height) o p ≡ place_for font o
+pub is_place : (font : List ℕ) (o : Options) {e : Extent} {p : Point} {width height background : ℕ} {framebuffer : Framebuffer}
+    → e ≡ extent_of font o.vertical_pos o.horizontal_align 901 → p ≡ position_for o.at e
+    → width ≡ side p.x e.right → height ≡ side p.y e.bottom → background ≡ background_of o.format → framebuffer ≡ room_for o.format width height
+    → place_in background framebuffer o p ≡ place_for font o
 unfolding place_for
-is_place font o {e} {p} {width} {height} h i j k =
-    ap (λ (n : ℕ). place_in (sized n height) o p) j
-    ∙ ap (λ (n : ℕ). place_in (sized (side p.x e.right) n) o p) k
-    ∙ ap (λ (q : Point). place_at o.vertical_pos o.horizontal_align q e) i
-    ∙ ap (λ (x : Extent). place_at o.vertical_pos o.horizontal_align (position_for o.at x) x) h
+is_place font o {e} {p} {width} {height} {background} {framebuffer} h i j k b f =
+    ap (λ (n : ℕ). place_in n framebuffer o p) b
+    ∙ ap (λ (q : Framebuffer). place_in (background_of o.format) q o p) (f ∙ both (room_for o.format) j k)
+    ∙ ap (λ (q : Point). place_at o q e) i
+    ∙ ap (λ (x : Extent). place_at o (position_for o.at x) x) h
 
-pub fits_for : (font : List ℕ) (o : Options) → PlaceFits (place_for font o).framebuffer.width (place_for font o).framebuffer.height
+pub fits_for : (font : List ℕ) (o : Options) → PlaceFits (size_in_bytes (place_for font o).framebuffer) (place_for font o)
 unfolding place_for
 fits_for font o =
     let e = extent_of font o.vertical_pos o.horizontal_align 901 in
-    place_fits o.vertical_pos o.horizontal_align (position_for o.at e) e
+    place_fits o (position_for o.at e) e

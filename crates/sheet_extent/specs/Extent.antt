@@ -1,13 +1,13 @@
 -- The edges of all readings, and the framebuffer and the place that follow from them.
 use Rattle.std.specs.Prelude.{◌≡◌, false, List, ℕ, zero, suc, ◌+◌, ◌<◌, min, max, ℤ, pos, negsuc, ◌+ℤ◌, ◌≤ℤ◌, Option}
 use Rattle.integers.specs.Integers.{min_z, max_z}
-use Rattle.definitions.specs.Vocabulary.{BoundingBox, None, Some, Point, Rectangle, RenderedDimensions, Transparent, HorizontalAlignment, VerticalPosition, Place}
+use Rattle.definitions.specs.Vocabulary.{BoundingBox, None, Some, Point, Rectangle, RenderedDimensions, PixelFormat, Bytes, Packed, Transparent, HorizontalAlignment, VerticalPosition, Place}
 use Rattle.definitions.specs.Refusals.{Outcome, success, refused}
 use Rattle.definitions.specs.Geometry.{left, top, right, bottom, InsideBox}
 use Rattle.definitions.specs.Text.{point}
 use Rattle.definitions.specs.Font.{u8g2}
-use Rattle.definitions.specs.Framebuffer.{sized}
 use Rattle.definitions.specs.Calls.{placed, request, measure}
+use Rattle.unpacking.specs.Rooms.{room_for}
 use Rattle.redraw_checks.specs.Drawing.{measured}
 use Rattle.sheet_extent.specs.declared.values.Extent.{Extent}
 use Rattle.sheet_extent.specs.declared.values.Options.{Options}
@@ -95,21 +95,25 @@ side_of (negsuc n) = 1
 abbrev pub side : ℤ → ℤ → ℕ
 side start end = side_of (start +ℤ end +ℤ pos 3)
 
--- ink 0 on a background of 255
-abbrev pub place_at : VerticalPosition → HorizontalAlignment → Point → Extent → Place
-place_at v a p e = record {
+-- what ink 0 stands on: 255, and on a packed framebuffer 1, its other colour
+abbrev pub background_of : PixelFormat → ℕ
+background_of Bytes = 255
+background_of Packed = 1
+
+abbrev pub place_at : Options → Point → Extent → Place
+place_at o p e = record {
   position = p;
-  style = record { color = Transparent 0; vertical_pos = v };
-  horizontal_align = a;
+  style = record { color = Transparent 0; vertical_pos = o.vertical_pos };
+  horizontal_align = o.horizontal_align;
   line_height = 0;
-  background = 255;
-  framebuffer = sized (side p.x e.right) (side p.y e.bottom);
+  background = background_of o.format;
+  framebuffer = room_for o.format (side p.x e.right) (side p.y e.bottom);
 }
 
 unfoldable pub place_for : List ℕ → Options → Place
 place_for font o =
     let e = extent_of font o.vertical_pos o.horizontal_align 901 in
-    place_at o.vertical_pos o.horizontal_align (position_for o.at e) e
+    place_at o (position_for o.at e) e
 
 -- ---- all of it is seen
 

@@ -1,17 +1,26 @@
 // A place at which all readings are seen, or the one that is asked for, and a framebuffer for it.
 ghost use Rattle.std.specs.Prelude.{◌≡◌};
-ghost use Rattle.sheet_extent.specs.Extent.{extent_of, position_for, place_for, Uncut, AllSeen};
+ghost use Rattle.sheet_extent.specs.Extent.{extent_of, position_for, background_of, place_for, Uncut, AllSeen};
 
 use crate::extent::{inside, measure_all, side};
 use crate::values::{Extent, Options};
-use types::framebuffer::Framebuffer;
+use types::framebuffer::PixelFormat;
 use types::geometry::Point;
 use types::place::Place;
 use types::style::{FontColor, FontStyle};
+use unpacking::room::room_for;
 
 const INK: u8 = 0;
 
-const BACKGROUND: u8 = 255;
+// Of a packed framebuffer it is the one colour beside the ink's.
+fn background(format: PixelFormat) -> u8
+    ensures { result ≡ background_of format }
+{
+    match format {
+        PixelFormat::Bytes => 255,
+        PixelFormat::Packed => 1,
+    }
+}
 
 // Where the readings stand: at the place that is asked for, or where all of them are seen.
 fn position_for(at: Option<Point>, extent: Extent) -> Point
@@ -34,6 +43,7 @@ pub fn place_for(font: &[u8], options: Options) -> Place
         vertical_pos,
         horizontal_align,
         at,
+        format,
         narrow: _,
     } = options;
     let extent = measure_all(font, vertical_pos, horizontal_align);
@@ -48,7 +58,7 @@ pub fn place_for(font: &[u8], options: Options) -> Place
         },
         horizontal_align,
         line_height: 0,
-        background: BACKGROUND,
-        framebuffer: Framebuffer { width, height },
+        background: background(format),
+        framebuffer: room_for(format, width, height),
     }
 }

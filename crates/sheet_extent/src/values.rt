@@ -1,4 +1,5 @@
 // Edges, and what the sheet is asked for.
+use types::framebuffer::PixelFormat;
 use types::geometry::Point;
 use types::style::{HorizontalAlignment, VerticalPosition};
 
@@ -18,5 +19,6 @@ pub struct Options {
     pub vertical_pos: VerticalPosition,
     pub horizontal_align: HorizontalAlignment,
     pub at: Option<Point>,
+    pub format: PixelFormat,
     pub narrow: bool,
 }

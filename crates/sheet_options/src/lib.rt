@@ -1,5 +1,5 @@
 // What the words of a command line ask the sheet for: an anchor, an alignment after `align`, since `center` is an anchor too,
-// `narrow`, and `at X Y`, in any order. A later word of a kind replaces an earlier one.
+// `narrow`, `packed`, and `at X Y`, in any order. A later word of a kind replaces an earlier one.
 #![tactic(auto)]
 
 ghost use Rattle.std.specs.Prelude.{IfOk};
@@ -12,6 +12,7 @@ use std::error::Error;
 use std::fmt;
 use std::fmt::{Display, Formatter};
 use system::{Word, arguments};
+use types::framebuffer::PixelFormat;
 use types::geometry::Point;
 use types::style::{HorizontalAlignment, VerticalPosition};
 
@@ -24,7 +25,7 @@ impl Display for WrongWord {
         f.write_str(
             "sheet: the arguments are an anchor (baseline, top, center, bottom), align (left, center, right), ",
         )?;
-        f.write_str("at X Y (from -1048576 to 1048576) and narrow")
+        f.write_str("at X Y (from -1048576 to 1048576), narrow and packed")
     }
 }
 
@@ -70,6 +71,7 @@ pub fn read<R: Env>(rt: &R) -> Result<Options, WrongWord>
                 options.at = Some(Point { x, y });
             }
             "narrow" => options.narrow = true,
+            "packed" => options.format = PixelFormat::Packed,
             _ => return Err(WrongWord),
         }
     }

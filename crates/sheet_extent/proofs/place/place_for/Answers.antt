@@ -16,7 +16,7 @@ returns c =
     let fb : SFits w64 m.result.bottom = search rules in
     let w = c.side-width.ensures ∙ both side (to_z-of_z fx) (to_z-of_z fr) in
     let h = c.side-height.ensures ∙ both side (to_z-of_z fy) (to_z-of_z fb) in
-    let e = is_place a.font.now a.options m.ensures.edges p.ensures w h in
+    let e = is_place a.font.now a.options m.ensures.edges p.ensures w h c.background.ensures c.room_for.ensures in
     let edges = extent_of a.font.now a.options.vertical_pos a.options.horizontal_align 901 in
     record {
       place = e;
