@@ -1,7 +1,7 @@
 -- A reading drawn over the one before, whole or not at all: the one call that the gauge makes.
 use Rattle.std.specs.Prelude.{◌≡◌, Bool, true, false, ◌||◌, List, ℕ, ◌<◌, eqb, pos}
 use Rattle.integers.specs.Integers.{pick}
-use Rattle.definitions.specs.Vocabulary.{BoundingBox, RenderedDimensions, Place, Report}
+use Rattle.definitions.specs.Vocabulary.{Framebuffer, BoundingBox, RenderedDimensions, Place, Report}
 use Rattle.definitions.specs.Refusals.{Outcome, success, refused, unless_refused, any_applies}
 use Rattle.definitions.specs.Geometry.{InsideBox}
 use Rattle.definitions.specs.Framebuffer.{shown}
@@ -40,44 +40,44 @@ AllOf color p box =
     → pixel p p.before column row ≡ color
 
 -- The box of a text that draws is filled. A text that does not draw has left nothing, so nothing is filled for it.
-abbrev pub cleared_by : ℕ → ℕ → Outcome RenderedDimensions → List ℕ → List ℕ
-cleared_by width color (success d) bytes = shown width (fill_picture color d.bounding_box) bytes
-cleared_by width color (refused n c) bytes = bytes
+abbrev pub cleared_by : Framebuffer → ℕ → Outcome RenderedDimensions → List ℕ → List ℕ
+cleared_by p color (success d) bytes = shown p (fill_picture color d.bounding_box) bytes
+cleared_by p color (refused n c) bytes = bytes
 
 -- As `cleared_by`, but what is filled is a box that `fills` allows for the text's own.
-abbrev pub Cleared : (BoundingBox → BoundingBox → Type 0) → ℕ → ℕ → Outcome RenderedDimensions → List ℕ → List ℕ → Type 0
-Cleared fills width color (success d) before after =
-    (filled : BoundingBox) × fills d.bounding_box filled × (after ≡ shown width (fill_picture color filled) before)
-Cleared fills width color (refused n c) before after = after ≡ before
+abbrev pub Cleared : (BoundingBox → BoundingBox → Type 0) → Framebuffer → ℕ → Outcome RenderedDimensions → List ℕ → List ℕ → Type 0
+Cleared fills p color (success d) before after =
+    (filled : BoundingBox) × fills d.bounding_box filled × (after ≡ shown p (fill_picture color filled) before)
+Cleared fills p color (refused n c) before after = after ≡ before
 
 -- ---- the step
 
 -- the framebuffer with the old reading cleared
 abbrev pub cleared : List ℕ → Drawing → ℕ → Ground → Ground
 cleared font old background p =
-    on p.framebuffer (cleared_by (width p) background (drawn font old p) p.before)
+    on p.framebuffer (cleared_by p.framebuffer background (drawn font old p) p.before)
 
 -- What the step answers: what drawing the new text does, unless a cause applies to either text ..
-unfoldable pub redrawn : List ℕ → List ℕ → Drawing → Ground → Outcome RenderedDimensions
-redrawn font old new p = unless_refused (redraw_causes font old new p) (drawn font new p)
+unfoldable pub redrawn : List ℕ → List ℕ → Drawing → ℕ → Ground → Outcome RenderedDimensions
+redrawn font old new background p = unless_refused (redraw_causes font old new background p) (drawn font new p)
 
--- .. and what the framebuffer then holds: the new reading on the framebuffer with the old one, which stands in the same place, cleared. Refused by a cause, the step
--- leaves it as it was.
+-- .. and what the framebuffer then holds: the new reading on the framebuffer with the old one, which stands in the same place, cleared.
+-- Refused by a cause, the step leaves it as it was.
 unfoldable pub redrawn_buffer : List ℕ → List ℕ → Drawing → ℕ → Ground → List ℕ
 redrawn_buffer font old new background p =
-    pick (any_applies (redraw_causes font old new p)) p.before
+    pick (any_applies (redraw_causes font old new background p)) p.before
     (reading_on font new (cleared font (with_text old new) background p))
 
 -- As `redrawn_buffer`, but that the old reading is cleared by a box that `fills` allows for its own.
 pub record RedrawnFilling (fills : BoundingBox → BoundingBox → Type 0) (font old : List ℕ) (new : Drawing) (background : ℕ) (p : Ground)
     (exit : List ℕ) : Type 0 where
-  pub refuses : any_applies (redraw_causes font old new p) ≡ true → exit ≡ p.before
-  pub clears : any_applies (redraw_causes font old new p) ≡ false
-      → (between : List ℕ) × Cleared fills (width p) background (drawn font (with_text old new) p) p.before between
+  pub refuses : any_applies (redraw_causes font old new background p) ≡ true → exit ≡ p.before
+  pub clears : any_applies (redraw_causes font old new background p) ≡ false
+      → (between : List ℕ) × Cleared fills p.framebuffer background (drawn font (with_text old new) p) p.before between
       × (exit ≡ reading_on font new (on p.framebuffer between))
 
 -- Whether a step was taken: it succeeded, or a letter of the new text refused it (7 or 8) and the old reading is cleared. A step
--- that one of the causes 1 to 6 refused has changed nothing, and the old reading still stands.
+-- that one of the other causes refused has changed nothing, and the old reading still stands.
 abbrev pub taken : Outcome RenderedDimensions → Bool
 taken (success d) = true
 taken (refused n c) = eqb n 7 || eqb n 8

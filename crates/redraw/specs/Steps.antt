@@ -4,7 +4,7 @@ use Rattle.integers.specs.Integers.{pick}
 use Rattle.definitions.specs.Vocabulary.{Framebuffer, Point, RenderedDimensions, FontColor, Transparent, HorizontalAlignment, VerticalPosition, Place}
 use Rattle.definitions.specs.Refusals.{Outcome, success}
 use Rattle.definitions.specs.Font.{u8g2}
-use Rattle.definitions.specs.Limits.{background_off}
+use Rattle.definitions.specs.Limits.{color_off, background_off}
 use Rattle.definitions.specs.Agreement.{Ground, on}
 use Rattle.redraw_checks.specs.Drawing.{Drawing, drawn}
 use Rattle.redraw.specs.Redraw.{reading_on, AllOf, redrawn, redrawn_buffer, taken}
@@ -62,7 +62,7 @@ bare ground = record { old = record { text = []; color = Transparent 0 }; bytes 
 
 -- What a step answers, and the screen after it. The next step is to clear the new reading if this one was taken.
 abbrev pub step_answer : Setting → Screen → Reading → Outcome RenderedDimensions
-step_answer f s new = redrawn f.font s.old.text (in_setting f new) (ground_in f s.bytes)
+step_answer f s new = redrawn f.font s.old.text (in_setting f new) f.background (ground_in f s.bytes)
 
 abbrev pub step_on : Setting → Screen → Reading → Screen
 step_on f s new = record {
@@ -85,7 +85,7 @@ answers f s (r ∷ rs) = step_answer f s r ∷ answers f (step_on f s r) rs
 abbrev pub alone : Setting → List ℕ → Reading → Outcome RenderedDimensions
 alone f ground r = drawn f.font (in_setting f r) (ground_in f ground)
 
--- the last reading that none of the causes 1 to 6 refuses, or `old` where there is none
+-- the last reading that none of the causes 1 to 6 and 9 refuses, or `old` where there is none
 unfoldable pub last_taken : Setting → List ℕ → Reading → List Reading → Reading
 last_taken f ground old [] = old
 last_taken f ground old (r ∷ rs) = last_taken f ground (pick (taken (alone f ground r)) r old) rs
@@ -103,10 +103,14 @@ abbrev pub ClearForAll : Setting → List ℕ → List Reading → Type 0
 ClearForAll f ground [] = Unit {0}
 ClearForAll f ground (r ∷ rs) = ClearFor f ground r × ClearForAll f ground rs
 
--- One step, from `entry` to `exit`: if `entry` shows the old text on a ground, in a colour that the font allows, and the ground is
--- background in its box, `exit` is what the new reading shows on that ground. A step that was not taken leaves the screen as it was.
+-- The framebuffer has the colour, and the font allows it: neither 9 nor 6 refuses it.
+abbrev pub Allowed : Setting → FontColor → Type 0
+Allowed f color = (color_off f.framebuffer.format color ≡ false) × (background_off color (u8g2 f.font).background ≡ false)
+
+-- One step, from `entry` to `exit`: if `entry` shows the old text on a ground, in a colour that is allowed, and the ground is background
+-- in its box, `exit` is what the new reading shows on that ground. A step that was not taken leaves the screen as it was.
 abbrev pub LeavesReading : Setting → List ℕ → Reading → List ℕ → Outcome RenderedDimensions → List ℕ → Type 0
 LeavesReading f old new entry answer exit =
-    (ground : List ℕ) (color : FontColor) → background_off color (u8g2 f.font).background ≡ false → ClearFor f ground (reading_of old color)
+    (ground : List ℕ) (color : FontColor) → Allowed f color → ClearFor f ground (reading_of old color)
     → entry ≡ reading_on f.font (in_setting f (reading_of old color)) (ground_in f ground)
     → exit ≡ pick (taken answer) (reading_on f.font (in_setting f new) (ground_in f ground)) entry

@@ -32,7 +32,7 @@ fn clear_reading<F: FnOnce(Option<Rectangle>) -> Option<Rectangle>>(
 )
     requires drawable { DrawableText text.now pen place.framebuffer (length buffer.old) }
     requires callable { F.IsAlwaysCallable to_fill }
-    ensures { Cleared (F.post to_fill) place.framebuffer.width place.background
+    ensures { Cleared (F.post to_fill) place.framebuffer place.background
         (counted_with font.now.bytes.now text.now place.horizontal_align pen) buffer.old
         buffer.new }
 {
@@ -66,7 +66,7 @@ pub fn draw_reading(
     draw_aligned(font, text, pen, place.horizontal_align, context, buffer)
 }
 
-// Clears the old text's reading and draws the new text's, or refuses to. Causes 1 to 6 are tested for both texts before a pixel
+// Clears the old text's reading and draws the new text's, or refuses to. Causes 1 to 6 and 9 are tested for both texts before a pixel
 // changes. Then what `to_fill` makes of the old reading's box is filled with the background, and the new reading is drawn if every
 // one of its characters draws; else its refusal, 7 or 8, is the answer, and nothing of it is drawn. The steps are those of the new
 // text's lookups, once.
@@ -80,11 +80,11 @@ pub fn redraw_filling<F: FnOnce(Option<Rectangle>) -> Option<Rectangle>>(
 ) -> Report<RenderedDimensions>
     requires { F.IsAlwaysCallable to_fill }
     ensures answered { outcome result.result ≡ redrawn font.now old_text.now
-        (asked place new_text.now) (ground_of place buffer.old) }
+        (asked place new_text.now) place.background (ground_of place buffer.old) }
     ensures shown { RedrawnFilling (F.post to_fill) font.now old_text.now
         (asked place new_text.now) place.background (ground_of place buffer.old) buffer.new }
     ensures summed { result.steps ≡ sums (u8g2 font.now) new_text.now (redrawn font.now
-        old_text.now (asked place new_text.now) (ground_of place buffer.old)) }
+        old_text.now (asked place new_text.now) place.background (ground_of place buffer.old)) }
 {
     // A `Report` is no `Result`, so no `?` hands the refusal on.
     match check_step(font, old_text, new_text, place, buffer) {
@@ -105,14 +105,14 @@ pub fn redraw(
     buffer: &mut [u8],
 ) -> Report<RenderedDimensions>
     ensures answered { outcome result.result ≡ redrawn font.now old_text.now
-        (asked place new_text.now) (ground_of place buffer.old) }
+        (asked place new_text.now) place.background (ground_of place buffer.old) }
     ensures shown { buffer.new ≡ redrawn_buffer font.now old_text.now
         (asked place new_text.now) place.background (ground_of place buffer.old) }
     ensures leaves { LeavesReading (setting_of font.now place) old_text.now
         (reading_of new_text.now place.style.color) buffer.old (outcome result.result)
         buffer.new }
     ensures summed { result.steps ≡ sums (u8g2 font.now) new_text.now (redrawn font.now
-        old_text.now (asked place new_text.now) (ground_of place buffer.old)) }
+        old_text.now (asked place new_text.now) place.background (ground_of place buffer.old)) }
 {
     redraw_filling(font, old_text, new_text, place, |old_box| old_box, buffer)
 }

@@ -2,12 +2,12 @@
 use Rattle.integers.proofs.Prelude.{sym, ap, subst, ◌∙◌, ℕ}
 use Rattle.definitions.specs.Vocabulary.{Report, RenderedDimensions}
 use Rattle.definitions.specs.Refusals.{outcome}
+use Rattle.definitions.specs.Framebuffer.{BufferFits}
 use Rattle.definitions.specs.Font.{u8g2}
 use Rattle.definitions.specs.Sums.{sums}
 use Rattle.definitions.proofs.SumsLaws.{no_sums}
 use Rattle.redraw_checks.specs.Drawing.{asked, ground_of}
 use Rattle.redraw_checks.proofs.ChecksLaws.{checks_early}
-use Rattle.redraw.specs.Contexts.{FitsPlace}
 use Rattle.redraw.proofs.RedrawLaws.{stops, stays, answers, leaves}
 use Rattle.redraw.proofs.reading.redraw_filling.Goals as goal
 
@@ -17,7 +17,7 @@ clear_reading-requires-clause-drawable g c = let r = c.in-Ok.ensures.1 in record
 pub draw_reading-requires : goal.draw_reading-requires
 draw_reading-requires g c =
     let r = c.in-Ok.ensures.1 in
-    record { checked = r.new_set.checked; fits = subst (λ (n : ℕ). FitsPlace n c.args.place) (sym c.clear_reading.auto.buffer) r.fits }
+    record { checked = r.new_set.checked; fits = subst (λ (n : ℕ). BufferFits n c.args.place.framebuffer) (sym c.clear_reading.auto.buffer) r.fits }
 
 pub returns-in-Err : goal.returns-in-Err
 returns-in-Err g c =
@@ -26,7 +26,7 @@ returns-in-Err g c =
     let r = asked a.place a.new_text.now in
     let e = c.in-Err.ensures in
     let is_refused = stops a.font.now a.old_text.now r a.place.background p e in
-    let none = no_sums (u8g2 a.font.now) a.new_text.now is_refused (checks_early a.font.now a.old_text.now r p e) in
+    let none = no_sums (u8g2 a.font.now) a.new_text.now is_refused (checks_early a.font.now a.old_text.now r a.place.background p e) in
     record {
       answered = ap (λ (r : Report RenderedDimensions). outcome r.result) c.refused.ensures ∙ is_refused;
       shown = stays a.font.now a.old_text.now r a.place.background p e;
