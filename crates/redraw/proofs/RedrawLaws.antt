@@ -58,7 +58,8 @@ abbrev picture_of : List ℕ → Drawing → Picture
 picture_of font r = text_picture r.color (pixels_of (u8g2 font)) (drawn_text (u8g2 font) (asks r)).glyphs
 
 -- the framebuffer keeps its length
-length_by : (t : Bool) (p : Framebuffer) (picture : Picture) (before : List ℕ) → length (pick t before (shown p picture before)) ≡ length before
+length_by : (t : Bool) (p : Framebuffer) (picture : Picture) (before : List ℕ)
+    → length (pick t before (shown p picture before)) ≡ length before
 length_by true p picture before = refl
 length_by false p picture before = length_shown p picture before
 
@@ -96,14 +97,16 @@ module _ (font : List ℕ) (r : Drawing) (p : Ground) (d : RenderedDimensions) (
   module _ (color : ℕ) (clears : color_off p.framebuffer.format (Transparent color) ≡ false) (ground : AllOf color p d.bounding_box) where
     -- inside the box the fill puts the colour, which was there; outside it keeps what the drawing kept
     restored : (box : BoundingBox) → box ≡ d.bounding_box → (column row : ℕ) → column < width p → row < height p
-        → over (stored p.framebuffer.format (fill_picture color box (pos column) (pos row))) (pixel p (after font r p) column row) ≡ pixel p p.before column row
+        → over (stored p.framebuffer.format (fill_picture color box (pos column) (pos row))) (pixel p (after font r p) column row)
+        ≡ pixel p p.before column row
     restored None e column row c k =
         over_keep p.framebuffer.format (pixel p (after font r p) column row)
         ∙ agreed.first_kept column row c k (λ i. subst (InsideBox (pos column) (pos row)) (sym e) i)
     restored (Some b) e column row c k = by (covers b (pos column) (pos row)) refl
       where
         by : (t : Bool) → covers b (pos column) (pos row) ≡ t
-            → over (stored p.framebuffer.format (pick t (put color) keep)) (pixel p (after font r p) column row) ≡ pixel p p.before column row
+            → over (stored p.framebuffer.format (pick t (put color) keep)) (pixel p (after font r p) column row)
+            ≡ pixel p p.before column row
         by true h =
             ap (λ (x : Paint). over x (pixel p (after font r p) column row)) (stored_color p.framebuffer.format color clears)
             ∙ sym (ground column row c k (subst (InsideBox (pos column) (pos row)) e (covers_inside (pos column) (pos row) b h)))
@@ -156,7 +159,8 @@ module _ {A : Type 0} (rest : Outcome A) where
       by true e later = rw e
       by false e later = rw e later
 
-pub length_cleared : (p : Framebuffer) (color : ℕ) (o : Outcome RenderedDimensions) (bytes : List ℕ) → length (cleared_by p color o bytes) ≡ length bytes
+pub length_cleared : (p : Framebuffer) (color : ℕ) (o : Outcome RenderedDimensions) (bytes : List ℕ)
+    → length (cleared_by p color o bytes) ≡ length bytes
 length_cleared p color (success d) bytes = length_shown p (fill_picture color d.bounding_box) bytes
 length_cleared p color (refused n c) bytes = refl
 
@@ -198,7 +202,8 @@ module _ (font : List ℕ) (r : Drawing) (p : Ground) where
       ap taken (none_applies (dimensions l) causes e)
       ∙ late_taken (dimensions l) (late_drawn font false r.line_height r.align (origin (u8g2 font) (asks r)) (code_points_of r.text) (join_all l.glyphs))
 
-  module _ (old : List ℕ) (background : ℕ) (fine : (text_cause old).applies ≡ false) (clears : color_off p.framebuffer.format (Transparent background) ≡ false) where
+  module _ (old : List ℕ) (background : ℕ) (fine : (text_cause old).applies ≡ false)
+      (clears : color_off p.framebuffer.format (Transparent background) ≡ false) where
     -- The old text being one that can be drawn, and what clears it a colour of the framebuffer, the step is refused as the drawing is ..
     pub same_causes : any_applies (redraw_causes font old r background p) ≡ any_applies causes
     same_causes = rw (fine, clears)
@@ -222,10 +227,13 @@ own_box (success d) = refl
 own_box (refused n c) = refl
 
 module _ (font old : List ℕ) (new : Drawing) (background : ℕ) (p : Ground) where
+  abbrev step_causes : List Cause
+  step_causes = redraw_causes font old new background p
+
   -- refused by one of its causes
-  module _ {n c : ℕ} (e : Refuse (redraw_causes font old new background p) n c) where
-    is_refused : (any_applies (redraw_causes font old new background p) ≡ true) × (unless_refused (redraw_causes font old new background p) (drawn font new p) ≡ refused n c)
-    is_refused = stopped (tt {0}) (drawn font new p) (redraw_causes font old new background p) e
+  module _ {n c : ℕ} (e : Refuse step_causes n c) where
+    is_refused : (any_applies step_causes ≡ true) × (unless_refused step_causes (drawn font new p) ≡ refused n c)
+    is_refused = stopped (tt {0}) (drawn font new p) step_causes e
 
     pub stops : refused n c ≡ redrawn font old new background p
     unfolding redrawn
@@ -238,7 +246,7 @@ module _ (font old : List ℕ) (new : Drawing) (background : ℕ) (p : Ground) w
     }
 
   -- .. or by none of them
-  module _ (unrefused : any_applies (redraw_causes font old new background p) ≡ false) where
+  module _ (unrefused : any_applies step_causes ≡ false) where
     off : StepPasses font old new background p
     off = step_passes font old new background p unrefused
 
@@ -279,7 +287,9 @@ module _ (font old : List ℕ) (new : Drawing) (background : ℕ) (p : Ground) w
 
     pub answers : {answer : Outcome RenderedDimensions} → answer ≡ counted new.text → answer ≡ redrawn font old new background p
     unfolding redrawn
-    answers e = e ∙ (drawn_unrefused font (asks new) new.color p.framebuffer p.before new_off).0 ∙ sym (none_applies (drawn font new p) (redraw_causes font old new background p) unrefused)
+    answers e =
+        e ∙ (drawn_unrefused font (asks new) new.color p.framebuffer p.before new_off).0
+        ∙ sym (none_applies (drawn font new p) step_causes unrefused)
 
     pub leaves : {fills : BoundingBox → BoundingBox → Type 0} (between : List ℕ) {exit : List ℕ} → Cleared fills p.framebuffer background (counted old) p.before between
         → length between ≡ length p.before → exit ≡ whole_or (counted new.text) (new_on between) between
@@ -304,9 +314,9 @@ module _ (font old : List ℕ) (new : Drawing) (background : ℕ) (p : Ground) w
 
     pub left_by : {filled : Outcome RenderedDimensions} {exit : List ℕ} → with_box fill (drawn font (with_text old new) p) ≡ filled
         → RedrawnFilling fills font old new background p exit
-        → exit ≡ pick (any_applies (redraw_causes font old new background p)) p.before
+        → exit ≡ pick (any_applies step_causes) p.before
         (reading_on font new (on p.framebuffer (cleared_by p.framebuffer background filled p.before)))
-    left_by {filled} {exit} e h = by (any_applies (redraw_causes font old new background p)) h.refuses h.clears
+    left_by {filled} {exit} e h = by (any_applies step_causes) h.refuses h.clears
       where
         by : (b : Bool) → (b ≡ true → exit ≡ p.before)
             → (b ≡ false → (between : List ℕ) × Cleared fills p.framebuffer background (drawn font (with_text old new) p) p.before between

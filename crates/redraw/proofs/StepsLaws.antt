@@ -134,7 +134,10 @@ module _ (f : Setting) (ground : List ℕ) where
           ∙ same_color f ground s.old.text r.color s.old.color (o.bits_in, o.color_in) z.allowed
 
       pub taken_step : step_on f s r
-          ≡ record { old = r; bytes = reading_on f.font (in_setting f r) (ground_in f (cleared_by f.framebuffer f.background (alone f ground s.old) s.bytes)) }
+          ≡ record {
+            old = r;
+            bytes = reading_on f.font (in_setting f r) (ground_in f (cleared_by f.framebuffer f.background (alone f ground s.old) s.bytes));
+          }
       unfolding redrawn_buffer
       taken_step =
           let late : taken (step_answer f s r) ≡ true = ap taken answers_alone ∙ drawn_late f.font (in_setting f r) (ground_in f ground) k in
@@ -188,12 +191,14 @@ module _ (f : Setting) (ground : List ℕ) where
   pub length_left : (r : Reading) (bytes : List ℕ) (b : Bool) (o : Outcome RenderedDimensions)
       → length (pick b bytes (reading_on f.font (in_setting f r) (ground_in f (cleared_by f.framebuffer f.background o bytes)))) ≡ length bytes
   length_left r bytes true o = refl
-  length_left r bytes false o = length_reading r (cleared_by f.framebuffer f.background o bytes) ∙ length_cleared f.framebuffer f.background o bytes
+  length_left r bytes false o =
+      length_reading r (cleared_by f.framebuffer f.background o bytes) ∙ length_cleared f.framebuffer f.background o bytes
 
   pub length_step : (s : Screen) (r : Reading) → length (step_on f s r).bytes ≡ length s.bytes
   unfolding redrawn_buffer
   length_step s r =
-      length_left r s.bytes (any_applies (redraw_causes f.font s.old.text (in_setting f r) f.background (ground_in f s.bytes))) (alone f s.bytes (reading_of s.old.text r.color))
+      length_left r s.bytes (any_applies (redraw_causes f.font s.old.text (in_setting f r) f.background (ground_in f s.bytes)))
+      (alone f s.bytes (reading_of s.old.text r.color))
 
   -- ---- any number of steps
 
@@ -267,7 +272,8 @@ module _ (f : Setting) (old : List ℕ) (r : Reading) {entry exit : List ℕ} {a
     (shown : exit ≡ redrawn_buffer f.font old (in_setting f r) f.background (ground_in f entry)) where
   pub leaves_reading : LeavesReading f old r entry answer exit
   unfolding redrawn redrawn_buffer
-  leaves_reading ground color allowed clear was = by (any_applies (redraw_causes f.font old (in_setting f r) f.background (ground_in f entry))) refl
+  leaves_reading ground color allowed clear was =
+      by (any_applies (redraw_causes f.font old (in_setting f r) f.background (ground_in f entry))) refl
     where
       late : (z : Sized f ground record { old = reading_of old color; bytes = entry }) (b : Bool) → taken (alone f ground r) ≡ b → exit
           ≡ pick (taken answer) (reading_on f.font (in_setting f r) (ground_in f ground)) entry

@@ -19,8 +19,8 @@ pub record StepPasses (font old : List ℕ) (new : Drawing) (background : ℕ) (
   pub clears : color_off p.framebuffer.format (Transparent background) ≡ false
   pub passes : DrawPasses font (asks new) new.color p
 
-pub step_passes : (font old : List ℕ) (new : Drawing) (background : ℕ) (p : Ground) → any_applies (redraw_causes font old new background p) ≡ false
-    → StepPasses font old new background p
+pub step_passes : (font old : List ℕ) (new : Drawing) (background : ℕ) (p : Ground)
+    → any_applies (redraw_causes font old new background p) ≡ false → StepPasses font old new background p
 step_passes font old new background p e = by (each_off (redraw_causes font old new background p) e)
   where
     by : NoneApplies (redraw_causes font old new background p) → StepPasses font old new background p
@@ -43,7 +43,8 @@ refused_either n false true cs e = refl
 refused_either n false false cs e = impossible cc
 
 -- A step that a test refuses is refused before its first character.
-pub checks_early : (font old : List ℕ) (new : Drawing) (background : ℕ) (p : Ground) {n c : ℕ} → Refuse (redraw_causes font old new background p) n c
-    → eqb n 7 ≡ false
+pub checks_early : (font old : List ℕ) (new : Drawing) (background : ℕ) (p : Ground) {n c : ℕ}
+    → Refuse (redraw_causes font old new background p) n c → eqb n 7 ≡ false
 checks_early font old new background p e =
-    refused_early (tt {0}) (redraw_causes font old new background p) (refl, (refl, (refl, (refl, (refl, (refl, (refl, (refl, (refl, tt))))))))) e
+    refused_early (tt {0}) (redraw_causes font old new background p)
+    (refl, (refl, (refl, (refl, (refl, (refl, (refl, (refl, (refl, tt))))))))) e

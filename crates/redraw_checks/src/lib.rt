@@ -33,8 +33,8 @@ fn has_unsupported_colors(place: Place) -> bool
         | has_unsupported_color(format, FontColor::Transparent(place.background))
 }
 
-// Causes 1 to 5, 9 and 6 (SPECIFICATION, Refusals), in this order, for both texts. Nothing is skipped. The two texts stand one by one, here and
-// in redraw: a struct of them would be made for the call and taken apart in it.
+// Causes 1 to 5, 9 and 6 (SPECIFICATION, Refusals), in this order, for both texts. Nothing is skipped. The two texts stand one by one,
+// here and in redraw: a struct of them would be made for the call and taken apart in it.
 pub fn check_step<'a>(
     font: &'a [u8],
     old_text: &[u8],

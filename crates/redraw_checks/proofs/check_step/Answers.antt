@@ -93,7 +93,8 @@ returns-then-has_unsupported_colors c =
     let e = (goal.at.returns-then-has_unsupported_colors c).Else-has_bad_size in
     let o = (goal.at.returns-then-has_unsupported_colors c).Else-has_bad_text in
     last_refused c.args.font.now (between s) (asks (new s)) (color s) c.in_ok-font.ensures.1 (rw (size_in e, old_in o) refl) c.in_ok-setup.ensures.0
-    (refused_either 9 (ink s).applies (clearing s).applies (allowance s ∷ []) (sym c.has_unsupported_colors.ensures ∙ c.if-has_unsupported_colors.true))
+    (refused_either 9 (ink s).applies (clearing s).applies (allowance s ∷ [])
+    (sym c.has_unsupported_colors.ensures ∙ c.if-has_unsupported_colors.true))
 
 pub returns-then-has_bad_color : goal.returns-then-has_bad_color
 returns-then-has_bad_color c =

@@ -17,7 +17,10 @@ clear_reading-requires-clause-drawable g c = let r = c.in-Ok.ensures.1 in record
 pub draw_reading-requires : goal.draw_reading-requires
 draw_reading-requires g c =
     let r = c.in-Ok.ensures.1 in
-    record { checked = r.new_set.checked; fits = subst (λ (n : ℕ). BufferFits n c.args.place.framebuffer) (sym c.clear_reading.auto.buffer) r.fits }
+    record {
+      checked = r.new_set.checked;
+      fits = subst (λ (n : ℕ). BufferFits n c.args.place.framebuffer) (sym c.clear_reading.auto.buffer) r.fits;
+    }
 
 pub returns-in-Err : goal.returns-in-Err
 returns-in-Err g c =
