@@ -2,8 +2,8 @@
 -- nothing.
 use Rattle.integers.proofs.Prelude.{◌≡◌, sym, ap, subst, ◌∙◌, List, ℕ, ◌≤◌, ℤ, pos, negsuc, ◌-ℤ◌, ◌≤ℤ◌, length}
 use Rattle.integers.proofs.Laws.{zarith}
-use Rattle.definitions.specs.Vocabulary.{Framebuffer, Point, Rectangle, RenderedDimensions, FontColor}
-use Rattle.definitions.specs.Refusals.{Outcome, success}
+use Rattle.definitions.specs.Vocabulary.{Framebuffer, Rectangle, RenderedDimensions, FontColor}
+use Rattle.definitions.specs.Refusals.{Outcome}
 use Rattle.definitions.specs.Geometry.{left, top}
 use Rattle.definitions.specs.Text.{point}
 use Rattle.definitions.specs.Font.{u8g2}

@@ -48,7 +48,11 @@ fn show_box<R: Files + Print + Eprint + Alloc>(
     let framebuffer = room_for(options.format, width, height);
     let mut pixels = [0u8; 65536];
     let pixels = &mut pixels[..framebuffer.height * width];
-    unpack(framebuffer, &buffer[..size_in_bytes(framebuffer)], &mut pixels[..]);
+    unpack(
+        framebuffer,
+        &buffer[..size_in_bytes(framebuffer)],
+        &mut pixels[..],
+    );
     to_greys(options.format, &mut pixels[..]);
     show_pixels(rt, size, options.pgm, &pixels[..height * width]);
 }

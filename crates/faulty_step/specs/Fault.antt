@@ -3,7 +3,7 @@ use Rattle.std.specs.Prelude.{Bool, true, false, List, ℕ, ◌-◌}
 use Rattle.integers.specs.Integers.{pick}
 use Rattle.definitions.specs.Vocabulary.{BoundingBox, None, Some, RenderedDimensions}
 use Rattle.definitions.specs.Refusals.{Outcome, success, refused, any_applies}
-use Rattle.definitions.specs.Agreement.{on, Ground, width}
+use Rattle.definitions.specs.Agreement.{on, Ground}
 use Rattle.redraw_checks.specs.Drawing.{Drawing, with_text, drawn}
 use Rattle.redraw_checks.specs.Checks.{redraw_causes}
 use Rattle.redraw.specs.Redraw.{reading_on, cleared_by}
@@ -25,6 +25,6 @@ to_fill false o = o
 -- What the step leaves, with the fault or without: without it `redrawn_buffer`. What it answers is `redrawn` either way.
 unfoldable pub step_buffer : Bool → List ℕ → List ℕ → Drawing → ℕ → Ground → List ℕ
 step_buffer narrow font old new color p =
-    pick (any_applies (redraw_causes font old new p)) p.before
+    pick (any_applies (redraw_causes font old new color p)) p.before
     (reading_on font new
-    (on p.framebuffer (cleared_by (width p) color (to_fill narrow (drawn font (with_text old new) p)) p.before)))
+    (on p.framebuffer (cleared_by p.framebuffer color (to_fill narrow (drawn font (with_text old new) p)) p.before)))

@@ -41,7 +41,8 @@ pub fn redraw_on(
     screen: &mut [u8],
 ) -> Result<RenderedDimensions, Error>
     ensures answered { outcome result ≡ redrawn font.now old_text.now
-        (asked trial.place new_text.now) (ground_of trial.place screen.old) }
+        (asked trial.place new_text.now) trial.place.background
+        (ground_of trial.place screen.old) }
     ensures shown { screen.new ≡ step_buffer trial.narrow font.now old_text.now
         (asked trial.place new_text.now) trial.place.background
         (ground_of trial.place screen.old) }

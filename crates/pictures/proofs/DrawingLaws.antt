@@ -15,7 +15,7 @@ use Rattle.corner.specs.declared.Setting.{Setting}
 use Rattle.unpacking.proofs.RoomLaws.{room_fits, bytes_most}
 use Rattle.corner.specs.Whole.{room_of, at_zero, whole, measured_at_zero, SeenWhole}
 use Rattle.definitions.proofs.OpenedLaws.{opened, open_refused}
-use Rattle.corner.specs.Corners.{Measured, Framed, Cornered, CornerDrawn}
+use Rattle.corner.specs.Corners.{Measured, Cornered, CornerDrawn}
 use Rattle.corner.proofs.WholeLaws.{near}
 use Rattle.pictures.specs.Drawings.{Buffered, bytes_of, Called, IsDrawn}
 

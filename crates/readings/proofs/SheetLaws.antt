@@ -10,8 +10,8 @@ use Rattle.definitions.specs.Refusals.{Outcome, success, refused, Cause, any_app
 use Rattle.definitions.specs.Header.{font_causes}
 use Rattle.definitions.specs.Utf8.{table, row_of, first_character, decode_from}
 use Rattle.definitions.specs.Font.{u8g2}
-use Rattle.definitions.specs.Framebuffer.{framebuffer_cause}
-use Rattle.definitions.specs.Limits.{text_cause, position_cause, background_cause}
+use Rattle.definitions.specs.Framebuffer.{unpacked, framebuffer_cause}
+use Rattle.definitions.specs.Limits.{text_cause, position_cause, color_off, color_cause, background_cause}
 use Rattle.angles.specs.AngleText.{degrees_then, angle_text}
 use Rattle.redraw_checks.specs.Drawing.{asked, drawn, after, ground_of}
 use Rattle.buffers.specs.Differences.{differences}
@@ -60,7 +60,7 @@ all_fine = refl
 fine : (k : ℕ) → k < 901 → (text_cause (reading_text k)).applies ≡ false
 fine = each_to 901 all_fine
 
-module _ (narrow : Bool) (font : List ℕ) (place : Place) (ground : List ℕ) where
+module _ (narrow : Bool) (font : List ℕ) (place : Place) (ground : List ℕ) (takes : color_off place.framebuffer.format (Transparent place.background) ≡ false) where
   abbrev setting : Setting
   setting = setting_of font place
 
@@ -84,7 +84,7 @@ module _ (narrow : Bool) (font : List ℕ) (place : Place) (ground : List ℕ) w
   start_known = record {
     old = reading_of [] (Transparent 0);
     text_is = refl;
-    sized = bare_sized setting ground;
+    sized = bare_sized setting ground takes;
     shows = nothing_shown setting ground (Transparent 0) ∙ sym (nothing_shown setting ground place.style.color);
   }
 
@@ -92,7 +92,7 @@ module _ (narrow : Bool) (font : List ℕ) (place : Place) (ground : List ℕ) w
     -- Whatever it is drawn over, a reading is answered as alone on the ground.
     as_alone : answer_on font place s k ≡ drawn font (reading place k) (ground_of place ground)
     as_alone =
-        ap (λ (t : List ℕ). redrawn font t (reading place k) (ground_of place s.bytes)) (sym known.text_is)
+        ap (λ (t : List ℕ). redrawn font t (reading place k) place.background (ground_of place s.bytes)) (sym known.text_is)
         ∙ answers_alone setting ground known.sized (in_color k)
 
     abbrev is_taken : Bool
@@ -104,7 +104,7 @@ module _ (narrow : Bool) (font : List ℕ) (place : Place) (ground : List ℕ) w
     next_length : length (screen_after narrow font place s k).bytes ≡ length s.bytes
     unfolding step_buffer
     next_length =
-        length_left setting ground (in_color k) s.bytes (any_applies (redraw_causes font (shown_text s.old) (reading place k) (ground_of place s.bytes)))
+        length_left setting ground (in_color k) s.bytes (any_applies (redraw_causes font (shown_text s.old) (reading place k) place.background (ground_of place s.bytes)))
         (to_fill narrow (alone setting s.bytes (reading_of (shown_text s.old) place.style.color)))
 
     unfoldable next_known : Known (screen_after narrow font place s k)
@@ -165,6 +165,7 @@ module _ (narrow : Bool) (font : List ℕ) (place : Place) (ground : List ℕ) w
       ++ framebuffer_cause place.framebuffer ground
       ∷ record { number = 4; applies = b }
       ∷ position_cause place.position place.line_height
+      ∷ color_cause place.framebuffer.format place.style.color
       ∷ background_cause place.style.color (u8g2 font).background
       ∷ []))
       (fine j h ∙ sym (fine k i))
@@ -211,7 +212,8 @@ module _ (narrow : Bool) (font : List ℕ) (place : Place) (ground : List ℕ) w
 
     none_differing : (k : ℕ) → k < 901 → differing font place ground (before (suc k)) k ≡ 0
     none_differing k h =
-        ap (λ (l : List ℕ). differences l (wanted font place ground k)) (as_wanted k h) ∙ none_if_same (wanted font place ground k)
+        ap (λ (l : List ℕ). differences (unpacked place.framebuffer l) (unpacked place.framebuffer (wanted font place ground k))) (as_wanted k h)
+        ∙ none_if_same (unpacked place.framebuffer (wanted font place ground k))
 
   -- ---- the totals
 

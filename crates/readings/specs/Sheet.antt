@@ -2,6 +2,7 @@
 use Rattle.std.specs.Prelude.{◌≡◌, Bool, false, List, [], ℕ, zero, suc, ◌+◌, ◌<◌, Option, None, Some}
 use Rattle.integers.specs.Integers.{pick}
 use Rattle.definitions.specs.Vocabulary.{RenderedDimensions, Place}
+use Rattle.definitions.specs.Framebuffer.{unpacked}
 use Rattle.definitions.specs.Refusals.{Outcome, outcome}
 use Rattle.redraw_checks.specs.Drawing.{drawn, ground_of}
 use Rattle.buffers.specs.Differences.{differences}
@@ -31,7 +32,7 @@ screen_of old bytes = record { old = old; bytes = bytes }
 
 -- reading k over what the screen holds
 abbrev pub answer_on : List ℕ → Place → SheetState → ℕ → Outcome RenderedDimensions
-answer_on font place s k = redrawn font (shown_text s.old) (reading place k) (ground_of place s.bytes)
+answer_on font place s k = redrawn font (shown_text s.old) (reading place k) place.background (ground_of place s.bytes)
 
 abbrev pub screen_after : Bool → List ℕ → Place → SheetState → ℕ → SheetState
 screen_after narrow font place s k = record {
@@ -45,7 +46,7 @@ wanted font place ground k = reading_on font (reading place k) (ground_of place 
 
 -- the pixels in which it differs from that
 abbrev pub differing : List ℕ → Place → List ℕ → SheetState → ℕ → ℕ
-differing font place ground s k = differences s.bytes (wanted font place ground k)
+differing font place ground s k = let p = place.framebuffer in differences (unpacked p s.bytes) (unpacked p (wanted font place ground k))
 
 -- the screen before reading k
 unfoldable pub screen_at : Bool → List ℕ → Place → List ℕ → ℕ → SheetState

@@ -2,6 +2,7 @@
 ghost use Rattle.std.specs.Prelude.{◌≡◌, length, Some};
 ghost use Rattle.integers.specs.Integers.{pick};
 ghost use Rattle.definitions.specs.Refusals.{outcome};
+ghost use Rattle.definitions.specs.Framebuffer.{unpacked, BufferFits};
 ghost use Rattle.buffers.specs.Differences.{differences};
 ghost use Rattle.redraw.specs.Redraw.{redrawn, taken};
 ghost use Rattle.redraw_checks.specs.Drawing.{ground_of};
@@ -18,8 +19,10 @@ use numbers::text::Text;
 use redraw::reading::is_taken;
 use sheet_ground::texts::reading_text;
 use types::error::Error;
+use types::framebuffer::Framebuffer;
 use types::geometry::RenderedDimensions;
 use types::place::Place;
+use unpacking::unpack::unpack;
 
 // The text that stands on the screen: none before a reading is taken.
 fn shown_text(old: Option<usize>) -> Text<ANGLE_ROOM>
@@ -37,7 +40,7 @@ fn draw_over(
     screen: &mut [u8],
 ) -> Result<RenderedDimensions, Error>
     ensures answered { outcome result ≡ redrawn font.now (shown_text old) (reading trial.place k)
-        (ground_of trial.place screen.old) }
+        trial.place.background (ground_of trial.place screen.old) }
     ensures shown { screen.new ≡ step_buffer trial.narrow font.now (shown_text old)
         (reading trial.place k) trial.place.background (ground_of trial.place screen.old) }
 {
@@ -52,6 +55,19 @@ fn draw_over(
     )
 }
 
+// How many pixels of two buffers of the framebuffer differ.
+fn differing(framebuffer: Framebuffer, a: &[u8], b: &[u8]) -> usize
+    requires { BufferFits (length a.now) framebuffer × (length b.now ≡ length a.now) }
+    ensures { result ≡ differences (unpacked framebuffer a.now) (unpacked framebuffer b.now) }
+{
+    let n = framebuffer.height * framebuffer.width;
+    let mut first = [0u8; 65536];
+    let mut second = [0u8; 65536];
+    unpack(framebuffer, a, &mut first[..n]);
+    unpack(framebuffer, b, &mut second[..n]);
+    count_differences(&first[..n], &second[..n])
+}
+
 // How many pixels of the screen are not those of reading k drawn alone on the ground, whole or not at all.
 fn compare(
     font: &[u8],
@@ -61,12 +77,14 @@ fn compare(
     screen: &[u8],
     alone: &mut [u8],
 ) -> usize
-    requires { (length ground.now ≡ length alone.old) × (length screen.now ≡ length alone.old) }
-    ensures { result ≡ differences screen.now (wanted font.now place ground.now k) }
+    requires { BufferFits (length screen.now) place.framebuffer
+        × (length ground.now ≡ length alone.old) × (length screen.now ≡ length alone.old) }
+    ensures { result ≡ differences (unpacked place.framebuffer screen.now)
+        (unpacked place.framebuffer (wanted font.now place ground.now k)) }
 {
     let text = reading_text(k);
     draw_alone(font, text.as_bytes(), place, ground, alone);
-    count_differences(screen, alone)
+    differing(place.framebuffer, screen, alone)
 }
 
 // The reading that the next step is to clear.
@@ -91,7 +109,8 @@ pub fn step(
     screen: &mut [u8],
     alone: &mut [u8],
 ) -> Found
-    requires { (length ground.now ≡ length alone.old) × (length screen.old ≡ length alone.old) }
+    requires { BufferFits (length screen.old) trial.place.framebuffer
+        × (length ground.now ≡ length alone.old) × (length screen.old ≡ length alone.old) }
     ensures { Finds trial.narrow font.now trial.place ground.now
         (screen_of old screen.old) k result screen.new }
 {

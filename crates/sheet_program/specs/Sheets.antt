@@ -1,17 +1,14 @@
 -- What the program promises of a sheet, and the room that it needs.
-use Rattle.std.specs.Prelude.{◌≡◌, Bool, List, ℕ, ◌*◌, ◌≤◌, length}
-use Rattle.definitions.specs.Vocabulary.{Framebuffer, Place}
+use Rattle.std.specs.Prelude.{◌≡◌, Bool, List, ℕ, length}
+use Rattle.definitions.specs.Vocabulary.{Place}
+use Rattle.sheet_ground.specs.Readings.{PlaceFits}
 use Rattle.sheet_ground.specs.Ground.{ground as ground_of, ClearTo}
 use Rattle.readings.specs.Sheet.{screen_at, totals_to, Sound}
 use Rattle.sheet_program.specs.declared.values.Sheet.{Sheet}
 
--- The framebuffers of a sheet have one size.
-pub record Buffers (p : Framebuffer) (ground screen alone : ℕ) : Type 0 where
-  pub some_wide : 1 ≤ p.width
-  pub wide : p.width ≤ 256
-  pub some_high : 1 ≤ p.height
-  pub high : p.height ≤ 256
-  pub whole : ground ≡ p.width * p.height
+-- The framebuffers of a sheet have one size, the place's.
+pub record Buffers (place : Place) (ground screen alone : ℕ) : Type 0 where
+  pub fits : PlaceFits ground place
   pub as_screen : ground ≡ screen
   pub as_alone : ground ≡ alone
 
@@ -22,8 +19,8 @@ pub record LargeBuffers (a b c : ℕ) : Type 0 where
   pub alone : c ≡ 65536
 
 -- The screen begins as the ground.
-pub record Begins (p : Framebuffer) (ground screen alone : List ℕ) : Type 0 where
-  pub fits : Buffers p (length ground) (length screen) (length alone)
+pub record Begins (place : Place) (ground screen alone : List ℕ) : Type 0 where
+  pub buffers : Buffers place (length ground) (length screen) (length alone)
   pub begins : screen ≡ ground
 
 -- What the loop leaves: the totals and the screen after all readings, sound on a ground that is clear for them.

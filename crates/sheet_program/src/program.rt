@@ -13,6 +13,7 @@ use sheet_ground::ground::lay_ground;
 use sheet_report::{print_totals, print_verdict};
 use std::rt::Files;
 use types::place::Place;
+use unpacking::room::size_in_bytes;
 
 // Makes the sheet on framebuffers of the place's size. It is made whether or not its pictures can be written.
 fn fill_sheet<R: Files + Print>(
@@ -24,7 +25,7 @@ fn fill_sheet<R: Files + Print>(
     screen: &mut [u8],
     alone: &mut [u8],
 ) -> Sheet
-    requires { Buffers place.framebuffer (length ground.old) (length screen.old) (length alone.old) }
+    requires { Buffers place (length ground.old) (length screen.old) (length alone.old) }
     ensures { SheetOf narrow font.now place result }
 {
     lay_ground(font, place, &mut ground[..]);
@@ -48,15 +49,15 @@ pub fn make_sheet<R: Files + Print>(
     ensures { SheetOf options.narrow font.now (place_for font.now options) result }
 {
     let place = place_for(font, options);
-    let cell = place.framebuffer.width * place.framebuffer.height;
+    let bytes = size_in_bytes(place.framebuffer);
     fill_sheet(
         rt,
         font,
         place,
         options.narrow,
-        &mut ground[..cell],
-        &mut screen[..cell],
-        &mut alone[..cell],
+        &mut ground[..bytes],
+        &mut screen[..bytes],
+        &mut alone[..bytes],
     )
 }
 

@@ -22,7 +22,7 @@ pub fn run<R: Print, W: Write>(
     alone: &mut [u8],
     cells: &mut Result<W>,
 ) -> Sheet
-    requires { Begins trial.place.framebuffer ground.now screen.old alone.old }
+    requires { Begins trial.place ground.now screen.old alone.old }
     ensures { Runs trial.narrow font.now trial.place ground.now screen.new result }
 {
     let mut totals = Totals::default();
@@ -36,7 +36,8 @@ pub fn run<R: Print, W: Write>(
         refusals = with_answer(rt, refusals, k, found.answer);
         print_difference(rt, k, found.differing);
         if written.is_ok() {
-            written = write_cell(&mut *cells, sight, found.differing, &screen[..]);
+            let framebuffer = trial.place.framebuffer;
+            written = write_cell(&mut *cells, sight, found.differing, framebuffer, &screen[..]);
         }
         old = found.old;
     }
