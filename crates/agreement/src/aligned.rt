@@ -122,8 +122,9 @@ pub fn draw_aligned_in_both_formats(
         (on framebuffer buffer.old) pixels.old }
     ensures alike { BothAlike style.color (on framebuffer buffer.old) pixels.old result buffer.new pixels.new }
 {
+    let calls = Aligned { horizontal_align };
     draw_in_both_formats_by(
-        &Aligned { horizontal_align },
+        &calls,
         font,
         text,
         placement,
