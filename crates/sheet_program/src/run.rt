@@ -37,7 +37,13 @@ pub fn run<R: Print, W: Write>(
         print_difference(rt, k, found.differing);
         if written.is_ok() {
             let framebuffer = trial.place.framebuffer;
-            written = write_cell(&mut *cells, sight, found.differing, framebuffer, &screen[..]);
+            written = write_cell(
+                &mut *cells,
+                sight,
+                found.differing,
+                framebuffer,
+                &screen[..],
+            );
         }
         old = found.old;
     }

@@ -13,14 +13,14 @@ loop-k-init g c =
     record {
       screen-length = refl;
       alone-length = refl;
-      here = ap (screen_of None) c.requires.begins ∙ start_screen a.trial.narrow a.font.now a.trial.place a.ground.now;
-      counts = none ∙ start_totals a.trial.narrow a.font.now a.trial.place a.ground.now;
+      here = ap (screen_of None) c.requires.begins ∙ start_screen a.trial.narrow a.font.now a.trial.place a.ground.now c.requires.buffers.fits.takes;
+      counts = none ∙ start_totals a.trial.narrow a.font.now a.trial.place a.ground.now c.requires.buffers.fits.takes;
     }
 
 pub counted-totals-requires : goal.counted-totals-requires
 counted-totals-requires g c =
     let a = c.args in
-    few a.trial.narrow a.font.now a.trial.place a.ground.now (omega arith) c.loop-k.invariant.counts
+    few a.trial.narrow a.font.now a.trial.place a.ground.now c.requires.buffers.fits.takes (omega arith) c.loop-k.invariant.counts
 
 pub loop-k-preserved : goal.loop-k-preserved
 loop-k-preserved g c =
@@ -30,8 +30,8 @@ loop-k-preserved g c =
     record {
       screen-length = omega arith;
       alone-length = omega arith;
-      here = next_screen a.trial.narrow a.font.now a.trial.place a.ground.now i.here finds;
-      counts = next_totals a.trial.narrow a.font.now a.trial.place a.ground.now i.here finds i.counts (c.counted-totals.ensures ∙ rw c.sight_of-sight.ensures refl);
+      here = next_screen a.trial.narrow a.font.now a.trial.place a.ground.now c.requires.buffers.fits.takes i.here finds;
+      counts = next_totals a.trial.narrow a.font.now a.trial.place a.ground.now c.requires.buffers.fits.takes i.here finds i.counts (c.counted-totals.ensures ∙ rw c.sight_of-sight.ensures refl);
     }
 
 pub returns : goal.returns
@@ -45,5 +45,5 @@ returns g c =
       totals = t;
       left = ap (λ (s : SheetState). s.bytes) s;
       sound = λ clear. subst (Sound a.trial.narrow a.font.now a.trial.place a.ground.now) (sym t)
-          (sound a.trial.narrow a.font.now a.trial.place a.ground.now clear);
+          (sound a.trial.narrow a.font.now a.trial.place a.ground.now c.requires.buffers.fits.takes clear);
     }
