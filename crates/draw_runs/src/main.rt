@@ -1,12 +1,14 @@
 // The drawing program's runs with arguments, each under a heading: with `background`; with `background` and `pgm`, and then the
 // image that it wrote; with each alignment, of several lines, of a text without a pixel, and of two that are refused, the second a
-// name padded with U+0000; with a wrong word. What the aligned runs must print is what tools/draw_model.py prints.
+// name padded with U+0000; with `packed`, after the same run without it; with a wrong word. What the aligned runs must print is what
+// tools/draw_model.py prints.
 #![tactic(auto)]
 
 use draw_options::{Options, UnknownWord};
 use draw_program::program::start;
 use std::rt::Files;
 use system::opened;
+use types::framebuffer::PixelFormat;
 use types::style::HorizontalAlignment;
 
 fn run<R: Files + Print + Eprint + Alloc>(
@@ -49,6 +51,27 @@ fn run_aligned<R: Files + Print + Eprint + Alloc>(rt: &R) {
     run(rt, b"left, padded with U+0000\n", b"padded.txt", left);
 }
 
+fn packed(options: Options) -> Result<Options, UnknownWord> {
+    Ok(Options {
+        format: PixelFormat::Packed,
+        ..options
+    })
+}
+
+// As without `packed`, but that a background is white: it is the one colour beside the ink's.
+fn run_packed<R: Files + Print + Eprint + Alloc>(rt: &R, image: Options, background: Options) {
+    run(rt, b"pgm\n", b"text.txt", Ok(image));
+    print_image(rt);
+    run(rt, b"pgm, packed\n", b"text.txt", packed(image));
+    print_image(rt);
+    let centered = Options {
+        align: Some(HorizontalAlignment::Center),
+        ..Options::default()
+    };
+    run(rt, b"center, packed\n", b"lines.txt", packed(centered));
+    run(rt, b"background, packed\n", b"text.txt", packed(background));
+}
+
 fn main(rt: HostRuntime) {
     let rt = &rt;
     let background = Options {
@@ -63,5 +86,10 @@ fn main(rt: HostRuntime) {
     run(rt, b"background, pgm\n", b"text.txt", Ok(image));
     print_image(rt);
     run_aligned(rt);
+    let plain_image = Options {
+        pgm: true,
+        ..Options::default()
+    };
+    run_packed(rt, plain_image, background);
     run(rt, b"a wrong word\n", b"text.txt", Err(UnknownWord));
 }

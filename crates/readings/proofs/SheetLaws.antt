@@ -150,7 +150,7 @@ module _ (narrow : Bool) (font : List ℕ) (place : Place) (ground : List ℕ) (
   all_known zero = start_known
   all_known (suc k) = next_known (all_known k) k
 
-  -- ---- a reading that one of causes 1 to 6 refuses
+  -- ---- a reading that one of the causes 1 to 6 and 9 refuses
 
   abbrev causes : ℕ → List Cause
   causes k = causes_of font (reading place k) (ground_of place ground)
