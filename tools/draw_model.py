@@ -2,7 +2,7 @@
 """The program draw written a second time, with model.py: prints, in a folder with font.bin, what it prints of the text on standard
 input, but for its images.
 
-    draw_model.py [background] [left|center|right] < TEXT
+    draw_model.py [background] [packed] [left|center|right] < TEXT
 
 An aligned text is made of plain ones: each line is measured by itself, and drawn by itself where the rule of alignment puts it.
 The tests hold the program's words and pictures to this one's.
@@ -51,7 +51,14 @@ def refusal(answer):
     return [f'no {answer[1]} {answer[2]}: {cause(answer)}']
 
 
-def lines(font, text, align, ink):
+def unpacked(panel, width, height, packed):
+    """The panel's pixels, rows from the top. On a packed panel there are two: ink, and what is not ink."""
+    if not packed:
+        return panel
+    return [INK if panel[y // 8 * width + x] >> y % 8 & 1 == INK else EMPTY for y in range(height) for x in range(width)]
+
+
+def lines(font, text, align, background, packed):
     fault = model.font_fault(font)
     if fault:
         return refusal(fault)
@@ -67,25 +74,24 @@ def lines(font, text, align, ink):
     left, top, width, height = box
     if max(width, height) > 256:
         return [f'the text takes {width} by {height} pixels, and a framebuffer has at most 256 by 256']
-    panel = bytearray([EMPTY] * (width * height))
+    ink = (INK, 1 if packed else GROUND) if background else (INK,)
+    room = -(-height // 8) * 8 if packed else height
+    panel = bytearray([EMPTY] * (width * room // (8 if packed else 1)))
     for row, x, y in rows:
-        answer = model.draw(font, row, x - left, y - top, model.BASELINE, ink, line, False, width, height, panel)
+        answer = model.draw(font, row, x - left, y - top, model.BASELINE, ink, line, False, width, room, panel, packed)
         if answer[0] == 'no':
             return refusal(answer)
-    marks = ''.join({INK: '#', GROUND: ':', EMPTY: '.'}[pixel] for pixel in panel)
+    marks = ''.join({INK: '#', GROUND: ':', EMPTY: '.'}[pixel] for pixel in unpacked(panel, width, height, packed))
     return [' '.join(map(str, first + [0, 0, width, height]))] + [marks[i * width:(i + 1) * width] for i in range(height)]
 
 
 def main():
-    ink, align = (INK,), None
+    align = None
     for word in sys.argv[1:]:
-        if word == 'background':
-            ink = (INK, GROUND)
-        else:
-            align = ALIGNMENTS[word]
+        align = ALIGNMENTS.get(word, align)
     with open('font.bin', 'rb') as file:
         font = file.read()
-    print('\n'.join(lines(font, sys.stdin.buffer.read(), align, ink)))
+    print('\n'.join(lines(font, sys.stdin.buffer.read(), align, 'background' in sys.argv, 'packed' in sys.argv)))
 
 
 if __name__ == '__main__':

@@ -1,7 +1,7 @@
 #!/usr/bin/env python3
 """The sheet written a second time, with model.py: prints and writes, in a folder with font.bin, what the program sheet does.
 
-    sheet_model.py [baseline|top|center|bottom] [align left|center|right] [at X Y] [narrow]
+    sheet_model.py [baseline|top|center|bottom] [align left|center|right] [at X Y] [narrow] [packed]
 
 The tests hold the program's words and its file sheet.cells to this one's.
 """
@@ -12,7 +12,7 @@ import model
 ANCHORS = {'baseline': model.BASELINE, 'top': model.TOP, 'center': model.CENTER, 'bottom': model.BOTTOM}
 ALIGNS = {'left': model.LEFT, 'center': model.MIDDLE, 'right': model.RIGHT}
 MARGIN = 3
-INK, BACKGROUND = 0, 255
+INK, BACKGROUND, WHITE = 0, 255, 1 # WHITE is a packed panel's background
 CAUSES = {
     1: "the font has fewer than 23 or more than 1,048,576 bytes",
     2: "the font's header is damaged",
@@ -40,7 +40,7 @@ def cause(answer):
 
 
 def arguments(words):
-    anchor, align, at, narrow = model.BASELINE, model.LEFT, None, False
+    anchor, align, at, narrow, packed = model.BASELINE, model.LEFT, None, False, False
     words = list(words)
     while words:
         word = words.pop(0)
@@ -48,6 +48,8 @@ def arguments(words):
             anchor = ANCHORS[word]
         elif word == 'narrow':
             narrow = True
+        elif word == 'packed':
+            packed = True
         elif word == 'align' and words and words[0] in ALIGNS:
             align = ALIGNS[words.pop(0)]
         elif word == 'at' and len(words) >= 2:
@@ -56,7 +58,7 @@ def arguments(words):
                 return None
         else:
             return None
-    return anchor, align, at, narrow
+    return anchor, align, at, narrow, packed
 
 
 def boxes_at(font, x, y, anchor, align):
@@ -84,25 +86,36 @@ def seen(box, width, height):
     return 'p' if left < width and top < height and 0 < left + w and 0 < top + h else 'n'
 
 
-def run(font, anchor, align, at, narrow):
+def greys(panel, width, height, packed):
+    """The panel's pixels, rows from the top, as grey values: a packed panel's are black and white."""
+    if not packed:
+        return bytes(panel)
+    return bytes(255 * (panel[y // 8 * width + x] >> y % 8 & 1) for y in range(height) for x in range(width))
+
+
+def run(font, anchor, align, at, narrow, packed):
     """For each reading its answer, how it is seen, how many pixels differ, and the screen."""
     x, y, width, height = place_for(font, anchor, align, at)
-    ground = bytearray(96 + i % 101 for i in range(width * height))
+    if packed:
+        height = -(-height // 8) * 8
+    clear = WHITE if packed else BACKGROUND
+    ground = bytearray(96 + i % 101 for i in range(width * height // (8 if packed else 1)))
     for left, top, w, h in boxes_at(font, x, y, anchor, align):
         for row in range(max(0, top), min(height, top + h)):
             for column in range(max(0, left), min(width, left + w)):
-                ground[row * width + column] = BACKGROUND
+                model.put(ground, width, packed, column, row, clear)
     screen, old, steps = bytearray(ground), '', []
     for text in READINGS:
-        answer = model.redraw(font, old.encode(), text.encode(), x, y, anchor, (INK,), 0, BACKGROUND, width, height, screen,
-                              align, int(narrow))
+        answer = model.redraw(font, old.encode(), text.encode(), x, y, anchor, (INK,), 0, clear, width, height, screen,
+                              align, int(narrow), packed)
         alone = bytearray(ground)
         if answer[0] == 'ok':
-            model.draw_aligned(font, text.encode(), x, y, anchor, align, (INK,), 0, False, width, height, alone)
+            model.draw_aligned(font, text.encode(), x, y, anchor, align, (INK,), 0, False, width, height, alone, packed)
         if answer[0] == 'ok' or answer[1] >= 7:
             old = text
-        differing = 0 if screen == alone else sum(a != b for a, b in zip(screen, alone))
-        steps.append((answer, seen(answer[2], width, height) if answer[0] == 'ok' else 'r', differing, bytes(screen)))
+        shown = greys(screen, width, height, packed)
+        differing = 0 if screen == alone else sum(a != b for a, b in zip(shown, greys(alone, width, height, packed)))
+        steps.append((answer, seen(answer[2], width, height) if answer[0] == 'ok' else 'r', differing, shown))
     return width, height, steps
 
 
@@ -128,7 +141,7 @@ def main():
     asked = arguments(sys.argv[1:])
     if not asked:
         print('sheet: the arguments are an anchor (baseline, top, center, bottom), align (left, center, right), '
-              'at X Y (from -1048576 to 1048576) and narrow')
+              'at X Y (from -1048576 to 1048576), narrow and packed')
         return
     with open('font.bin', 'rb') as file:
         font = file.read()

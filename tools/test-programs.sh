@@ -148,6 +148,8 @@ check 0 "#####...#......#.........#" "$draw" -12.5
 check 0 "advance x 27, y 0; bounding box left 0, top 0, width 26, height 7; in gauge.bin" "$draw" -12.5
 check 0 "the box's corner put at (0, 0) so that all is seen" "$draw" -12.5
 check 0 "#::::" "$draw" 5 background
+check 0 "#####...#......#.........#" "$draw" -12.5 packed
+check 0 "#...." "$draw" 5 packed background
 check 1 "the font allows no background colour" "$draw" 5 background no-background.bin
 check 0 "no pixel, so no bounding box" "$draw" ""
 check 1 "the font has no glyph for '~' (U+007E)" "$draw" "5~"
@@ -212,7 +214,7 @@ for font in gauge t no-background ends no-jump; do
   for file in "$root/fonts/$font.bin" "$font.bin"; do
     [ ! -e "$file" ] || cp "$file" font.bin
   done
-  for words in "" left center right "background right"; do
+  for words in "" left center right "background right" packed "packed center" "packed background right"; do
     right=yes
     for text in "$lines" $'-4\n4\n--' $'\n\n' $' 7\n-\n~' $'4\n\n-\n°\xc3\xa9' $'7\n\xff' "$(printf '1\n%0100d' 5)" \
       '-4\n7.5\0\0\0' '\0'; do
@@ -231,6 +233,8 @@ check 0 "the picture is sheet.png: all 901 readings, 4 times enlarged" "$sheet" 
 there sheet.png
 check 1 "-44.9: 1 pixel differs" "$sheet" narrow
 check 1 "900 with a difference" "$sheet" narrow
+check 0 "all is well" "$sheet" packed
+check 1 "900 with a difference" "$sheet" packed narrow
 check 1 "-39.9 to -30.0: refused: the font has no glyph for '3' (U+0033)" "$sheet" "$root/fonts/symbols.bin"
 check 1 "0.0: refused: the font has no glyph for '0' (U+0030)" "$sheet" "$root/fonts/symbols.bin"
 check 1 "119 framed ones between them; 691 framed ones are left out" "$sheet" at 500 500
@@ -257,7 +261,8 @@ gone sheet.png
 if [ "${1-}" != model ]; then
   echo "--- the sheet of the program and that of the model"
   for arguments in gauge "gauge narrow" "gauge center at 2 3" "gauge at 500 500" "cut top at -9 -4" "gauge align center" \
-    "gauge align right narrow" "cut bottom align center at 9 5" t "symbols bottom" header blank; do
+    "gauge align right narrow" "cut bottom align center at 9 5" t "symbols bottom" header blank \
+    "gauge packed" "gauge packed at 500 500" "cut packed top at -9 -4" "gauge narrow align right packed"; do
     read -r font words <<< "$arguments"
     for file in "$root/fonts/$font.bin" "$root/crates/sheet_runs/data/$font.bin" "$font.bin"; do
       [ ! -e "$file" ] || cp "$file" font.bin
