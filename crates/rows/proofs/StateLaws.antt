@@ -22,13 +22,12 @@ pub record Lies (s : Ones) (n : ℕ) (framebuffer : Framebuffer) : Type 0 where
   pub in_row : s.first + s.visible ≤ s.wide
   pub in_glyph : s.start + s.rows * s.wide ≤ n
 
--- Of the rows `left` are left, and `line` is the next one's part. The pair ends before the column `to`, counted from the row's
+-- `line` is the part of the next row. The pair ends before the column `to`, counted from the row's
 -- first; its ones that are not yet drawn begin at the column `from`.
 pub record At (font : List ℕ) (m0 m1 n : ℕ) (s : Ones) (framebuffer : Framebuffer) (entry buffer : List ℕ)
-    (runs : Runs) (from to : ℕ) (line : Line) (left : ℕ) : Type 0 where
+    (runs : Runs) (from to : ℕ) (line : Line) : Type 0 where
   pub row : ℕ
-  pub is_row : row + left ≡ s.rows
-  pub some : 1 ≤ left
+  pub more : row < s.rows
   pub is_line : line ≡ line_at framebuffer (s.top + row) s.left s.visible
   pub order : from ≤ to
   pub drawn : buffer ≡ shown framebuffer (ink_picture s (row * s.wide + from)) entry
@@ -37,10 +36,10 @@ pub record At (font : List ℕ) (m0 m1 n : ℕ) (s : Ones) (framebuffer : Frameb
 
 -- The same of a glyph's rows, the framebuffer being `entry` at the call: what both loops keep.
 pub record State (font : List ℕ) (head : FontReader) (g : GlyphReader) (part : VisiblePart) (value : ℕ) (framebuffer : Framebuffer) (entry buffer : List ℕ)
-    (runs : Runs) (from to : ℕ) (line : Line) (left : ℕ) : Type 0 where
+    (runs : Runs) (from to : ℕ) (line : Line) : Type 0 where
   pub short : Short runs
   pub at : At font head.m0 head.m1 (g.glyph_width * g.glyph_height) (ones_of (pixels_of (u8g2 font) g) g.glyph_width part value) framebuffer
-      entry buffer runs from to line left
+      entry buffer runs from to line
 
 module _ {font : List ℕ} {m0 m1 n : ℕ} {ps : List ℕ} {runs : Runs} {offset i : ℕ} (s : Stands font m0 m1 n ps runs offset i) where
   -- a pixel of the zero run, or of the one run
@@ -52,8 +51,8 @@ module _ {font : List ℕ} {m0 m1 n : ℕ} {ps : List ℕ} {runs : Runs} {offset
 
 module _ {font : List ℕ} {m0 m1 n : ℕ} {s : Ones} {framebuffer : Framebuffer} (f : Lies s n framebuffer) where
   -- A pair whose pixels from `offset` on begin at a column of the row: its zeros, and then its ones.
-  module _ (entry : List ℕ) {buffer : List ℕ} {runs : Runs} (offset row column from to : ℕ) (line : Line) (left : ℕ)
-      (is_row : row + left ≡ s.rows) (more : 1 ≤ left)
+  module _ (entry : List ℕ) {buffer : List ℕ} {runs : Runs} (offset row column from to : ℕ) (line : Line)
+      (more : row < s.rows)
       (is_line : line ≡ line_at framebuffer (s.top + row) s.left s.visible)
       (is_from : from ≡ column + (runs.zeros - offset)) (is_to : to ≡ column + (runs.zeros + runs.ones - offset))
       (drawn : buffer ≡ shown framebuffer (ink_picture s (row * s.wide + column)) entry) (h : offset ≤ runs.zeros + runs.ones)
@@ -77,11 +76,10 @@ module _ {font : List ℕ} {m0 m1 n : ℕ} {s : Ones} {framebuffer : Framebuffer
         let y : s.start + (row * s.wide + column) + (runs.zeros + runs.ones - offset) ≡ s.start + (row * s.wide + to) = omega arith in
         rw (x, y) at (stands_on stands (runs.zeros + runs.ones - offset))
 
-    at_pair : At font m0 m1 n s framebuffer entry buffer runs from to line left
+    at_pair : At font m0 m1 n s framebuffer entry buffer runs from to line
     at_pair = record {
       row = row;
-      is_row = is_row;
-      some = more;
+      more = more;
       is_line = is_line;
       order = omega arith;
       drawn = drawn ∙ ink_zeros s framebuffer f.some entry f.in_row (row * s.wide + column) (row * s.wide + from) (omega arith) zeros;
@@ -93,39 +91,41 @@ module _ {font : List ℕ} {m0 m1 n : ℕ} {s : Ones} {framebuffer : Framebuffer
   pub at_start : {entry : List ℕ} {runs : Runs} {offset from to : ℕ} {line : Line} → 1 ≤ s.rows → offset ≤ runs.zeros + runs.ones
       → Stands font m0 m1 n s.ps runs offset s.start
       → from ≡ runs.zeros - offset → to ≡ runs.zeros + runs.ones - offset → line ≡ line_at framebuffer s.top s.left s.visible
-      → At font m0 m1 n s framebuffer entry entry runs from to line s.rows
+      → At font m0 m1 n s framebuffer entry entry runs from to line
   at_start {entry} {runs} {offset} {from} {to} {line} h k stands is_from is_to is_line =
       let z : 0 * s.wide + 0 ≡ 0 = omega arith in
       let e : s.start ≡ s.start + (0 * s.wide + 0) = omega arith in
       let t : s.top ≡ s.top + 0 = omega arith in
-      at_pair entry offset 0 0 from to line s.rows (omega arith) h
+      at_pair entry offset 0 0 from to line h
       (is_line ∙ ap (λ (y : ℕ). line_at framebuffer y s.left s.visible) t) (omega arith) (omega arith)
       (rw z (sym (ink_none s framebuffer f.some entry f.in_row))) k (subst (λ (i : ℕ). Stands font m0 m1 n s.ps runs offset i) e stands)
 
-  module _ {entry buffer : List ℕ} {runs : Runs} {from to : ℕ} {line : Line} {left : ℕ}
-      (a : At font m0 m1 n s framebuffer entry buffer runs from to line left) where
+  module _ {entry buffer : List ℕ} {runs : Runs} {from to : ℕ} {line : Line}
+      (a : At font m0 m1 n s framebuffer entry buffer runs from to line) where
+    row_is : line.row ≡ s.top + a.row
+    row_is = ap (λ (l : Line). l.row) a.is_line
+
     filled : {new : List ℕ} (end : ℕ) → end ≤ s.wide → end ≤ to
         → new ≡ shown framebuffer (fill_picture s.value (Some (stretch s.first from end line))) buffer
         → new ≡ shown framebuffer (ink_picture s (a.row * s.wide + max from end)) entry
     filled end h k e =
         e
-        ∙ rw (a.is_line, a.drawn) (ink_ones s framebuffer a.row from end f.in_row (omega (arith, a.is_row, a.some)) h (λ i x y.
-        let r : a.row + 1 ≤ s.rows = omega (arith, a.is_row, a.some) in
+        ∙ rw (a.is_line, a.drawn) (ink_ones s framebuffer a.row from end f.in_row a.more h (λ i x y.
+        let r : a.row + 1 ≤ s.rows = omega (arith, a.more) in
         a.ones i x (omega arith) (omega (arith, mul-le-mul_right s.wide r))) f.some entry)
 
     -- The pair reaches the row's end, and there are more rows.
-    pub at_row : {new : List ℕ} {next : Line} → s.wide ≤ to → 2 ≤ left
+    pub at_row : {new : List ℕ} {next : Line} → s.wide ≤ to → (line.row + 1 ≡ s.top + s.rows → ⊥)
         → new ≡ shown framebuffer (fill_picture s.value (Some (stretch s.first from s.wide line))) buffer
         → next ≡ line_at framebuffer (line.row + 1) s.left s.visible
-        → At font m0 m1 n s framebuffer entry new runs (from - s.wide) (to - s.wide) next (left - 1)
-    at_row h k e is_next =
+        → At font m0 m1 n s framebuffer entry new runs (from - s.wide) (to - s.wide) next
+    at_row h last e is_next =
         let x : a.row * s.wide + max from s.wide ≡ (a.row + 1) * s.wide + (from - s.wide) = omega arith in
         let y : a.row * s.wide + to ≡ (a.row + 1) * s.wide + (to - s.wide) = omega arith in
         let z : s.top + a.row + 1 ≡ s.top + (a.row + 1) = omega arith in
         record {
           row = a.row + 1;
-          is_row = omega (arith, a.is_row);
-          some = omega arith;
+          more = omega (arith, a.more, row_is, last);
           is_line = rw (a.is_line, z) at is_next;
           order = omega (arith, a.order);
           drawn = filled s.wide (omega arith) h e ∙ ap (λ (p : ℕ). shown framebuffer (ink_picture s p) entry) x;
@@ -134,22 +134,22 @@ module _ {font : List ℕ} {m0 m1 n : ℕ} {s : Ones} {framebuffer : Framebuffer
         }
 
     -- .. and it was the last.
-    pub all_rows : {new : List ℕ} → s.wide ≤ to → left ≡ 1
+    pub all_rows : {new : List ℕ} → s.wide ≤ to → line.row + 1 ≡ s.top + s.rows
         → new ≡ shown framebuffer (fill_picture s.value (Some (stretch s.first from s.wide line))) buffer
         → new ≡ shown framebuffer (ink_picture s (s.rows * s.wide)) entry
     all_rows h k e =
-        let r : a.row + 1 ≡ s.rows = omega (arith, a.is_row) in
+        let r : a.row + 1 ≡ s.rows = omega (arith, row_is) in
         filled s.wide (omega arith) h e ∙ ink_all s framebuffer f.some entry f.in_row (a.row * s.wide + max from s.wide) (rw (← r) (omega arith))
 
     -- The row goes on with the next pair.
     pub at_next : {q : Runs} {new : List ℕ} → to < s.wide → in_font font q ≡ next_pair font m0 m1 runs
         → new ≡ shown framebuffer (fill_picture s.value (Some (stretch s.first from to line))) buffer
-        → At font m0 m1 n s framebuffer entry new q (to + q.zeros) (to + q.zeros + q.ones) line left
+        → At font m0 m1 n s framebuffer entry new q (to + q.zeros) (to + q.zeros + q.ones) line
     at_next {q} h e d =
-        let r : a.row + 1 ≤ s.rows = omega (arith, a.is_row, a.some) in
+        let r : a.row + 1 ≤ s.rows = omega (arith, a.more) in
         let i : s.start + (a.row * s.wide + to) < n = omega (arith, mul-le-mul_right s.wide r, f.in_glyph) in
         let z : runs.zeros + runs.ones - (runs.zeros + runs.ones) ≡ 0 = omega arith in
         let t : max from to ≡ to = omega (arith, a.order) in
         let stands = rw z at (stands_next a.stands (omega arith) i e) in
-        at_pair entry 0 a.row to (to + q.zeros) (to + q.zeros + q.ones) line left a.is_row a.some a.is_line (omega arith) (omega arith)
+        at_pair entry 0 a.row to (to + q.zeros) (to + q.zeros + q.ones) line a.more a.is_line (omega arith) (omega arith)
         (filled to (omega arith) (omega arith) d ∙ ap (λ (p : ℕ). shown framebuffer (ink_picture s (a.row * s.wide + p)) entry) t) (omega arith) stands

@@ -38,7 +38,7 @@ pub fn draw_rows(
     let mut from = runs.zeros.saturating_sub(start.offset);
     let mut to = runs.count() - start.offset;
     let mut line = Line::new(framebuffer, part.top, part.left, visible);
-    let mut left = part.rows.end - part.rows.start;
+    let bottom = part.top + (part.rows.end - part.rows.start);
     'pairs: loop {
         // the rows that the pair reaches the end of
         while glyph_width <= to {
@@ -53,11 +53,11 @@ pub fn draw_rows(
             );
             from = from.saturating_sub(glyph_width);
             to -= glyph_width;
-            left -= 1;
-            if left == 0 {
+            let below = line.row + 1;
+            if below == bottom {
                 break 'pairs;
             }
-            line = Line::new(framebuffer, line.row + 1, part.left, visible);
+            line = Line::new(framebuffer, below, part.left, visible);
         }
         fill_columns(
             part.columns.start,

@@ -21,7 +21,7 @@ loop-to-preserved c =
     record {
       short = l.invariant.short;
       at = rw (c.saturating_sub-from-in-loop-to.ensures, wide)
-          (at_row (part_lies c.requires.fits _ _) l.invariant.at (rw wide at c.loop-to-test.true) (omega (arith, l.invariant.at.some))
+          (at_row (part_lies c.requires.fits _ _) l.invariant.at (rw wide at c.loop-to-test.true) c.if-below-bottom.false
           (rw wide at c.fill_columns.ensures) c.new-line-in-loop-to.ensures);
     }
 
@@ -40,5 +40,5 @@ pub returns : goal.returns
 returns c =
     let l = c.loop-to in
     let wide = c.from-glyph_width.ensures in
-    all_rows (part_lies c.requires.fits _ _) l.invariant.at (rw wide at c.loop-to-test.true) (omega (arith, l.invariant.at.some))
+    all_rows (part_lies c.requires.fits _ _) l.invariant.at (rw wide at c.loop-to-test.true) c.if-below-bottom.true
     (rw wide at c.fill_columns.ensures)
