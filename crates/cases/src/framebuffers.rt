@@ -2,7 +2,8 @@
 ghost use Rattle.std.specs.Prelude.{◌≡◌, ◌<◌, ◌≤◌, ℕ, length, get_or};
 ghost use Rattle.cases.specs.Patterns.{pattern_at};
 
-use types::framebuffer::{Framebuffer, PixelFormat};
+use pixels::size::size_in_bytes;
+use types::framebuffer::Framebuffer;
 
 // What stands at an index before the call: 0 throughout, or a pattern in which neighbours differ.
 fn pattern(fill: u8, i: usize) -> u8
@@ -56,21 +57,11 @@ fn print_summary<R: Print>(rt: &R, framebuffer: &[u8], fill: u8) {
     let _ = print!(rt; "\n  changed {changed} sum {sum}");
 }
 
-// How many rows of bytes there are.
-fn byte_rows(size: Framebuffer) -> usize
-    ensures { result ≤ size.height }
-{
-    match size.format {
-        PixelFormat::Bytes => size.height,
-        PixelFormat::Packed => size.height / 8,
-    }
-}
-
 fn is_small(framebuffer: &[u8], size: Framebuffer) -> bool {
     framebuffer.len() <= 400
         && size.width <= 256
         && size.height <= 256
-        && framebuffer.len() == size.width * byte_rows(size)
+        && framebuffer.len() == size_in_bytes(size)
 }
 
 // Small framebuffers in full, larger ones and buffers of the wrong length by what changed and a checksum.

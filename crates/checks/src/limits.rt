@@ -1,9 +1,10 @@
 // The limits of framebuffers, texts, places, line heights and colours: causes 3 to 6 and 9 (SPECIFICATION, Refusals).
 ghost use Rattle.std.specs.Prelude.{◌≡◌, ◌<◌};
-ghost use Rattle.definitions.specs.Framebuffer.{per_byte, side_off, framebuffer_cause};
+ghost use Rattle.definitions.specs.Framebuffer.{side_off, framebuffer_cause};
 ghost use Rattle.definitions.specs.Limits.{text_cause, coordinate_off, position_cause, no_bit, color_off, background_off};
 
 use content::text::is_utf8;
+use pixels::size::{per_byte, size_in_bytes};
 use types::framebuffer::{Framebuffer, PixelFormat};
 use types::style::{FontColor, Placement};
 
@@ -21,16 +22,6 @@ fn has_bad_side(side: usize) -> bool
     (side == 0) | (MAX_SIDE < side)
 }
 
-// How many pixels of a column a byte holds.
-fn pixels_per_byte(format: PixelFormat) -> usize
-    ensures { result ≡ per_byte format }
-{
-    match format {
-        PixelFormat::Bytes => 1,
-        PixelFormat::Packed => 8,
-    }
-}
-
 // Cause 3. The sides are tested before they are multiplied.
 pub fn has_bad_size(framebuffer: Framebuffer, buffer: &[u8]) -> bool
     ensures { result ≡ (framebuffer_cause framebuffer buffer.now).applies }
@@ -41,11 +32,10 @@ pub fn has_bad_size(framebuffer: Framebuffer, buffer: &[u8]) -> bool
     if has_bad_side(framebuffer.height) {
         return true;
     }
-    let rows = pixels_per_byte(framebuffer.format);
-    if framebuffer.height % rows != 0 {
+    if framebuffer.height % per_byte(framebuffer.format) != 0 {
         return true;
     }
-    buffer.len() != framebuffer.height / rows * framebuffer.width
+    buffer.len() != size_in_bytes(framebuffer)
 }
 
 // Cause 4. All of the text is looked at, so none of a text that is not UTF-8 is drawn.

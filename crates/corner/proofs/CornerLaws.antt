@@ -9,7 +9,7 @@ use Rattle.definitions.specs.Text.{point}
 use Rattle.definitions.specs.Font.{u8g2}
 use Rattle.definitions.specs.Calls.{draw, draw_buffer}
 use Rattle.corner.specs.declared.Setting.{Setting}
-use Rattle.unpacking.proofs.RoomLaws.{holds_rows}
+use Rattle.pixels.proofs.RoomLaws.{holds_rows}
 use Rattle.corner.specs.Whole.{whole, opposite, SeenWhole}
 use Rattle.corner.proofs.WholeLaws.{near, seen_whole}
 use Rattle.corner.specs.Corners.{Measured, Framed, CornerDrawn}

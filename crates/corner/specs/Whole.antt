@@ -8,7 +8,7 @@ use Rattle.definitions.specs.Geometry.{left, top}
 use Rattle.definitions.specs.Text.{point}
 use Rattle.definitions.specs.Font.{u8g2}
 use Rattle.definitions.specs.Calls.{Request, placed, request, measure, draw, draw_buffer}
-use Rattle.unpacking.specs.Rooms.{room_for}
+use Rattle.pixels.specs.Rooms.{room_for}
 use Rattle.corner.specs.declared.Setting.{Setting}
 
 abbrev pub at_zero : Point

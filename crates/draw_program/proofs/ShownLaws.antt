@@ -2,8 +2,8 @@
 use Rattle.std.specs.Prelude.{IfSome, Option, Some, None, Result, Ok, Err}
 use Rattle.integers.proofs.Prelude.{subst, List, ℕ, ◌*◌, ◌≤◌, mul-le-mul_right}
 use Rattle.definitions.specs.Vocabulary.{PixelFormat, Size, FontColor}
-use Rattle.unpacking.specs.Rooms.{whole_rows}
-use Rattle.unpacking.proofs.RoomLaws.{holds_rows}
+use Rattle.pixels.specs.Rooms.{whole_rows}
+use Rattle.pixels.proofs.RoomLaws.{holds_rows}
 use Rattle.corner.specs.declared.Setting.{Setting}
 use Rattle.pictures.specs.declared.whole.Drawing.{Drawing}
 use Rattle.pictures.specs.declared.whole.DrawError.{DrawError}

@@ -2,7 +2,7 @@
 use Rattle.std.specs.Prelude.{IfSome, Result, Ok, Err}
 use Rattle.definitions.specs.Vocabulary.{PixelFormat, Size}
 use Rattle.definitions.specs.Framebuffer.{size_in_bytes, BufferFits}
-use Rattle.unpacking.specs.Rooms.{room_for}
+use Rattle.pixels.specs.Rooms.{room_for}
 use Rattle.pictures.specs.declared.whole.Drawing.{Drawing}
 use Rattle.pictures.specs.declared.whole.DrawError.{DrawError}
 

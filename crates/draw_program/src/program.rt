@@ -12,8 +12,8 @@ use std::io::Read;
 use std::rt::Files;
 use types::geometry::{RenderedDimensions, Size};
 use types::style::HorizontalAlignment;
-use unpacking::room::{room_for, size_in_bytes};
-use unpacking::unpack::{to_greys, unpack};
+use pixels::size::{room_for, size_in_bytes};
+use pixels::unpack::{to_greys, unpack};
 
 // The call's answer: an aligned one has no advance.
 fn answer<R: Print>(rt: &R, dimensions: RenderedDimensions, align: Option<HorizontalAlignment>) {

@@ -12,7 +12,7 @@ use Rattle.definitions.specs.Limits.{text_cause, position_cause}
 use Rattle.definitions.specs.Font.{u8g2}
 use Rattle.definitions.specs.Calls.{open_font, measured_text, measure}
 use Rattle.corner.specs.declared.Setting.{Setting}
-use Rattle.unpacking.proofs.RoomLaws.{room_fits, bytes_most}
+use Rattle.pixels.proofs.RoomLaws.{room_fits, bytes_most}
 use Rattle.corner.specs.Whole.{room_of, at_zero, whole, measured_at_zero, SeenWhole}
 use Rattle.definitions.proofs.OpenedLaws.{opened, open_refused}
 use Rattle.corner.specs.Corners.{Measured, Cornered, CornerDrawn}

@@ -14,7 +14,7 @@ use types::error::Error;
 use types::framebuffer::PixelFormat;
 use types::geometry::{Point, Rectangle, RenderedDimensions, Size};
 use types::style::{FontColor, HorizontalAlignment, Placement, VerticalPosition};
-use unpacking::room::{room_for, size_in_bytes};
+use pixels::size::{room_for, size_in_bytes};
 
 // What is answered, and the size of the text's box, if it has a pixel. The framebuffer's bytes begin the buffer; a slice of them
 // would lend it out until the drawing is dropped (fixed memory: it is the caller's), and what it then holds is what is proved.

@@ -22,7 +22,7 @@ use types::error::Error;
 use types::framebuffer::Framebuffer;
 use types::geometry::RenderedDimensions;
 use types::place::Place;
-use unpacking::unpack::unpack;
+use pixels::unpack::unpack;
 
 // The text that stands on the screen: none before a reading is taken.
 fn shown_text(old: Option<usize>) -> Text<ANGLE_ROOM>

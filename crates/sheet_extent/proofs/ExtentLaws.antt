@@ -17,8 +17,8 @@ use Rattle.definitions.specs.Framebuffer.{size_in_bytes}
 use Rattle.definitions.specs.Limits.{color_off}
 use Rattle.definitions.specs.Calls.{placed, request}
 use Rattle.definitions.proofs.MovedLaws.{measured_at_zero_lem}
-use Rattle.unpacking.specs.Rooms.{room_for}
-use Rattle.unpacking.proofs.RoomLaws.{holds_rows, room_fits}
+use Rattle.pixels.specs.Rooms.{room_for}
+use Rattle.pixels.proofs.RoomLaws.{holds_rows, room_fits}
 use Rattle.sheet_ground.specs.Readings.{reading_text, PlaceFits}
 use Rattle.sheet_extent.specs.Extent.{at_origin, widened, with_box, with_reading, extent_of, Within, HoldsReadings, NearEdge, NearExtent, AllMeasured}
 use Rattle.sight.specs.Sights.{OnFramebuffer}

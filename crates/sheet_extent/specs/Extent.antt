@@ -7,7 +7,7 @@ use Rattle.definitions.specs.Geometry.{left, top, right, bottom, InsideBox}
 use Rattle.definitions.specs.Text.{point}
 use Rattle.definitions.specs.Font.{u8g2}
 use Rattle.definitions.specs.Calls.{placed, request, measure}
-use Rattle.unpacking.specs.Rooms.{room_for}
+use Rattle.pixels.specs.Rooms.{room_for}
 use Rattle.redraw_checks.specs.Drawing.{measured}
 use Rattle.sheet_extent.specs.declared.values.Extent.{Extent}
 use Rattle.sheet_extent.specs.declared.values.Options.{Options}

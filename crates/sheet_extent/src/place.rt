@@ -8,7 +8,7 @@ use types::framebuffer::PixelFormat;
 use types::geometry::Point;
 use types::place::Place;
 use types::style::{FontColor, FontStyle};
-use unpacking::room::room_for;
+use pixels::size::room_for;
 
 const INK: u8 = 0;
 

@@ -8,7 +8,7 @@ use std::fs::File;
 use std::io::{Result, Write};
 use std::rt::Files;
 use types::framebuffer::Framebuffer;
-use unpacking::unpack::{to_greys, unpack};
+use pixels::unpack::{to_greys, unpack};
 
 // The file, with its first line.
 pub fn create<R: Files>(rt: &R, framebuffer: Framebuffer) -> Result<R::File> {

@@ -13,7 +13,7 @@ use sheet_ground::ground::lay_ground;
 use sheet_report::{print_totals, print_verdict};
 use std::rt::Files;
 use types::place::Place;
-use unpacking::room::size_in_bytes;
+use pixels::size::size_in_bytes;
 
 // Makes the sheet on framebuffers of the place's size. It is made whether or not its pictures can be written.
 fn fill_sheet<R: Files + Print>(

@@ -1,7 +1,7 @@
 -- All pixels are written. Assumes nothing.
 use Rattle.integers.proofs.Prelude.{arith}
-use Rattle.unpacking.proofs.UnpackedLaws.{all_unpacked}
-use Rattle.unpacking.proofs.unpack.unpack.Goals as goal
+use Rattle.pixels.proofs.UnpackedLaws.{all_unpacked}
+use Rattle.pixels.proofs.unpack.unpack.Goals as goal
 
 pub returns : goal.returns
 returns c =

@@ -1,7 +1,7 @@
 // How large a framebuffer is.
 ghost use Rattle.std.specs.Prelude.{◌≡◌, ◌≤◌};
 ghost use Rattle.definitions.specs.Framebuffer.{per_byte, size_in_bytes};
-ghost use Rattle.unpacking.specs.Rooms.{room_for};
+ghost use Rattle.pixels.specs.Rooms.{room_for};
 
 use types::framebuffer::{Framebuffer, PixelFormat};
 

@@ -2,7 +2,7 @@
 use Rattle.integers.proofs.Prelude.{◌≡◌, refl, ℕ, ◌*◌, ◌/◌, ◌≤◌, ◌<◌, mul-le-mul, arith}
 use Rattle.definitions.specs.Vocabulary.{Framebuffer, PixelFormat, Bytes, Packed}
 use Rattle.definitions.specs.Framebuffer.{per_byte, byte_rows, size_in_bytes, BufferFits}
-use Rattle.unpacking.specs.Rooms.{whole_rows, room_for}
+use Rattle.pixels.specs.Rooms.{whole_rows, room_for}
 
 -- the rows, which are no more than 256 where those asked for are not
 pub holds_rows : (f : PixelFormat) (n : ℕ) → n ≤ whole_rows f n

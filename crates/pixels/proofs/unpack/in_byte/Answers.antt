@@ -1,8 +1,8 @@
 -- A bit of a byte. Assumes nothing.
 use Rattle.integers.proofs.Prelude.{sym, ◌∙◌}
 use Rattle.std.proofs.lemmas.Nat.Bits.{shr_and_one}
-use Rattle.unpacking.proofs.UnpackedLaws.{low_bit}
-use Rattle.unpacking.proofs.unpack.in_byte.Goals as goal
+use Rattle.pixels.proofs.UnpackedLaws.{low_bit}
+use Rattle.pixels.proofs.unpack.in_byte.Goals as goal
 
 pub returns-in-Packed : goal.returns-in-Packed
 returns-in-Packed c =

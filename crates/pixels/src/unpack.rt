@@ -1,9 +1,9 @@
 // The pixels, rows from the top.
 ghost use Rattle.std.specs.Prelude.{◌≡◌, ◌/◌, ◌%◌, ◌*◌, ◌<◌, length, map};
 ghost use Rattle.definitions.specs.Framebuffer.{per_byte, in_byte, pixel_at, unpacked, BufferFits};
-ghost use Rattle.unpacking.specs.Greys.{grey};
+ghost use Rattle.pixels.specs.Greys.{grey};
 
-use crate::room::per_byte;
+use crate::size::per_byte;
 use types::framebuffer::{Framebuffer, PixelFormat};
 
 // The pixel of a byte that has that number from the top.
