@@ -52,7 +52,7 @@ number_low zero x = omega arith
 number_low (suc n) x =
     let d : x / 2 ^ suc n ≡ x / 2 / 2 ^ n = sym (shr-shr x 1 n ∙ ap (λ (k : ℕ). x / 2 ^ k) (one-add n)) in
     let m : x / 2 / 2 ^ n * 2 ^ suc n ≡ 2 * (x / 2 / 2 ^ n * 2 ^ n) =
-        mul_comm (x / 2 / 2 ^ n) (2 ^ suc n) ∙ double n (x / 2 / 2 ^ n) ∙ ap (λ (k : ℕ). 2 * k) (mul_comm (2 ^ n) (x / 2 / 2 ^ n)) in
+    mul_comm (x / 2 / 2 ^ n) (2 ^ suc n) ∙ double n (x / 2 / 2 ^ n) ∙ ap (λ (k : ℕ). 2 * k) (mul_comm (2 ^ n) (x / 2 / 2 ^ n)) in
     rw (d, m) (omega (arith, number_low n (x / 2)))
 
 -- a list of bits
@@ -70,7 +70,7 @@ unfolding number low_bits
 low_number none y = refl
 low_number (bit {x} {xs} h b) y =
     let m : y * 2 ^ suc (length xs) ≡ 2 * (y * 2 ^ length xs) =
-        mul_comm y (2 ^ suc (length xs)) ∙ double (length xs) y ∙ ap (λ (k : ℕ). 2 * k) (mul_comm (2 ^ length xs) y) in
+    mul_comm y (2 ^ suc (length xs)) ∙ double (length xs) y ∙ ap (λ (k : ℕ). 2 * k) (mul_comm (2 ^ length xs) y) in
     let first : (x + 2 * number xs + 2 * (y * 2 ^ length xs)) % 2 ≡ x = omega arith in
     let rest : (x + 2 * number xs + 2 * (y * 2 ^ length xs)) / 2 ≡ number xs + y * 2 ^ length xs = omega arith in
     rw (m, first, rest, low_number b y)
@@ -143,8 +143,12 @@ byte_painted Packed paint x k h =
 pub byte_twice : (f : PixelFormat) (p q : ℕ → Paint) (x : ℕ) → paint_byte f p (paint_byte f q x) ≡ paint_byte f (λ k. above (p k) (q k)) x
 byte_twice Bytes p q x = over_over (p 0) (q 0) x
 byte_twice Packed p q x =
-    rw (bits_after q x, rest_after q x, map_map (painted p) (painted q) (painted (λ k. above (p k) (q k)))
-    (λ i y. over_over (stored Packed (p i)) (stored Packed (q i)) y ∙ ap (λ (r : Paint). over r y) (sym (stored_above Packed (p i) (q i)))) 0 (low_bits 8 x))
+    rw (
+      bits_after q x,
+      rest_after q x,
+      map_map (painted p) (painted q) (painted (λ k. above (p k) (q k)))
+          (λ i y. over_over (stored Packed (p i)) (stored Packed (q i)) y ∙ ap (λ (r : Paint). over r y) (sym (stored_above Packed (p i) (q i)))) 0 (low_bits 8 x),
+    )
 
 -- Paints that make the same of each pixel make the same of the byte.
 pub byte_alike : (f : PixelFormat) (p q : ℕ → Paint) (x : ℕ)

@@ -60,7 +60,7 @@ bit_kept c e = by (eqb c 0) refl
     by true k = sym (eqb-true c 0 k)
     by false k = let some : c ≡ 0 → ⊥ = eqb-false c 0 k in omega (arith, some, ltb-false 1 c e)
 
-color_stored : (f : PixelFormat) (color : FontColor) → color_off f color ≡ false → (bit : ℕ) → stored f (paint_of color bit) ≡ paint_of color bit
+pub color_stored : (f : PixelFormat) (color : FontColor) → color_off f color ≡ false → (bit : ℕ) → stored f (paint_of color bit) ≡ paint_of color bit
 color_stored Bytes color e bit = refl
 color_stored Packed (Transparent c) e bit = by (eqb bit 1)
   where
@@ -95,22 +95,24 @@ module _ (f : PixelFormat) (color : FontColor) (bits : color_off f color ≡ fal
 
 -- ---- a call
 
+-- as many pixels in bytes are within limits too
+pub sized_in_bytes : (p : Ground) → (framebuffer_cause p.framebuffer p.before).applies ≡ false
+    → (framebuffer_cause (unpacked_ground p).framebuffer (unpacked_ground p).before).applies ≡ false
+sized_in_bytes p sized =
+    let f = p.framebuffer in
+    let size = or_false (size_off f) _ sized in
+    let sides = or_false (side_off f.width || side_off f.height) _ size.0 in
+    let one : f.height % 1 ≡ 0 = omega arith in
+    let area : length (unpacked f p.before) ≡ f.height / 1 * f.width =
+    length_map_at _ 0 (replicate (f.height * f.width) 0)
+    ∙ length-replicate _ 0
+    ∙ ap (λ (n : ℕ). n * f.width) (sym (div-one f.height))
+    in
+    rw (sides.0, one, area, eq-eqb (f.height / 1 * f.width) _ refl)
+
 module _ (font : Font) (r : Request) (color : FontColor) (p : Ground) (h : Unpackable color p) where
   abbrev q : Ground
   q = unpacked_ground p
-
-  fits : BufferFits (length p.before) p.framebuffer
-  fits = size_fits p.framebuffer p.before h.sized
-
-  -- as many pixels in bytes are within limits too
-  sized_in_bytes : (framebuffer_cause q.framebuffer q.before).applies ≡ false
-  sized_in_bytes =
-      let size = or_false (size_off p.framebuffer) _ h.sized in
-      let sides = or_false (side_off p.framebuffer.width || side_off p.framebuffer.height) _ size.0 in
-      let one : p.framebuffer.height % 1 ≡ 0 = omega arith in
-      let area : length q.before ≡ p.framebuffer.height / 1 * p.framebuffer.width =
-          length_map_at _ 0 (replicate (p.framebuffer.height * p.framebuffer.width) 0) ∙ length-replicate _ 0 ∙ ap (λ (n : ℕ). n * p.framebuffer.width) (sym (div-one p.framebuffer.height)) in
-      rw (sides.0, one, area, eq-eqb (p.framebuffer.height / 1 * p.framebuffer.width) _ refl)
 
   -- the causes of the one apply where those of the other do
   abbrev causes_by : Bool → Bool → List Cause
@@ -124,7 +126,9 @@ module _ (font : Font) (r : Request) (color : FontColor) (p : Ground) (h : Unpac
       ∷ []
 
   same_causes : draw_causes font r color q.framebuffer q.before ≡ draw_causes font r color p.framebuffer p.before
-  same_causes = ap (λ (t : Bool). causes_by t false) sized_in_bytes ∙ sym (ap (λ (t : Bool). causes_by t (color_off p.framebuffer.format color)) h.sized ∙ ap (causes_by false) h.bits)
+  same_causes =
+      ap (λ (t : Bool). causes_by t false) (sized_in_bytes p h.sized)
+      ∙ sym (ap (λ (t : Bool). causes_by t (color_off p.framebuffer.format color)) h.sized ∙ ap (causes_by false) h.bits)
 
   same_answer : draw font r color q.framebuffer q.before ≡ draw font r color p.framebuffer p.before
   unfolding draw
@@ -146,7 +150,8 @@ module _ (font : Font) (r : Request) (color : FontColor) (p : Ground) (h : Unpac
           ≡ unpacked p.framebuffer (pick t p.before (shown p.framebuffer picture p.before))
       by true = refl
       by false =
-          unpacked_shown p.framebuffer picture (text_stored p.framebuffer.format color h.bits (pixels_of font) (drawn_text font r).glyphs) p.before fits
+          unpacked_shown p.framebuffer picture (text_stored p.framebuffer.format color h.bits (pixels_of font) (drawn_text font r).glyphs) p.before
+          (size_fits p.framebuffer p.before h.sized)
 
   -- Plain drawing, and aligned drawing.
   pub drawn_alike : DrawnAlike p (drawn font r color p) (after font r color p) (drawn font r color q) (after font r color q)

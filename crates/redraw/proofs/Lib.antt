@@ -1,2 +1,3 @@
 pub mod RedrawLaws
 pub mod StepsLaws
+pub mod FormatLaws

@@ -1,11 +1,11 @@
 -- Filling the box of a reading that was drawn on the background colour brings back what the framebuffer held before: inside the
 -- box it was that colour, and outside nothing had changed (SPECIFICATION, Agreement). And what the step answers, by its
 -- causes. Assumes nothing.
-use Rattle.integers.proofs.Prelude.{◌≡◌, refl, sym, ap, subst, ◌∙◌, Bool, true, false, ◌||◌, not, ◌⊎◌, inl, inr, List, [], ◌∷◌, ◌++◌, ℕ, zero, suc}
-use Rattle.integers.proofs.Prelude.{◌<◌, arith, eqb, pos, length, ltb-false}
+use Rattle.integers.proofs.Prelude.{◌≡◌, refl, sym, ap, subst, ◌∙◌, Bool, true, false, ◌||◌, not, ◌⊎◌, inl, inr, List, [], ◌∷◌, ◌++◌, ℕ}
+use Rattle.integers.proofs.Prelude.{◌<◌, arith, eqb, pos, length}
 use Rattle.integers.proofs.Choices.{impossible}
 use Rattle.integers.specs.Integers.{pick}
-use Rattle.definitions.specs.Vocabulary.{Framebuffer, PixelFormat, Bytes, Packed, BoundingBox, None, Some, RenderedDimensions, Transparent}
+use Rattle.definitions.specs.Vocabulary.{Framebuffer, BoundingBox, None, Some, RenderedDimensions, Transparent}
 use Rattle.definitions.specs.Refusals.{Outcome, success, refused, Cause, unless_refused, any_applies}
 use Rattle.definitions.specs.Header.{font_causes}
 use Rattle.definitions.specs.Geometry.{InsideBox}
@@ -20,6 +20,7 @@ use Rattle.redraw_checks.specs.Drawing.{Drawing, asks, with_text, drawn, after, 
 use Rattle.definitions.proofs.ByteLaws.{over_keep}
 use Rattle.definitions.proofs.FramebufferLaws.{length_shown, shown_at, size_fits, on_framebuffer, EveryPixel, onto, shown_shown, shown_same}
 use Rattle.definitions.proofs.PictureLaws.{covers_inside, inside_covers}
+use Rattle.definitions.proofs.UnpackLaws.{color_stored}
 use Rattle.definitions.proofs.RefusalLaws.{none_applies, succeeded, stopped}
 use Rattle.definitions.proofs.CausesLaws.{LimitsPass, limits_off, DrawPasses, draw_passes, draw_off}
 use Rattle.definitions.proofs.LetterRefusals.{Late, late, late_drawn}
@@ -67,13 +68,6 @@ pub length_after : (font : List ℕ) (r : Drawing) (p : Ground) → length (afte
 unfolding draw_buffer
 length_after font r p = length_by (any_applies (causes_of font r p)) p.framebuffer (picture_of font r) p.before
 
--- a colour that the framebuffer has is stored as it is
-stored_color : (format : PixelFormat) (color : ℕ) → color_off format (Transparent color) ≡ false → stored format (put color) ≡ put color
-stored_color Bytes color e = refl
-stored_color Packed zero e = refl
-stored_color Packed (suc zero) e = refl
-stored_color Packed (suc (suc n)) e = absurd (omega (arith, ltb-false 1 (suc (suc n)) e))
-
 -- ---- a drawing that succeeds
 
 module _ (font : List ℕ) (r : Drawing) (p : Ground) (d : RenderedDimensions) (succeeds : drawn font r p ≡ success d) where
@@ -108,7 +102,7 @@ module _ (font : List ℕ) (r : Drawing) (p : Ground) (d : RenderedDimensions) (
             → over (stored p.framebuffer.format (pick t (put color) keep)) (pixel p (after font r p) column row)
             ≡ pixel p p.before column row
         by true h =
-            ap (λ (x : Paint). over x (pixel p (after font r p) column row)) (stored_color p.framebuffer.format color clears)
+            ap (λ (x : Paint). over x (pixel p (after font r p) column row)) (color_stored p.framebuffer.format (Transparent color) clears 1)
             ∙ sym (ground column row c k (subst (InsideBox (pos column) (pos row)) e (covers_inside (pos column) (pos row) b h)))
         by false h =
             over_keep p.framebuffer.format (pixel p (after font r p) column row)
