@@ -24,10 +24,16 @@ as_both answers bytes pixels = record {
 }
 
 -- by a call that draws so; `pixels` is what the framebuffer in bytes held before
-abbrev pub both_by : {A : Type 0} → (Font → Request → FontColor → Ground → Outcome A) → Font → Request → FontColor → Ground → List ℕ → Both A
+abbrev pub both_by : {A : Type 0} → (Font → Request → FontColor → Ground → Outcome A) → Font → Request → FontColor → Ground → List ℕ
+    → Both A
 both_by draws font r color p pixels =
     let q = on (in_bytes p.framebuffer) pixels in
-    record { answer = draws font r color p; after = after font r color p; answer_in_bytes = draws font r color q; after_in_bytes = after font r color q }
+    record {
+      answer = draws font r color p;
+      after = after font r color p;
+      answer_in_bytes = draws font r color q;
+      after_in_bytes = after font r color q;
+    }
 
 -- Both calls answered the same, with the same sums, and left the same pixels.
 pub record Alike {A : Type 0} (p : Ground) (answers : InBoth A) (after after_in_bytes : List ℕ) : Type 0 where

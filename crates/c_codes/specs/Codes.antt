@@ -1,7 +1,8 @@
 -- What the codes of a call mean: numbers from 0 in the order of the variants, and no others.
 use Rattle.std.specs.Prelude.{Bool, true, false, Option, Some, None, ℕ, eqb, ltb, ℤ}
 use Rattle.integers.specs.Integers.{pick}
-use Rattle.definitions.specs.Vocabulary.{FontColor, Transparent, WithBackground, FontStyle, Framebuffer, PixelFormat, Bytes, Packed, Placement, HorizontalAlignment, VerticalPosition}
+use Rattle.definitions.specs.Vocabulary.{FontColor, Transparent, WithBackground, FontStyle, Framebuffer, PixelFormat, Bytes, Packed}
+use Rattle.definitions.specs.Vocabulary.{Placement, HorizontalAlignment, VerticalPosition}
 use Rattle.definitions.specs.Text.{point}
 use Rattle.definitions.specs.Framebuffer.{sized}
 use Rattle.definitions.specs.Calls.{placed}

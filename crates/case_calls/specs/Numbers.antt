@@ -1,5 +1,6 @@
 -- A case's sixteen numbers, of four bytes each, in the order of the file.
-use Rattle.std.specs.Prelude.{◌≡◌, Bool, Option, Some, None, ℕ, zero, suc, ◌≤◌, ◌<◌, ◌/◌, ◌%◌, List, length, take, drop, ℤ, eqb, leb, Result, Ok, Err}
+use Rattle.std.specs.Prelude.{◌≡◌, Bool, Option, Some, None, ℕ, zero, suc, ◌≤◌, ◌<◌, ◌/◌, ◌%◌, List, length, take, drop, ℤ, eqb, leb}
+use Rattle.std.specs.Prelude.{Result, Ok, Err}
 use Rattle.std.specs.Int.{w32, from_le_bytes, cast_signed}
 use Rattle.integers.specs.Integers.{pick}
 use Rattle.definitions.specs.Vocabulary.{FontColor, Place}

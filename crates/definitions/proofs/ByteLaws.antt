@@ -147,7 +147,8 @@ byte_twice Packed p q x =
       bits_after q x,
       rest_after q x,
       map_map (painted p) (painted q) (painted (λ k. above (p k) (q k)))
-          (λ i y. over_over (stored Packed (p i)) (stored Packed (q i)) y ∙ ap (λ (r : Paint). over r y) (sym (stored_above Packed (p i) (q i)))) 0 (low_bits 8 x),
+          (λ i y.
+          over_over (stored Packed (p i)) (stored Packed (q i)) y ∙ ap (λ (r : Paint). over r y) (sym (stored_above Packed (p i) (q i)))) 0 (low_bits 8 x),
     )
 
 -- Paints that make the same of each pixel make the same of the byte.

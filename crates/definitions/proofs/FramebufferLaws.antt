@@ -1,13 +1,16 @@
 -- The framebuffer as a window onto a picture: its one law, for every format, and when two pictures give the same bytes. What holds of
 -- a pixel at column and row comes from here; no other file divides by the width. Assumes nothing.
 use Rattle.integers.proofs.Prelude.{◌≡◌, sym, ap, ◌∙◌, false, ◌||◌, List, ℕ, ◌+◌, ◌*◌, ◌/◌, ◌%◌, ◌≤◌, ◌<◌, div-add-mod', mod-lt, zero-add}
-use Rattle.integers.proofs.Prelude.{mod-eq_of_lt, div-eq_of_lt, mul-add-div_right, mul-add-mod_self_right, mul-le-mul_right, dec_lt, arith, ltb, eqb}
+use Rattle.integers.proofs.Prelude.{mod-eq_of_lt, div-eq_of_lt, mul-add-div_right, mul-add-mod_self_right, mul-le-mul_right, dec_lt}
+use Rattle.integers.proofs.Prelude.{arith, ltb, eqb}
 use Rattle.integers.proofs.Prelude.{pos, length, get_or, eqb-true, eqb-false, ltb-false, not-false}
 use Rattle.definitions.specs.Vocabulary.{Framebuffer}
 use Rattle.definitions.specs.Picture.{Paint, keep, Picture, above}
-use Rattle.definitions.specs.Framebuffer.{over, per_byte, stored, in_byte, paint_byte, paints, shown, byte_at, pixel_at, byte_rows, size_in_bytes, side_off, size_off, framebuffer_cause, BufferFits}
+use Rattle.definitions.specs.Framebuffer.{over, per_byte, stored, in_byte, paint_byte, paints, shown, byte_at, pixel_at, byte_rows}
+use Rattle.definitions.specs.Framebuffer.{size_in_bytes, side_off, size_off, framebuffer_cause, BufferFits}
 use Rattle.definitions.proofs.RefusalLaws.{or_false}
-use Rattle.definitions.proofs.ByteLaws.{length_map_at, getd_map_at, map_map, map_alike, map_same, byte_painted, byte_twice, byte_alike, byte_blank, over_keep, some_per_byte}
+use Rattle.definitions.proofs.ByteLaws.{length_map_at, getd_map_at, map_map, map_alike, map_same, byte_painted, byte_twice, byte_alike}
+use Rattle.definitions.proofs.ByteLaws.{byte_blank, over_keep, some_per_byte}
 
 -- ---- column and row of an index
 
@@ -28,7 +31,8 @@ module _ (p : Framebuffer) (picture : Picture) (buffer : List ℕ) where
   length_shown = length_map_at _ 0 buffer
 
   -- the byte at an index
-  pub shown_index : (i : ℕ) → i < length buffer → get_or (shown p picture buffer) i 0 ≡ paint_byte p.format (paints p picture i) (get_or buffer i 0)
+  pub shown_index : (i : ℕ) → i < length buffer
+      → get_or (shown p picture buffer) i 0 ≡ paint_byte p.format (paints p picture i) (get_or buffer i 0)
   shown_index i h = getd_map_at _ 0 buffer i h ∙ simp zero-add
 
   -- what is drawn on the pixels of the byte that holds the one at column and row
@@ -45,7 +49,8 @@ module _ (p : Framebuffer) (picture : Picture) (buffer : List ℕ) where
       let e : row / n * n + row % n ≡ row = div-add-mod' row n in
       ap (in_byte p.format (row % n)) (shown_index (byte_at p column row) h)
       ∙ byte_painted p.format (paints p picture (byte_at p column row)) (get_or buffer (byte_at p column row) 0) (row % n) k
-      ∙ ap (λ (x : Paint). over (stored p.format x) (pixel_at p buffer column row)) (paints_at column row (row % n) c ∙ ap (λ (y : ℕ). picture (pos column) (pos y)) e)
+      ∙ ap (λ (x : Paint). over (stored p.format x) (pixel_at p buffer column row))
+      (paints_at column row (row % n) c ∙ ap (λ (y : ℕ). picture (pos column) (pos y)) e)
 
 -- ---- a buffer of the framebuffer's size
 
@@ -124,7 +129,8 @@ module _ (p : Framebuffer) (some : 0 < p.width) where
   -- Pictures that make the same of every pixel give the same buffer.
   pub shown_alike : (a b : Picture) (buffer : List ℕ)
       → EveryPixel p (length buffer) (λ column row.
-      over (stored p.format (a (pos column) (pos row))) (pixel_at p buffer column row) ≡ over (stored p.format (b (pos column) (pos row))) (pixel_at p buffer column row))
+      over (stored p.format (a (pos column) (pos row))) (pixel_at p buffer column row)
+      ≡ over (stored p.format (b (pos column) (pos row))) (pixel_at p buffer column row))
       → shown p a buffer ≡ shown p b buffer
   shown_alike a b buffer each = map_alike _ _ 0 buffer at
     where
@@ -163,7 +169,8 @@ shown_blank p buffer = map_same _ 0 buffer (λ k h. byte_blank p.format (get_or 
 
 -- A picture of what every pixel was changes nothing.
 pub shown_same : (p : Framebuffer) → 0 < p.width → (picture : Picture) (buffer : List ℕ)
-    → EveryPixel p (length buffer) (λ column row. over (stored p.format (picture (pos column) (pos row))) (pixel_at p buffer column row) ≡ pixel_at p buffer column row)
+    → EveryPixel p (length buffer) (λ column row.
+    over (stored p.format (picture (pos column) (pos row))) (pixel_at p buffer column row) ≡ pixel_at p buffer column row)
     → shown p picture buffer ≡ buffer
 shown_same p some picture buffer each =
     shown_alike p some picture blank buffer (λ column row c h. each column row c h ∙ sym (over_keep p.format (pixel_at p buffer column row)))

@@ -5,7 +5,8 @@ use Rattle.integers.proofs.Prelude.{ℤ, pos, ◌+ℤ◌, ◌-ℤ◌}
 use Rattle.integers.specs.Integers.{pick}
 use Rattle.integers.proofs.Laws.{zarith, plus, minus}
 use Rattle.integers.proofs.Choices.{impossible}
-use Rattle.definitions.specs.Vocabulary.{BoundingBox, None, Some, Point, Rectangle, RenderedDimensions, GlyphReader, FontColor, HorizontalAlignment, Framebuffer}
+use Rattle.definitions.specs.Vocabulary.{BoundingBox, None, Some, Point, Rectangle, RenderedDimensions, GlyphReader, FontColor}
+use Rattle.definitions.specs.Vocabulary.{HorizontalAlignment, Framebuffer}
 use Rattle.types.specs.declared.style.HorizontalAlignment.TheVariants.{Left, Center, Right}
 use Rattle.definitions.specs.Refusals.{Outcome, success, refused, and_then}
 use Rattle.definitions.specs.Geometry.{join}

@@ -1,16 +1,20 @@
 -- Request A4: "For colours of 0 or 1, a size both panels allow and buffers of the right lengths, show that unpacking it after a call
 -- gives the byte panel drawn by the same call from the unpacked start, and that both return the same, refused calls included." It holds
 -- of every format, since each shows a picture by the one law. Assumes nothing.
-use Rattle.integers.proofs.Prelude.{◌≡◌, refl, sym, ap, ◌∙◌, Bool, true, false, ◌||◌, List, [], ◌∷◌, ◌++◌, ℕ, ◌+◌, ◌*◌, ◌/◌, ◌%◌, ◌≤◌, ◌<◌, zero-add}
-use Rattle.integers.proofs.Prelude.{div-add-mod', mod-lt, div-one, mul-le-mul_right, dec_lt, arith, eqb, ℤ, pos, nat_abs, ◌-ℤ◌, length, get_or, replicate, length-replicate}
+use Rattle.integers.proofs.Prelude.{◌≡◌, refl, sym, ap, ◌∙◌, Bool, true, false, ◌||◌, List, [], ◌∷◌, ◌++◌, ℕ, ◌+◌, ◌*◌, ◌/◌, ◌%◌, ◌≤◌}
+use Rattle.integers.proofs.Prelude.{◌<◌, zero-add}
+use Rattle.integers.proofs.Prelude.{div-add-mod', mod-lt, div-one, mul-le-mul_right, dec_lt, arith, eqb, ℤ, pos, nat_abs, ◌-ℤ◌, length}
+use Rattle.integers.proofs.Prelude.{get_or, replicate, length-replicate}
 use Rattle.integers.proofs.Prelude.{eqb-true, eqb-false, ltb-false, eq-eqb}
 use Rattle.integers.specs.Integers.{pick}
-use Rattle.definitions.specs.Vocabulary.{Framebuffer, PixelFormat, Bytes, Packed, GlyphReader, FontColor, Transparent, WithBackground, BoundingBox, None, Some}
+use Rattle.definitions.specs.Vocabulary.{Framebuffer, PixelFormat, Bytes, Packed, GlyphReader, FontColor, Transparent, WithBackground}
+use Rattle.definitions.specs.Vocabulary.{BoundingBox, None, Some}
 use Rattle.definitions.specs.Refusals.{Cause, any_applies}
 use Rattle.definitions.specs.Geometry.{left, top}
 use Rattle.definitions.specs.Text.{Placed, box_of}
 use Rattle.definitions.specs.Picture.{Paint, keep, put, Picture, paint_of, covers, box_picture, text_picture}
-use Rattle.definitions.specs.Framebuffer.{over, stored, shown, paints, pixel_at, in_bytes, unpacked, side_off, size_off, framebuffer_cause, BufferFits}
+use Rattle.definitions.specs.Framebuffer.{over, stored, shown, paints, pixel_at, in_bytes, unpacked, side_off, size_off}
+use Rattle.definitions.specs.Framebuffer.{framebuffer_cause, BufferFits}
 use Rattle.definitions.specs.Limits.{text_cause, position_cause, no_bit, color_off, background_cause}
 use Rattle.definitions.specs.Font.{Font, pixels_of}
 use Rattle.definitions.specs.Calls.{Request, draw_causes, drawn_text, draw, draw_buffer, draw_aligned}

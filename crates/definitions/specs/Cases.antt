@@ -1,7 +1,8 @@
 -- The worked cases of SPECIFICATION, Font T (marked *), and cases of what no law speaks of: the header's bytes, both inks,
 -- skipping. One table of what the definitions give and what follows from the rules, and one theorem, which computes them all.
 use Rattle.std.specs.Prelude.{◌≡◌, refl, Bool, true, false, List, [], ◌∷◌, ◌++◌, map, ℕ, ◌+◌, ◌*◌, ℤ, pos, neg_ℤ, take, set, replicate}
-use Rattle.definitions.specs.Vocabulary.{FontReader, Framebuffer, PixelFormat, Packed, Bytes, BoundingBox, None, Some, Rectangle, RenderedDimensions, GlyphReader, LookupSteps}
+use Rattle.definitions.specs.Vocabulary.{FontReader, Framebuffer, PixelFormat, Packed, Bytes, BoundingBox, None, Some, Rectangle}
+use Rattle.definitions.specs.Vocabulary.{RenderedDimensions, GlyphReader, LookupSteps}
 use Rattle.definitions.specs.Vocabulary.{FontColor, Transparent, WithBackground, HorizontalAlignment}
 use Rattle.types.specs.declared.style.HorizontalAlignment.TheVariants.{Left as Alignment-as-Left, Center as Alignment-as-Center, Right as Alignment-as-Right}
 use Rattle.types.specs.declared.style.VerticalPosition.TheVariants.{Baseline, Top, Center, Bottom}

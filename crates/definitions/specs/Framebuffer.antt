@@ -1,6 +1,7 @@
 -- SPECIFICATION, Drawing and measuring: the framebuffer. It is a window onto a picture, whatever its bytes hold; pixels off it are
 -- dropped. A byte holds one pixel, or eight of a column (request A4).
-use Rattle.std.specs.Prelude.{Bool, ◌||◌, not, List, [], ◌∷◌, ℕ, suc, ◌+◌, ◌*◌, ◌/◌, ◌%◌, ◌≡◌, ◌≤◌, ◌<◌, ltb, eqb, pos, length, get_or, replicate}
+use Rattle.std.specs.Prelude.{Bool, ◌||◌, not, List, [], ◌∷◌, ℕ, suc, ◌+◌, ◌*◌, ◌/◌, ◌%◌, ◌≡◌, ◌≤◌, ◌<◌, ltb, eqb, pos, length, get_or}
+use Rattle.std.specs.Prelude.{replicate}
 use Rattle.integers.specs.Integers.{pick}
 use Rattle.definitions.specs.Vocabulary.{Framebuffer, PixelFormat, Bytes, Packed}
 use Rattle.definitions.specs.Refusals.{Cause}

@@ -3,7 +3,8 @@
 use Rattle.std.specs.Prelude.{Bool, false, ◌||◌, List, [], ◌∷◌, ℕ, Result, Ok, Err}
 use Rattle.integers.specs.Integers.{pick}
 use Rattle.definitions.specs.Vocabulary.{Error}
-use Rattle.types.specs.declared.error.Error.TheVariants.{FontLength, FontHeader, FramebufferSize, TextEncoding, PositionOrLineHeight, BackgroundColorNotSupported, GlyphNotFound, FontEnds, ColorNotSupported}
+use Rattle.types.specs.declared.error.Error.TheVariants.{FontLength, FontHeader, FramebufferSize, TextEncoding, PositionOrLineHeight}
+use Rattle.types.specs.declared.error.Error.TheVariants.{BackgroundColorNotSupported, GlyphNotFound, FontEnds, ColorNotSupported}
 
 -- A call succeeds with a value, or is refused with a number and a code point.
 pub data Outcome (A : Type 0) : Type 0 where

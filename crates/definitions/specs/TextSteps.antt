@@ -2,7 +2,8 @@
 -- code points. TextLaws.antt proves that these are the layouts of Text.antt.
 use Rattle.std.specs.Prelude.{List, [], ◌∷◌, ℕ, eqb, ℤ, pos, ◌+ℤ◌}
 use Rattle.integers.specs.Integers.{pick}
-use Rattle.definitions.specs.Vocabulary.{BoundingBox, None, Some, Point, Rectangle, RenderedDimensions, GlyphReader, FontColor, HorizontalAlignment, Framebuffer}
+use Rattle.definitions.specs.Vocabulary.{BoundingBox, None, Some, Point, Rectangle, RenderedDimensions, GlyphReader, FontColor}
+use Rattle.definitions.specs.Vocabulary.{HorizontalAlignment, Framebuffer}
 use Rattle.definitions.specs.Refusals.{Outcome, success, refused, and_then}
 use Rattle.definitions.specs.Geometry.{left, top, join}
 use Rattle.definitions.specs.Text.{Answer, shows, nothing, stops, box_at, point, newline, horizontal_offset}

@@ -17,6 +17,7 @@ abbrev pub unpacked_ground : Ground → Ground
 unpacked_ground p = on (in_bytes p.framebuffer) (unpacked p.framebuffer p.before)
 
 -- Both answer the same, and what the one leaves is, unpacked, what the other leaves.
-pub record DrawnAlike {A : Type 0} (p : Ground) (answer : Outcome A) (after : List ℕ) (answer_in_bytes : Outcome A) (after_in_bytes : List ℕ) : Type 0 where
+pub record DrawnAlike {A : Type 0} (p : Ground) (answer : Outcome A) (after : List ℕ) (answer_in_bytes : Outcome A)
+    (after_in_bytes : List ℕ) : Type 0 where
   pub answers : answer_in_bytes ≡ answer
   pub pixels : after_in_bytes ≡ unpacked p.framebuffer after

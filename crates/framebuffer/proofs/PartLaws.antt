@@ -1,7 +1,10 @@
 -- A line of the framebuffer that was lent and came back filled. Assumes nothing.
-use Rattle.integers.proofs.Prelude.{◌≡◌, refl, sym, ap, subst, ◌∙◌, Bool, true, false, List, ◌++◌, ℕ, ◌+◌, ◌-◌, ◌*◌, ◌/◌, ◌%◌, ◌≤◌, ◌<◌, min, div-add-mod', dec_lt, arith, eqb}
-use Rattle.integers.proofs.Prelude.{pos, length, get_or, take, drop, length-drop, list_get_or_append, list_get_or_eq_default, length-take-le, get_or-append-add}
-use Rattle.integers.proofs.Prelude.{get_or-take, get_or-drop, ext_get_or, eqb-true, eqb-false, replicate, length-replicate, get_or-replicate}
+use Rattle.integers.proofs.Prelude.{◌≡◌, refl, sym, ap, subst, ◌∙◌, Bool, true, false, List, ◌++◌, ℕ, ◌+◌, ◌-◌, ◌*◌, ◌/◌, ◌%◌, ◌≤◌, ◌<◌}
+use Rattle.integers.proofs.Prelude.{min, div-add-mod', dec_lt, arith, eqb}
+use Rattle.integers.proofs.Prelude.{pos, length, get_or, take, drop, length-drop, list_get_or_append, list_get_or_eq_default}
+use Rattle.integers.proofs.Prelude.{length-take-le, get_or-append-add}
+use Rattle.integers.proofs.Prelude.{get_or-take, get_or-drop, ext_get_or, eqb-true, eqb-false, replicate, length-replicate}
+use Rattle.integers.proofs.Prelude.{get_or-replicate}
 use borrow.Rule.Slice.PartMut.{mid_of, put_mid, same_len_mid}
 use Rattle.integers.specs.Integers.{pick}
 use Rattle.integers.proofs.Laws.{zarith}

@@ -1,5 +1,6 @@
 -- The pixels of a framebuffer, each in a byte of its own. Assumes nothing.
-use Rattle.integers.proofs.Prelude.{◌≡◌, sym, ap, ◌∙◌, List, ℕ, zero, suc, ◌*◌, ◌/◌, ◌%◌, ◌^◌, ◌≤◌, ◌<◌, div-one, div-add-mod', mod-lt, zero-add, one-add}
+use Rattle.integers.proofs.Prelude.{◌≡◌, sym, ap, ◌∙◌, List, ℕ, zero, suc, ◌*◌, ◌/◌, ◌%◌, ◌^◌, ◌≤◌, ◌<◌, div-one, div-add-mod', mod-lt}
+use Rattle.integers.proofs.Prelude.{zero-add, one-add}
 use Rattle.integers.proofs.Prelude.{mul-le-mul_right, dec_lt, arith, length, get_or, replicate, length-replicate, ext_get_or}
 use lib.Pow.{shr-shr}
 use Rattle.definitions.specs.Vocabulary.{Framebuffer}

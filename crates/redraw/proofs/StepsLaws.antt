@@ -2,7 +2,8 @@
 use Rattle.integers.proofs.Prelude.{◌≡◌, refl, sym, ap, subst, ◌∙◌, Bool, true, false, List, [], ◌∷◌, ◌++◌, map, ℕ, pos}
 use Rattle.integers.proofs.Prelude.{length}
 use Rattle.integers.specs.Integers.{pick}
-use Rattle.definitions.specs.Vocabulary.{PixelFormat, Bytes, Packed, None, Point, RenderedDimensions, FontColor, Transparent, HorizontalAlignment}
+use Rattle.definitions.specs.Vocabulary.{PixelFormat, Bytes, Packed, None, Point, RenderedDimensions, FontColor, Transparent}
+use Rattle.definitions.specs.Vocabulary.{HorizontalAlignment}
 use Rattle.types.specs.declared.style.HorizontalAlignment.TheVariants.{Left, Center, Right}
 use Rattle.definitions.specs.Refusals.{Outcome, success, refused, unless_refused, any_applies}
 use Rattle.definitions.specs.Header.{font_causes}

@@ -2,7 +2,8 @@
 use Rattle.integers.proofs.Prelude.{◌≡◌, refl, sym, ap, subst, ◌∙◌, Bool, true, false, List, ℕ, eqb}
 use Rattle.integers.specs.Integers.{pick}
 use Rattle.integers.proofs.Choices.{impossible}
-use Rattle.definitions.specs.Vocabulary.{Point, RenderedDimensions, GlyphReader, LookupSteps, FontColor, HorizontalAlignment, Framebuffer, Error, Report}
+use Rattle.definitions.specs.Vocabulary.{Point, RenderedDimensions, GlyphReader, LookupSteps, FontColor, HorizontalAlignment}
+use Rattle.definitions.specs.Vocabulary.{Framebuffer, Error, Report}
 use Rattle.types.specs.declared.style.HorizontalAlignment.TheVariants.{Left}
 use Rattle.definitions.specs.Refusals.{Outcome, success, refused, and_then, refusal}
 use Rattle.definitions.specs.Lookup.{no_steps}

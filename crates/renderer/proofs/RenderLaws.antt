@@ -1,6 +1,7 @@
 -- What the causes leave of a call that draws. Assumes nothing.
 use Rattle.integers.proofs.Prelude.{◌≡◌, refl, sym, ap, subst, ◌∙◌, false, List, ℕ, length}
-use Rattle.definitions.specs.Vocabulary.{Framebuffer, RenderedDimensions, FontColor, Error, Report, HorizontalAlignment, VerticalPosition, Placement}
+use Rattle.definitions.specs.Vocabulary.{Framebuffer, RenderedDimensions, FontColor, Error, Report, HorizontalAlignment}
+use Rattle.definitions.specs.Vocabulary.{VerticalPosition, Placement}
 use Rattle.definitions.specs.Refusals.{Outcome, error_number, code_point, Cause, any_applies, outcome}
 use Rattle.definitions.specs.Text.{dimensions}
 use Rattle.definitions.specs.Font.{u8g2}
