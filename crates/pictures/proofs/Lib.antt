@@ -1,1 +1,2 @@
 pub mod DrawingLaws
+pub mod PackedLaws
