@@ -32,7 +32,8 @@ pub fn room_for(format: PixelFormat, width: usize, height: usize) -> Framebuffer
 // How many bytes its buffer has.
 pub fn size_in_bytes(framebuffer: Framebuffer) -> usize
     requires { (framebuffer.width ≤ 256) × (framebuffer.height ≤ 256) }
-    ensures { result ≡ size_in_bytes framebuffer }
+    ensures size { result ≡ size_in_bytes framebuffer }
+    ensures most { result ≤ 65536 }
 {
     framebuffer.height / per_byte(framebuffer.format) * framebuffer.width
 }

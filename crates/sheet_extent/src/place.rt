@@ -1,5 +1,7 @@
 // A place at which all readings are seen, or the one that is asked for, and a framebuffer for it.
 ghost use Rattle.std.specs.Prelude.{◌≡◌};
+ghost use Rattle.definitions.specs.Framebuffer.{size_in_bytes};
+ghost use Rattle.sheet_ground.specs.Readings.{PlaceFits};
 ghost use Rattle.sheet_extent.specs.Extent.{extent_of, position_for, background_of, place_for, Uncut, AllSeen};
 
 use crate::extent::{inside, measure_all, side};
@@ -35,6 +37,7 @@ fn position_for(at: Option<Point>, extent: Extent) -> Point
 // The framebuffer for it. Where all readings are to be seen and no side is cut off at 256 pixels, all are.
 pub fn place_for(font: &[u8], options: Options) -> Place
     ensures place { result ≡ place_for font.now options }
+    ensures fits { PlaceFits (size_in_bytes result.framebuffer) result }
     ensures seen { options.at ≡ None → Uncut result (extent_of font.now options.vertical_pos
         options.horizontal_align 901)
         → AllSeen font.now result }

@@ -2,7 +2,9 @@
 use Rattle.integers.proofs.Prelude.{sym, subst, ◌∙◌, w32, w64, SFits, to_z-of_z, rules}
 use Rattle.definitions.specs.Vocabulary.{Place}
 use Rattle.sheet_extent.specs.Extent.{extent_of, side, Uncut, AllSeen}
-use Rattle.sheet_extent.proofs.ExtentLaws.{is_place, all_seen, both}
+use Rattle.definitions.specs.Framebuffer.{size_in_bytes}
+use Rattle.sheet_ground.specs.Readings.{PlaceFits}
+use Rattle.sheet_extent.proofs.ExtentLaws.{is_place, fits_for, all_seen, both}
 use Rattle.sheet_extent.proofs.place.place_for.Goals as goal
 
 pub returns : goal.returns
@@ -20,5 +22,6 @@ returns c =
     let edges = extent_of a.font.now a.options.vertical_pos a.options.horizontal_align 901 in
     record {
       place = e;
+      fits = subst (λ (q : Place). PlaceFits (size_in_bytes q.framebuffer) q) (sym e) (fits_for a.font.now a.options);
       seen = λ nowhere. subst (λ (q : Place). Uncut q edges → AllSeen a.font.now q) (sym e) (all_seen a.font.now a.options nowhere);
     }
