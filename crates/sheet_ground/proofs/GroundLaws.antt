@@ -1,14 +1,12 @@
 -- The ground, reading by reading: a cleared box is background and stays so, and beside all boxes the rubbish stays. Assumes nothing.
-use Rattle.integers.proofs.Prelude.{◌≡◌, refl, sym, ap, subst, ◌∙◌, Bool, true, false, List, ℕ, zero, suc, ◌+◌, ◌%◌, ◌<◌, eqb}
-use Rattle.integers.proofs.Prelude.{eqb-true, eqb-false, ltb-false, zero-add, dec_lt, arith, pos, length, get_or, replicate, length-replicate, ext_get_or}
+use Rattle.integers.proofs.Prelude.{◌≡◌, refl, sym, ap, subst, ◌∙◌, Bool, true, false, List, ℕ, zero, suc, ◌+◌, ◌%◌, ◌<◌}
+use Rattle.integers.proofs.Prelude.{zero-add, dec_lt, arith, pos, length, get_or, replicate, length-replicate, ext_get_or}
 use Rattle.integers.proofs.Choices.{impossible}
-use Rattle.integers.specs.Integers.{pick}
-use Rattle.definitions.specs.Vocabulary.{Framebuffer, PixelFormat, Bytes, Packed, BoundingBox, None, Some, RenderedDimensions, Transparent, Place}
+use Rattle.definitions.specs.Vocabulary.{Framebuffer, BoundingBox, None, Some, RenderedDimensions, Transparent, Place}
 use Rattle.definitions.specs.Refusals.{Outcome, success, refused}
 use Rattle.definitions.specs.Geometry.{InsideBox}
-use Rattle.definitions.specs.Picture.{Paint, put, covers}
+use Rattle.definitions.specs.Picture.{Paint, covers}
 use Rattle.definitions.specs.Framebuffer.{over, per_byte, stored, in_byte, shown, byte_at, size_in_bytes}
-use Rattle.definitions.specs.Limits.{color_off}
 use Rattle.definitions.specs.Agreement.{pixel}
 use Rattle.framebuffer.specs.Areas.{fill_picture}
 use Rattle.redraw_checks.specs.Drawing.{measured, ground_of}
@@ -16,6 +14,7 @@ use Rattle.redraw.specs.Redraw.{cleared_by}
 use Rattle.definitions.proofs.PictureLaws.{covers_inside}
 use Rattle.definitions.proofs.ByteLaws.{length_map_at, getd_map_at, over_keep}
 use Rattle.definitions.proofs.FramebufferLaws.{length_shown, shown_at, on_buffer}
+use Rattle.definitions.proofs.UnpackLaws.{color_stored}
 use Rattle.framebuffer.proofs.RowLaws.{outside}
 use Rattle.framebuffer.proofs.FillLaws.{fill_inside, fill_outside}
 use Rattle.sheet_ground.specs.Readings.{reading, PlaceFits}
@@ -38,15 +37,6 @@ all_rubbish l n e each =
     ext_get_or 0 l (rubbish n) (e ∙ sym (length_rubbish n)) (λ i h. each i h ∙ sym (rubbish_at_lem n i (omega arith)))
 
 -- ---- one box
-
--- a colour that a pixel takes
-taken_whole : (f : PixelFormat) (c old : ℕ) → color_off f (Transparent c) ≡ false → over (stored f (put c)) old ≡ c
-taken_whole Bytes c old e = refl
-taken_whole Packed c old e = by (eqb c 0) refl
-  where
-    by : (t : Bool) → eqb c 0 ≡ t → pick t 0 1 ≡ c
-    by true k = sym (eqb-true c 0 k)
-    by false k = let some : c ≡ 0 → ⊥ = eqb-false c 0 k in omega (arith, some, ltb-false 1 c e)
 
 module _ (place : Place) (fits : PlaceFits (size_in_bytes place.framebuffer) place) (bytes : List ℕ) (whole : length bytes ≡ size_in_bytes place.framebuffer) where
   abbrev p : Framebuffer
@@ -72,7 +62,7 @@ module _ (place : Place) (fits : PlaceFits (size_in_bytes place.framebuffer) pla
     in_box (Some b) i =
         cleared_pixel (Some b) column row c r
         ∙ ap (λ (x : Paint). over (stored p.format x) (before (Some b) column row c r)) (fill_inside place.background b (pos column) (pos row) i)
-        ∙ taken_whole p.format place.background (before (Some b) column row c r) fits.takes
+        ∙ ap (λ (x : Paint). over x (before (Some b) column row c r)) (color_stored p.format (Transparent place.background) fits.takes 1)
 
     beside : (box : BoundingBox) → (InsideBox (pos column) (pos row) box → ⊥) → after box column row c r ≡ pixel (ground_of place bytes) bytes column row
     beside None i = cleared_pixel None column row c r ∙ over_keep p.format (before None column row c r)

@@ -6,11 +6,8 @@ use Rattle.sheet_ground.specs.Readings.{PlaceFits}
 use Rattle.sheet_program.specs.Sheets.{Buffers, LargeBuffers}
 
 module _ {place : Place} {n : ℕ} (f : PlaceFits n place) where
-  place_size : n ≤ 65536
-  place_size = bytes_most f.fits
-
   front_length : (l : List ℕ) → length l ≡ 65536 → length (take n l) ≡ n
-  front_length l e = length-take-le n l (omega (arith, place_size))
+  front_length l e = length-take-le n l (omega (arith, bytes_most f.fits))
 
   pub buffers_fit : (ground screen alone : List ℕ) → LargeBuffers (length ground) (length screen) (length alone)
       → Buffers place (length (take n ground)) (length (take n screen)) (length (take n alone))
