@@ -8,13 +8,13 @@ ghost use Rattle.pictures.specs.Drawings.{Drawable, Buffered, IsDrawing};
 use corner::{Setting, draw_at_corner};
 use font_reader::new_from_raw_data;
 use measuring::aligned_dimensions::aligned_dimensions;
+use pixels::size::{room_for, size_in_bytes};
 use printing::RefusalLine;
 use std::fmt;
 use types::error::Error;
 use types::framebuffer::PixelFormat;
 use types::geometry::{Point, Rectangle, RenderedDimensions, Size};
 use types::style::{FontColor, HorizontalAlignment, Placement, VerticalPosition};
-use pixels::size::{room_for, size_in_bytes};
 
 // What is answered, and the size of the text's box, if it has a pixel. The framebuffer's bytes begin the buffer; a slice of them
 // would lend it out until the drawing is dropped (fixed memory: it is the caller's), and what it then holds is what is proved.

@@ -6,11 +6,11 @@ ghost use Rattle.sheet_extent.specs.Extent.{extent_of, position_for, background_
 
 use crate::extent::{inside, measure_all, side};
 use crate::values::{Extent, Options};
+use pixels::size::room_for;
 use types::framebuffer::PixelFormat;
 use types::geometry::Point;
 use types::place::Place;
 use types::style::{FontColor, FontStyle};
-use pixels::size::room_for;
 
 const INK: u8 = 0;
 

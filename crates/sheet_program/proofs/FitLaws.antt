@@ -1,5 +1,5 @@
 -- A framebuffer of the place's size, at the front of the largest. Assumes nothing.
-use Rattle.integers.proofs.Prelude.{◌≡◌, sym, subst, ◌∙◌, List, ℕ, ◌≤◌, arith, length, take, length-take-le}
+use Rattle.integers.proofs.Prelude.{◌≡◌, sym, subst, ◌∙◌, List, ℕ, arith, length, take, length-take-le}
 use Rattle.definitions.specs.Vocabulary.{Place}
 use Rattle.pixels.proofs.RoomLaws.{bytes_most}
 use Rattle.sheet_ground.specs.Readings.{PlaceFits}

@@ -3,12 +3,12 @@
 ghost use Rattle.std.specs.Prelude.{length};
 ghost use Rattle.definitions.specs.Framebuffer.{BufferFits};
 
+use pixels::unpack::{to_greys, unpack};
 use sight::Sight;
 use std::fs::File;
 use std::io::{Result, Write};
 use std::rt::Files;
 use types::framebuffer::Framebuffer;
-use pixels::unpack::{to_greys, unpack};
 
 // The file, with its first line.
 pub fn create<R: Files>(rt: &R, framebuffer: Framebuffer) -> Result<R::File> {

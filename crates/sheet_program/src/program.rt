@@ -7,13 +7,13 @@ use crate::cells;
 use crate::run::run;
 use crate::values::Sheet;
 use faulty_step::Trial;
+use pixels::size::size_in_bytes;
 use sheet_extent::place::place_for;
 use sheet_extent::values::Options;
 use sheet_ground::ground::lay_ground;
 use sheet_report::{print_totals, print_verdict};
 use std::rt::Files;
 use types::place::Place;
-use pixels::size::size_in_bytes;
 
 // Makes the sheet on framebuffers of the place's size. It is made whether or not its pictures can be written.
 fn fill_sheet<R: Files + Print>(
