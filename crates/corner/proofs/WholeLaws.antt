@@ -1,6 +1,7 @@
 -- A text that is measured at (0, 0) and drawn at the opposite of its box's corner is seen whole (Whole.antt): the box's corner is
 -- within the limits for places, the box has a pixel, and drawing comes to what measuring does, moved. Assumes nothing.
-use Rattle.integers.proofs.Prelude.{◌≡◌, refl, sym, ap, subst, ◌∙◌, Bool, true, false, ◌||◌, not, inl, inr, List, [], ◌∷◌, ℕ, ◌%◌, ◌≤◌, div-add-mod', arith, ltb}
+use Rattle.integers.proofs.Prelude.{◌≡◌, refl, sym, ap, subst, ◌∙◌, Bool, true, false, ◌||◌, not, inl, inr, List, [], ◌∷◌, ℕ, ◌%◌, ◌≤◌}
+use Rattle.integers.proofs.Prelude.{div-add-mod', arith, ltb}
 use Rattle.integers.proofs.Prelude.{eqb, ℤ, pos, negsuc, ◌+ℤ◌, ◌-ℤ◌, lt_z, length, ltb-false, le-ltb, ne_eqb, eq-eqb, not-false}
 use Rattle.integers.proofs.Choices.{impossible}
 use Rattle.integers.specs.Integers.{pick}

@@ -1,7 +1,8 @@
 -- A text drawn where all of it is seen: it is measured at (0, 0), and then drawn at the opposite of its box's corner, on the
 -- smallest framebuffer that holds its box. How its lines are set, a `Setting`, is the same both times.
 use Rattle.std.specs.Prelude.{◌≡◌, false, List, ◌⊎◌, ℕ, pos, ◌-ℤ◌}
-use Rattle.definitions.specs.Vocabulary.{Framebuffer, PixelFormat, Some, Point, Rectangle, RenderedDimensions, FontColor, HorizontalAlignment}
+use Rattle.definitions.specs.Vocabulary.{Framebuffer, PixelFormat, Some, Point, Rectangle, RenderedDimensions, FontColor}
+use Rattle.definitions.specs.Vocabulary.{HorizontalAlignment}
 use Rattle.types.specs.declared.style.VerticalPosition.TheVariants.{Baseline}
 use Rattle.definitions.specs.Refusals.{Outcome, success, refused}
 use Rattle.definitions.specs.Geometry.{left, top}

@@ -7,13 +7,13 @@ use draw_options::{Options, UnknownWord};
 use pgm::write_image;
 use picture_text::{EMPTY, color, print_rows};
 use pictures::whole::{DrawError, Drawing, draw_whole};
+use pixels::size::{room_for, size_in_bytes};
+use pixels::unpack::{to_greys, unpack};
 use printing::{BoxOrNone, Dimensions};
 use std::io::Read;
 use std::rt::Files;
 use types::geometry::{RenderedDimensions, Size};
 use types::style::HorizontalAlignment;
-use pixels::size::{room_for, size_in_bytes};
-use pixels::unpack::{to_greys, unpack};
 
 // The call's answer: an aligned one has no advance.
 fn answer<R: Print>(rt: &R, dimensions: RenderedDimensions, align: Option<HorizontalAlignment>) {

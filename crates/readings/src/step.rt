@@ -16,13 +16,13 @@ use angles::ANGLE_ROOM;
 use buffers::count_differences;
 use faulty_step::{Trial, redraw_on};
 use numbers::text::Text;
+use pixels::unpack::unpack;
 use redraw::reading::is_taken;
 use sheet_ground::texts::reading_text;
 use types::error::Error;
 use types::framebuffer::Framebuffer;
 use types::geometry::RenderedDimensions;
 use types::place::Place;
-use pixels::unpack::unpack;
 
 // The text that stands on the screen: none before a reading is taken.
 fn shown_text(old: Option<usize>) -> Text<ANGLE_ROOM>

@@ -6,7 +6,8 @@ use Rattle.std.specs.Prelude.{cond, Option}
 use Rattle.std.specs.Int.{int_min, int_max}
 use Rattle.integers.specs.Integers.{pick, min_z, max_z}
 use Rattle.integers.proofs.Laws.{zarith, up, down, plus, minus, size, min_is, max_is, range, stored}
-use Rattle.definitions.specs.Vocabulary.{Framebuffer, PixelFormat, Bytes, Packed, BoundingBox, None, Some, Point, Rectangle, RenderedDimensions, Transparent, HorizontalAlignment, VerticalPosition, Place}
+use Rattle.definitions.specs.Vocabulary.{Framebuffer, PixelFormat, Bytes, Packed, BoundingBox, None, Some, Point, Rectangle}
+use Rattle.definitions.specs.Vocabulary.{RenderedDimensions, Transparent, HorizontalAlignment, VerticalPosition, Place}
 use Rattle.definitions.specs.Refusals.{Outcome, success, refused}
 use Rattle.definitions.specs.Geometry.{left, top, right, bottom, InsideBox}
 use Rattle.definitions.specs.TextSteps.{moved_box}

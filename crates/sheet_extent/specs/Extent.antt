@@ -1,7 +1,8 @@
 -- The edges of all readings, and the framebuffer and the place that follow from them.
 use Rattle.std.specs.Prelude.{◌≡◌, false, List, ℕ, zero, suc, ◌+◌, ◌<◌, min, max, ℤ, pos, negsuc, ◌+ℤ◌, ◌≤ℤ◌, Option}
 use Rattle.integers.specs.Integers.{min_z, max_z}
-use Rattle.definitions.specs.Vocabulary.{BoundingBox, None, Some, Point, Rectangle, RenderedDimensions, PixelFormat, Bytes, Packed, Transparent, HorizontalAlignment, VerticalPosition, Place}
+use Rattle.definitions.specs.Vocabulary.{BoundingBox, None, Some, Point, Rectangle, RenderedDimensions, PixelFormat, Bytes, Packed}
+use Rattle.definitions.specs.Vocabulary.{Transparent, HorizontalAlignment, VerticalPosition, Place}
 use Rattle.definitions.specs.Refusals.{Outcome, success, refused}
 use Rattle.definitions.specs.Geometry.{left, top, right, bottom, InsideBox}
 use Rattle.definitions.specs.Text.{point}
