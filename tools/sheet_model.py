@@ -12,7 +12,7 @@ import model
 ANCHORS = {'baseline': model.BASELINE, 'top': model.TOP, 'center': model.CENTER, 'bottom': model.BOTTOM}
 ALIGNS = {'left': model.LEFT, 'center': model.MIDDLE, 'right': model.RIGHT}
 MARGIN = 3
-INK, BACKGROUND, WHITE = 0, 255, 1 # WHITE is a packed panel's background
+INK, BACKGROUND, WHITE, RUBBISH = 0, 255, 1, 96 # WHITE is a packed panel's background, RUBBISH the grey of what lies around
 CAUSES = {
     1: "the font has fewer than 23 or more than 1,048,576 bytes",
     2: "the font's header is damaged",
@@ -93,6 +93,11 @@ def greys(panel, width, height, packed):
     return bytes(255 * (panel[y // 8 * width + x] >> y % 8 & 1) for y in range(height) for x in range(width))
 
 
+def shaded(pixels, ground):
+    """What is black on the ground too is no reading's."""
+    return bytes(RUBBISH if p == q == 0 else p for p, q in zip(pixels, ground))
+
+
 def run(font, anchor, align, at, narrow, packed):
     """For each reading its answer, how it is seen, how many pixels differ, and the screen."""
     x, y, width, height = place_for(font, anchor, align, at)
@@ -104,6 +109,7 @@ def run(font, anchor, align, at, narrow, packed):
         for row in range(max(0, top), min(height, top + h)):
             for column in range(max(0, left), min(width, left + w)):
                 model.put(ground, width, packed, column, row, clear)
+    under = greys(ground, width, height, packed)
     screen, old, steps = bytearray(ground), '', []
     for text in READINGS:
         answer = model.redraw(font, old.encode(), text.encode(), x, y, anchor, (INK,), 0, clear, width, height, screen,
@@ -115,7 +121,7 @@ def run(font, anchor, align, at, narrow, packed):
             old = text
         shown = greys(screen, width, height, packed)
         differing = 0 if screen == alone else sum(a != b for a, b in zip(shown, greys(alone, width, height, packed)))
-        steps.append((answer, seen(answer[2], width, height) if answer[0] == 'ok' else 'r', differing, shown))
+        steps.append((answer, seen(answer[2], width, height) if answer[0] == 'ok' else 'r', differing, shaded(shown, under)))
     return width, height, steps
 
 

@@ -42,6 +42,7 @@ pub fn run<R: Print, W: Write>(
                 sight,
                 found.differing,
                 framebuffer,
+                ground,
                 &screen[..],
             );
         }
