@@ -138,7 +138,8 @@ fn rust(input: &Input, buffer: &mut [u8]) -> i32 {
     }
 }
 
-/// On a packed framebuffer, whose pixels are 0 and 1, the background is 0.
+/// On a packed framebuffer, whose pixels are 0 and 1, the background is 0. Inlined, so that no call of the benchmark's own is counted.
+#[inline(always)]
 fn ours_on(format: ours::PixelFormat, bg: u8, input: &Input, buffer: &mut [u8]) -> i32 {
     let font = ours::FontRenderer::new_unread(&input.font, input.line_height);
     let text = input.text.as_str();
