@@ -1,11 +1,12 @@
 // A case's numbers, in the order of the file.
-ghost use Rattle.std.specs.Prelude.{◌≡◌, ok_or};
-ghost use Rattle.cases.specs.declared.reader.CaseError.TheVariants.{UnknownCode};
-ghost use Rattle.case_calls.specs.Numbers.{call_of, place_of, IsCase, IsColor, Reads};
+ghost use Rattle.std.specs.Prelude.{◌≡◌};
+ghost use Rattle.cases.specs.Reading.{passed};
+ghost use Rattle.case_calls.specs.Numbers.{behind, call_of, color_at, kind_without, place_of, IsCase};
 
+use crate::request::SIZE;
 use c_codes::{known_alignment, known_anchor, known_flag, known_format};
-use cases::reader::{CaseError, Reader};
-use types::framebuffer::Framebuffer;
+use cases::reader::Reader;
+use types::framebuffer::{Framebuffer, PixelFormat};
 use types::geometry::Point;
 use types::place::Place;
 use types::style::{FontColor, FontStyle, HorizontalAlignment, Placement, VerticalPosition};
@@ -34,37 +35,46 @@ pub enum Drawing {
     Redraw,
 }
 
-impl TryFrom<u32> for Call {
-    type Error = CaseError;
+// A kind without its format.
+fn kind_without(format: PixelFormat, kind: u32) -> u32
+    ensures { result ≡ kind_without format kind }
+{
+    match format {
+        PixelFormat::Bytes => kind,
+        PixelFormat::Packed => kind % FORMAT,
+    }
+}
 
-    ghost try_from_gives = { λ code r. r ≡ ok_or (call_of code) UnknownCode };
+impl From<u32> for Call {
+    ghost from_gives = { λ code call. call ≡ call_of code };
 
     #[tactic(auto, unfolding(crate::specs::Numbers::call_of))]
-    fn try_from(code: u32) -> Result<Call, CaseError> {
+    fn from(code: u32) -> Call {
         match code {
-            0 => Ok(Call::Open),
-            1 => Ok(Call::FontBox),
-            2 => Ok(Call::Measure),
-            3 => Ok(Call::MeasureAligned),
-            4 => Ok(Call::Draw(Drawing::Plain)),
-            5 => Ok(Call::Draw(Drawing::Redraw)),
-            6 => Ok(Call::Draw(Drawing::Aligned)),
-            _ => Err(CaseError::UnknownCode),
+            0 => Call::Open,
+            1 => Call::FontBox,
+            2 => Call::Measure,
+            3 => Call::MeasureAligned,
+            4 => Call::Draw(Drawing::Plain),
+            6 => Call::Draw(Drawing::Aligned),
+            // 5, and what is no call's number
+            _ => Call::Draw(Drawing::Redraw),
         }
     }
 }
 
-fn read_color(cases: &mut Reader) -> Result<FontColor, CaseError>
-    ensures { Reads IsColor 3 cases.old cases.new result }
+fn read_color(cases: &mut Reader) -> FontColor
+    ensures value { result ≡ color_at cases.old }
+    ensures after { cases.new ≡ behind 3 cases.old }
 {
-    let has_background = known_flag(cases.number()?).ok_or(CaseError::UnknownCode)?;
-    let fg = cases.byte()?;
-    let bg = cases.byte()?;
-    Ok(if has_background {
+    let has_background = known_flag(cases.number()).unwrap_or(true);
+    let fg = cases.byte();
+    let bg = cases.byte();
+    if has_background {
         FontColor::WithBackground { fg, bg }
     } else {
         FontColor::Transparent(fg)
-    })
+    }
 }
 
 // A call, and what it is handed beside the font and the text.
@@ -85,31 +95,25 @@ pub struct Case {
 }
 
 impl Case {
-    #[tactic(auto, using(crate::proofs::ShortLaws::short_behind))]
-    pub fn read(cases: &mut Reader) -> Result<Case, CaseError>
-        ensures { Reads IsCase 16 cases.old cases.new result }
+    // No number is refused: a code without a meaning has one all the same.
+    pub fn read(cases: &mut Reader) -> Case
+        ensures value { IsCase cases.old result }
+        ensures after { cases.new ≡ passed SIZE cases.old }
     {
-        let kind = cases.number()?;
-        let call = Call::try_from(kind % SUMS)?;
-        let format = known_format(kind / FORMAT).ok_or(CaseError::UnknownCode)?;
-        let x = cases.signed_number()?;
-        let y = cases.signed_number()?;
-        let vertical_pos = known_anchor(cases.number()?).ok_or(CaseError::UnknownCode)?;
-        let align = known_alignment(cases.number()?);
-        let horizontal_align = align.ok_or(CaseError::UnknownCode)?;
-        let line_height = cases.number()?;
-        let skip = known_flag(cases.number()?);
-        let ignore_unknown_chars = skip.ok_or(CaseError::UnknownCode)?;
-        let color = read_color(cases)?;
-        let width = cases.number()? as usize;
-        let height = cases.number()? as usize;
-        let fill = cases.byte()?;
-        let len = cases.number()? as usize;
-        let old_len = cases.number()? as usize;
-        let background = cases.byte()?;
-        Ok(Case {
-            call,
-            sums: SUMS <= kind % FORMAT,
+        let kind = cases.number();
+        let format = known_format(kind / FORMAT).unwrap_or(PixelFormat::Bytes);
+        let x = cases.signed_number();
+        let y = cases.signed_number();
+        let vertical_pos = known_anchor(cases.number()).unwrap_or(VerticalPosition::Bottom);
+        let align = known_alignment(cases.number()).unwrap_or(HorizontalAlignment::Right);
+        let line_height = cases.number();
+        let ignore_unknown_chars = known_flag(cases.number()).unwrap_or(false);
+        let color = read_color(cases);
+        let width = cases.number() as usize;
+        let height = cases.number() as usize;
+        Case {
+            call: Call::from(kind % SUMS),
+            sums: SUMS <= kind_without(format, kind),
             placement: Placement {
                 position: Point { x, y },
                 line_height,
@@ -119,17 +123,17 @@ impl Case {
                 color,
                 vertical_pos,
             },
-            horizontal_align,
+            horizontal_align: align,
             framebuffer: Framebuffer {
                 format,
                 width,
                 height,
             },
-            fill,
-            len,
-            old_len,
-            background,
-        })
+            fill: cases.byte(),
+            len: cases.number() as usize,
+            old_len: cases.number() as usize,
+            background: cases.byte(),
+        }
     }
 
     // Where and how a redraw's readings are drawn.

@@ -13,6 +13,9 @@ use renderer::render_aligned::render_aligned;
 use std::fmt::Display;
 use types::results::Report;
 
+// How many bytes the numbers of a case take.
+pub const SIZE: usize = 64;
+
 // The answer of a call on a text, and the sums of its lookups' steps where the case wants them.
 fn print_report<R: Print, T, D: Display + Drop, F: Fn(T) -> D>(
     rt: &R,
@@ -29,7 +32,7 @@ fn print_report<R: Print, T, D: Display + Drop, F: Fn(T) -> D>(
     }
 }
 
-// Draws on the framebuffer, which holds before what the case asks for, and prints the answer and the framebuffer.
+// Draws on the framebuffer, which first is filled as the case asks for, and prints the answer and the framebuffer.
 fn answer_drawing<R: Print>(
     rt: &R,
     case: Case,
@@ -65,7 +68,7 @@ fn answer_drawing<R: Print>(
     framebuffers::print(rt, buffer, case.fill, framebuffer);
 }
 
-// Makes the case's call, if it draws on that framebuffer, and prints its answer.
+// Makes the case's call, if it draws on as much of the buffer as the case asks for, and prints its answer.
 pub fn answer<R: Print>(rt: &R, case: Case, font: &[u8], text: &[u8], buffer: &mut [u8]) {
     let Case {
         placement,
@@ -89,6 +92,11 @@ pub fn answer<R: Print>(rt: &R, case: Case, font: &[u8], text: &[u8], buffer: &m
             let report = get_rendered_dimensions_aligned(font, text, placement, anchor, align);
             print_report(rt, sums, report, BoxOrNone);
         }
-        Call::Draw(drawing) => answer_drawing(rt, case, drawing, font, text, buffer),
+        Call::Draw(drawing) => match buffer.get_mut(..case.len) {
+            Some(part) => answer_drawing(rt, case, drawing, font, text, part),
+            None => {
+                let _ = print!(rt; "no room for the framebuffer");
+            }
+        },
     }
 }

@@ -1,1 +1,2 @@
+pub mod CutLaws
 pub mod StringLaws

@@ -1,142 +1,143 @@
 // The file of cases, as tools/cases.py writes it: numbers of four bytes, the low byte first, and byte
-// strings as a count of parts, each a repeat count, a length and the bytes.
-ghost use Rattle.std.specs.Prelude.{◌≡◌, MatchResult};
-ghost use Rattle.std.specs.Int.{w32, from_le_bytes, cast_signed};
-ghost use Rattle.cases.specs.declared.reader.CaseError.TheVariants.{OutOfMemory};
-ghost use Rattle.cases.specs.Reading.{Read, ReadByte};
-ghost use Rattle.cases.specs.Strings.{HasPart, IsPart, HasString, IsString};
+// strings as a count of parts, each a repeat count, a length and the bytes. A file may end anywhere.
+ghost use Rattle.std.specs.Prelude.{◌≡◌, ◌≤◌, length, take};
+ghost use Rattle.std.specs.List.{repeat};
+ghost use Rattle.cases.specs.Reading.{begin_of, byte, is_beyond, number, passed, rest, signed_number};
+ghost use Rattle.cases.specs.Strings.{behind_string, next_part, part, string};
 
-use std::alloc::{AllocError, Global};
-use std::error::Error;
-use std::fmt;
-use std::fmt::Write;
 use std::marker::Model;
 
-// Why a case cannot be answered.
-#[derive(Clone, Copy, Debug, PartialEq, Eq)]
-pub enum CaseError {
-    EndsTooEarly,
-    UnknownCode,
-    OutOfMemory,
-}
+// No file of cases has a place beyond this one.
+const LAST_PLACE: usize = 1_048_576;
 
-impl fmt::Display for CaseError {
-    fn fmt<W: fmt::Write>(&self, f: &mut fmt::Formatter<W>) -> fmt::Result {
-        f.write_str(match self {
-            CaseError::EndsTooEarly => "the file of cases ends too early",
-            CaseError::UnknownCode => "a case has a number without a meaning",
-            CaseError::OutOfMemory => "there is no memory for a case",
-        })
+// Fills the front of the room with the piece, so many times, as far as there is room, and answers how much of it is filled.
+fn fill_repeated(room: &mut [u8], piece: &[u8], times: u32) -> usize
+    ensures most { result ≤ length room.old }
+    ensures filled { take result room.new ≡ take (length room.old) (repeat times piece.now) }
+{
+    let mut filled = 0;
+    for _ in 0..times {
+        // nothing is to come, or there is no room for it
+        if piece.is_empty() || filled == room.len() {
+            break;
+        }
+        let count = piece.len().min(room.len() - filled);
+        room[filled..filled + count].copy_from_slice(&piece[..count]);
+        filled += count;
     }
+    filled
 }
 
-impl Error for CaseError {}
-
-impl From<AllocError> for CaseError {
-    ghost from_gives = { λ _ e. e ≡ OutOfMemory };
-
-    fn from(_error: AllocError) -> CaseError {
-        CaseError::OutOfMemory
-    }
-}
-
-// What is left of the file: clauses see its bytes.
+// The file and how far it is read: clauses see its bytes and the place.
 #[derive(Drop)]
 pub struct Reader<'a> {
-    rest: &'a [u8],
+    file: &'a [u8],
+    next: usize,
 }
 
 impl<'a> Model for Reader<'a> {
-    ghost use Rattle.std.specs.Prelude.{List, ℕ};
+    ghost use Rattle.cases.specs.Reading.{Position};
 
-    ghost Value = { List ℕ };
+    ghost Value = { Position };
 
-    ghost view = { λ r. r.rest.now };
+    ghost view = { λ r. record { file = r.file.now; next = r.next } };
 }
 
 impl<'a> Reader<'a> {
     pub fn new(file: &'a [u8]) -> Reader<'a>
-        ensures { result ≡ file.now }
+        ensures { result ≡ begin_of file.now }
     {
-        Reader { rest: file }
+        Reader { file, next: 0 }
     }
 
-    fn take(&mut self, len: usize) -> Result<&'a [u8], CaseError>
-        ensures { Read len self.old self.new (λ r p. r.now ≡ p) result }
+    // Whether what is read next begins beyond the last place that a file of cases has.
+    pub fn ends_early(&self) -> bool
+        ensures { result ≡ is_beyond self.now }
     {
-        let (piece, rest) = self
-            .rest
-            .split_at_checked(len)
-            .ok_or(CaseError::EndsTooEarly)?;
-        self.rest = rest;
-        Ok(piece)
+        LAST_PLACE < self.next
     }
 
-    fn word(&mut self) -> Result<[u8; 4], CaseError>
-        ensures { Read 4 self.old self.new (λ r p. r ≡ p) result }
+    // The next bytes, as far as the file has them; all of them are passed.
+    fn take(&mut self, len: usize) -> &'a [u8]
+        ensures value { result.now ≡ take len (rest self.old) }
+        ensures after { self.new ≡ passed len self.old }
     {
-        let (word, rest) = self
-            .rest
-            .split_first_chunk::<4>()
-            .ok_or(CaseError::EndsTooEarly)?;
-        self.rest = rest;
-        Ok(*word)
+        let rest = self.file.get(self.next..).unwrap_or(&[]);
+        self.next = self.next.saturating_add(len);
+        &rest[..len.min(rest.len())]
     }
 
-    pub fn number(&mut self) -> Result<u32, CaseError>
-        ensures { Read 4 self.old self.new (λ n p. n ≡ from_le_bytes w32 p) result }
+    // 0 where the file does not have all four bytes.
+    pub fn number(&mut self) -> u32
+        ensures value { result ≡ number self.old }
+        ensures after { self.new ≡ passed 4 self.old }
     {
-        Ok(u32::from_le_bytes(self.word()?))
+        let word = self.take(4);
+        word.first_chunk::<4>()
+            .map_or(0, |word| u32::from_le_bytes(*word))
     }
 
-    pub fn signed_number(&mut self) -> Result<i32, CaseError>
-        ensures { Read 4 self.old self.new (λ n p. n ≡ cast_signed w32 (from_le_bytes w32 p)) result }
+    pub fn signed_number(&mut self) -> i32
+        ensures value { result ≡ signed_number self.old }
+        ensures after { self.new ≡ passed 4 self.old }
     {
-        Ok(self.number()?.cast_signed())
+        self.number().cast_signed()
     }
 
-    // A number that is a byte.
-    pub fn byte(&mut self) -> Result<u8, CaseError>
-        ensures { ReadByte self.old self.new result }
+    // The low byte of a number.
+    pub fn byte(&mut self) -> u8
+        ensures value { result ≡ byte self.old }
+        ensures after { self.new ≡ passed 4 self.old }
     {
-        u8::try_from(self.number()?).map_err(|_| CaseError::UnknownCode)
+        (self.number() % 256) as u8
     }
 
-    // A part of a byte string, as often as it stands there.
-    fn part(&mut self, alloc: Global) -> Result<Vec<u8>, CaseError>
-        ensures { MatchResult result (λ v. IsPart self.old v.items self.new) (λ e. HasPart self.old → e ≡ OutOfMemory) }
+    // A part of a byte string: its bytes, as often as it says. Answers how much of the room is filled.
+    fn part(&mut self, room: &mut [u8]) -> usize
+        ensures most { result ≤ length room.old }
+        ensures filled { take result room.new ≡ take (length room.old) (part self.old) }
+        ensures after { self.new ≡ next_part self.old }
     {
-        let times = self.number()?;
-        let len = self.number()?;
-        let piece = self.take(len as usize)?;
-        Ok(piece.repeat(alloc, times as usize)?)
+        let times = self.number();
+        let size = self.number();
+        let piece = self.take(size as usize);
+        fill_repeated(room, piece, times)
     }
 
-    // A byte string.
-    pub fn bytes(&mut self, alloc: Global) -> Result<Vec<u8>, CaseError>
-        ensures { MatchResult result (λ v. IsString self.old v.items self.new) (λ e. HasString self.old → e ≡ OutOfMemory) }
+    // A byte string, cut at the room. Where a part begins beyond the last place it is empty, and the file begins anew.
+    pub fn bytes<'b>(&mut self, room: &'b mut [u8]) -> &'b [u8]
+        ensures value { result.now ≡ string (length room.old) self.old }
+        ensures after { self.new ≡ behind_string self.old }
     {
-        let mut out = Vec::new(alloc);
-        for _ in 0..self.number()? {
-            out.extend_from_slice(&self.part(alloc)?)?;
+        let mut len = 0;
+        for _ in 0..self.number() {
+            if self.ends_early() {
+                self.next = 0;
+                return &room[..0];
+            }
+            len += self.part(&mut room[len..]);
         }
-        Ok(out)
+        &room[..len]
     }
 }
 
 #[cfg(test)]
 mod tests {
     use super::*;
-    use std::test::Fail;
 
     // two parts, "ab" three times and "c" once, and a number behind them
     #[test]
-    fn byte_string_is_read(rt: HostRuntime) -> Result<(), Fail> {
+    fn byte_string_is_read(rt: HostRuntime) {
         let file = b"\x02\0\0\0\x03\0\0\0\x02\0\0\0ab\x01\0\0\0\x01\0\0\0c\x07\0\0\0";
         let mut reader = Reader::new(file);
-        let string = reader.bytes(rt.alloc())?;
-        assert_eq!(rt; string.as_slice(), b"abababc".as_slice());
-        assert_eq!(rt; reader.number()?, 7);
-        Ok(())
+        let mut room = [0; 9];
+        let string = reader.bytes(&mut room);
+        assert_eq!(rt; string, b"abababc".as_slice());
+        assert_eq!(rt; reader.number(), 7);
+        // the file ends here
+        assert_eq!(rt; reader.number(), 0);
+        let mut small = [0; 4];
+        let cut = Reader::new(file).bytes(&mut small);
+        assert_eq!(rt; cut, b"abab".as_slice());
     }
 }

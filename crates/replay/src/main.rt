@@ -4,42 +4,76 @@
 
 use case_calls::case::Case;
 use case_calls::request;
-use cases::reader::{CaseError, Reader};
-use std::alloc::Global;
-use std::fs;
+use cases::reader::Reader;
 
-// One case: its label and what its call answers.
-fn replay<R: Print>(rt: &R, alloc: Global, cases: &mut Reader) -> Result<(), CaseError> {
-    let label = cases.bytes(alloc)?;
-    let font = cases.bytes(alloc)?;
-    let text = cases.bytes(alloc)?;
-    let case = Case::read(cases)?;
-    let mut framebuffer = vec![in alloc; 0; case.len]?;
-    printing::text(rt, &label);
-    let _ = print!(rt; ": ");
-    request::answer(rt, case, &font, &text, &mut framebuffer);
-    let _ = println!(rt);
-    Ok(())
+// The file of cases ends before the last of them.
+#[derive(Clone, Copy, Debug, PartialEq, Eq)]
+struct EndsEarly;
+
+// What a case is read into, and drawn on.
+#[derive(Drop)]
+struct Rooms {
+    label: [u8; 128],
+    font: [u8; 1_048_577],
+    text: [u8; 4200],
+    framebuffer: [u8; 65_600],
 }
 
-fn replay_all<R: Print>(rt: &R, alloc: Global, file: &[u8]) -> Result<(), CaseError> {
+impl Rooms {
+    fn new() -> Rooms {
+        Rooms {
+            label: [0; 128],
+            font: font_file::buffer(),
+            text: [0; 4200],
+            framebuffer: [0; 65_600],
+        }
+    }
+}
+
+fn goes_on(cases: &Reader) -> Result<(), EndsEarly> {
+    if cases.ends_early() {
+        Err(EndsEarly)
+    } else {
+        Ok(())
+    }
+}
+
+// A byte string of a case, where the file goes on behind it.
+fn string<'a>(cases: &mut Reader, room: &'a mut [u8]) -> Result<&'a [u8], EndsEarly> {
+    let string = cases.bytes(room);
+    goes_on(cases)?;
+    Ok(string)
+}
+
+// One case: its label and what its call answers.
+fn replay<R: Print>(rt: &R, cases: &mut Reader, rooms: &mut Rooms) -> Result<(), EndsEarly> {
+    let label = string(cases, &mut rooms.label)?;
+    let font = string(cases, &mut rooms.font)?;
+    let text = string(cases, &mut rooms.text)?;
+    printing::text(rt, label);
+    let _ = print!(rt; ": ");
+    let case = Case::read(cases);
+    request::answer(rt, case, font, text, &mut rooms.framebuffer);
+    let _ = println!(rt);
+    goes_on(cases)
+}
+
+fn replay_all<R: Print>(rt: &R, file: &[u8], rooms: &mut Rooms) -> Result<(), EndsEarly> {
     let mut cases = Reader::new(file);
-    for _ in 0..cases.number()? {
-        replay(rt, alloc, &mut cases)?;
+    for _ in 0..cases.number() {
+        replay(rt, &mut cases, rooms)?;
     }
     Ok(())
 }
 
 fn main(rt: HostRuntime) {
-    let path = "cases.bin";
-    let file = match fs::read(&rt, path) {
-        Ok(file) => file,
-        Err(error) => {
-            system::fail(&rt, path.as_bytes(), error);
-            return;
-        }
+    let mut buffer = font_file::buffer();
+    let mut rooms = Rooms::new();
+    let Some(mut file) = system::opened(&rt, b"cases.bin") else {
+        return;
     };
-    if let Err(error) = replay_all(&rt, rt.alloc(), &file) {
-        let _ = println!(rt; "{error}");
+    let file = system::read_full(&mut file, &mut buffer);
+    if let Err(EndsEarly) = replay_all(&rt, file, &mut rooms) {
+        let _ = println!(rt; "the file of cases ends too early");
     }
 }
