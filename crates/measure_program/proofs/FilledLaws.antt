@@ -11,9 +11,13 @@ use Rattle.measure_line.specs.Measured.{by_program, measure_opened, measured_by_
 use Rattle.measure_line.proofs.MeasuredLaws.{font_too_long}
 use Rattle.measure_program.specs.Filled.{Filled}
 
--- Whatever was read, some file fills it: the contract of `measure_read` is never empty.
+-- Whatever there was room for, some file fills it.
 pub some_file : (room : ℕ) (bytes : List ℕ) → length bytes ≤ room → Filled room bytes bytes
 some_file room bytes h = sym (take_all room bytes h)
+
+-- So it is of a buffer, whatever it holds: the contract of `measure_buffers` is never empty.
+pub some_file_read : (buffer : List ℕ) (n : ℕ) → Filled (length buffer) (take n buffer) (take n buffer)
+some_file_read buffer n = some_file (length buffer) (take n buffer) (omega (arith, length-take n buffer))
 
 text_too_long : (font : List ℕ) (r : Request) → 4096 < length r.text → measure (u8g2 font) r ≡ unless_refused (font_causes font) (refused 4 0)
 unfolding measure

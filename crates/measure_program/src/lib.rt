@@ -2,7 +2,7 @@
 // the line.
 #![tactic(auto)]
 
-ghost use Rattle.std.specs.Prelude.{◌≡◌, ◌≤◌, List, ℕ, length};
+ghost use Rattle.std.specs.Prelude.{◌≡◌, ◌≤◌, List, ℕ, length, take};
 ghost use Rattle.measure_line.specs.Measured.{measuring_line};
 ghost use Rattle.measure_program.specs.Filled.{Filled};
 
@@ -11,27 +11,28 @@ use measure_line::measure_line;
 use numbers::text::Text;
 use std::io::Read;
 use std::rt::Files;
-use system::{open_read, read_full};
+use system::{open_read, read_start};
 
 // Room for a byte more than is allowed, so that what is too long is seen.
 const FONT_ROOM: usize = 65_537;
 
 const TEXT_ROOM: usize = 4_097;
 
-// What can be read of the font. A file that is missing or cannot be read is an empty font.
-fn read_font<'a, R: Files>(rt: &R, path: &[u8], buffer: &'a mut [u8; FONT_ROOM]) -> &'a [u8]
-    ensures { length result.now ≤ FONT_ROOM }
+// Reads the font to the buffer's start, and answers how many bytes there are. A file that is missing or cannot be read is an
+// empty font.
+fn read_font<R: Files>(rt: &R, path: &[u8], font: &mut [u8; FONT_ROOM]) -> usize
+    ensures { result ≤ FONT_ROOM }
 {
     match open_read(rt, path) {
-        Ok(mut file) => read_full(&mut file, buffer),
-        Err(_) => &[],
+        Ok(mut file) => read_start(&mut file, font).0,
+        Err(_) => 0,
     }
 }
 
-fn read_text<'a, I: Read>(input: &mut I, buffer: &'a mut [u8; TEXT_ROOM]) -> &'a [u8]
-    ensures { length result.now ≤ TEXT_ROOM }
+fn read_text<I: Read>(input: &mut I, text: &mut [u8; TEXT_ROOM]) -> usize
+    ensures { result ≤ TEXT_ROOM }
 {
-    read_full(input, buffer)
+    read_start(input, text).0
 }
 
 // The line of a font file and an input, each of any length. `font` and `text` are what there was room for.
@@ -43,12 +44,26 @@ fn measure_read(font: &[u8], text: &[u8]) -> Text<LINE_ROOM>
     measure_line(font, text)
 }
 
+// The same of the buffers themselves, which have that room: the first n bytes of `font` and k of `text` are what could be read.
+fn measure_buffers(
+    font: &[u8; FONT_ROOM],
+    n: usize,
+    text: &[u8; TEXT_ROOM],
+    k: usize,
+) -> Text<LINE_ROOM>
+    requires { n ≤ length font.now × k ≤ length text.now }
+    ensures { (file input : List ℕ) → Filled (length font.now) file (take n font.now)
+        → Filled (length text.now) input (take k text.now) → result ≡ measuring_line file input }
+{
+    measure_read(&font[..n], &text[..k])
+}
+
 // Measures the text that comes from `input` in the font of that path.
 pub fn measure_file<R: Files + Print, I: Read>(rt: &R, path: &[u8], input: &mut I) {
     let mut font = [0u8; FONT_ROOM];
-    let font = read_font(rt, path, &mut font);
+    let n = read_font(rt, path, &mut font);
     let mut text = [0u8; TEXT_ROOM];
-    let text = read_text(input, &mut text);
-    let line = measure_read(font, text);
+    let k = read_text(input, &mut text);
+    let line = measure_buffers(&font, n, &text, k);
     let _ = rt.write_all(line.as_bytes());
 }

@@ -8,7 +8,7 @@ mod reading;
 
 pub use command_line::{Args, Word, arguments};
 pub use files::{open_overwrite, open_read, opened};
-pub use reading::{Stopped, fill, read_full};
+pub use reading::{Stopped, fill, read_full, read_start};
 use std::io::Error;
 use std::str;
 
