@@ -1,9 +1,9 @@
 -- The pixels of a framebuffer, each in a byte of its own. Assumes nothing.
-use Rattle.integers.proofs.Prelude.{◌≡◌, sym, ap, ◌∙◌, List, ℕ, zero, suc, ◌*◌, ◌/◌, ◌%◌, ◌^◌, ◌≤◌, ◌<◌, div-one, div-add-mod', mod-lt}
+use Rattle.integers.proofs.Prelude.{◌≡◌, sym, ap, ◌∙◌, List, ℕ, zero, suc, ◌+◌, ◌*◌, ◌/◌, ◌%◌, ◌^◌, ◌≤◌, ◌<◌, div-one, div-add-mod', mod-lt}
 use Rattle.integers.proofs.Prelude.{zero-add, one-add}
 use Rattle.integers.proofs.Prelude.{mul-le-mul_right, dec_lt, arith, length, get_or, replicate, length-replicate, ext_get_or}
 use lib.Pow.{shr-shr}
-use Rattle.definitions.specs.Vocabulary.{Framebuffer}
+use Rattle.definitions.specs.Vocabulary.{Framebuffer, Bytes}
 use Rattle.definitions.specs.Bits.{low_bits}
 use Rattle.definitions.specs.Framebuffer.{byte_at, pixel_at, unpacked, BufferFits}
 use Rattle.definitions.proofs.ByteLaws.{length_map_at, getd_map_at}
@@ -38,3 +38,18 @@ module _ (p : Framebuffer) (buffer : List ℕ) where
   pub all_unpacked : (pixels : List ℕ) → length pixels ≡ p.height * p.width
       → ((i : ℕ) → i < length pixels → get_or pixels i 0 ≡ pixel_at p buffer (i % p.width) (i / p.width)) → pixels ≡ unpacked p buffer
   all_unpacked pixels long each = ext_get_or 0 pixels (unpacked p buffer) (long ∙ sym length_unpacked) (λ i h. each i h ∙ sym (unpacked_at i (omega (arith, long))))
+
+-- In bytes they are the buffer.
+module _ (p : Framebuffer) (buffer : List ℕ) (bytes : p.format ≡ Bytes) (f : BufferFits (length buffer) p) where
+  pub bytes_long : length buffer ≡ p.height * p.width
+  bytes_long = rw bytes at f.area ∙ ap (λ (n : ℕ). n * p.width) (div-one p.height)
+
+  pub bytes_unpacked : buffer ≡ unpacked p buffer
+  bytes_unpacked = all_unpacked p buffer buffer bytes_long each
+    where
+      each : (i : ℕ) → i < length buffer → get_or buffer i 0 ≡ pixel_at p buffer (i % p.width) (i / p.width)
+      each i h =
+          let e : i / p.width / 1 * p.width + i % p.width ≡ i =
+          ap (λ (n : ℕ). n * p.width + i % p.width) (div-one (i / p.width)) ∙ div-add-mod' i p.width
+          in
+          rw (bytes, e)

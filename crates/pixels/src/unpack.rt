@@ -29,13 +29,25 @@ fn pixel_at(framebuffer: Framebuffer, buffer: &[u8], i: usize) -> u8
     in_byte(framebuffer.format, row % n, byte)
 }
 
-pub fn unpack(framebuffer: Framebuffer, buffer: &[u8], pixels: &mut [u8])
+fn unpack_each(framebuffer: Framebuffer, buffer: &[u8], pixels: &mut [u8])
     requires { BufferFits (length buffer.now) framebuffer
         × (length pixels.old ≡ framebuffer.height * framebuffer.width) }
     ensures { pixels.new ≡ unpacked framebuffer buffer.now }
 {
     for (i, pixel) in pixels.iter_mut().enumerate() {
         *pixel = pixel_at(framebuffer, buffer, i);
+    }
+}
+
+// In bytes the buffer holds the pixels as they are.
+pub fn unpack(framebuffer: Framebuffer, buffer: &[u8], pixels: &mut [u8])
+    requires { BufferFits (length buffer.now) framebuffer
+        × (length pixels.old ≡ framebuffer.height * framebuffer.width) }
+    ensures { pixels.new ≡ unpacked framebuffer buffer.now }
+{
+    match framebuffer.format {
+        PixelFormat::Bytes => pixels.copy_from_slice(buffer),
+        PixelFormat::Packed => unpack_each(framebuffer, buffer, pixels),
     }
 }
 

@@ -10,7 +10,7 @@ use Rattle.definitions.specs.Refusals.{Outcome, success, refused, Cause, any_app
 use Rattle.definitions.specs.Header.{font_causes}
 use Rattle.definitions.specs.Utf8.{table, row_of, first_character, decode_from}
 use Rattle.definitions.specs.Font.{u8g2}
-use Rattle.definitions.specs.Framebuffer.{unpacked, framebuffer_cause}
+use Rattle.definitions.specs.Framebuffer.{unpacked, framebuffer_cause, BufferFits}
 use Rattle.definitions.specs.Limits.{text_cause, position_cause, color_off, color_cause, background_cause}
 use Rattle.angles.specs.AngleText.{degrees_then, angle_text}
 use Rattle.redraw_checks.specs.Drawing.{asked, drawn, after, ground_of}
@@ -25,14 +25,15 @@ use Rattle.redraw.specs.Redraw.{whole_or, reading_on, redrawn, redrawn_buffer, t
 use Rattle.redraw.specs.Steps.{Setting, setting_of, Reading, reading_of, in_setting, ground_in, Screen, alone, showing, ClearFor}
 use Rattle.redraw.proofs.RedrawLaws.{drawn_measured, causes_of, drawn_early, drawn_late}
 use Rattle.buffers.proofs.DifferenceLaws.{none_if_same}
-use Rattle.redraw.proofs.StepsLaws.{Sized, bare_sized, answers_alone, sized_next, length_left, Shown, bare_shown, nothing_shown, step_shows}
+use Rattle.redraw.proofs.StepsLaws.{Sized, bare_sized, answers_alone, sized_next, length_left, length_reading, Shown, bare_shown, nothing_shown, step_shows}
 use Rattle.faulty_step.specs.Fault.{to_fill, step_buffer}
 use Rattle.readings.specs.declared.values.Found.{Found}
 use Rattle.sheet_ground.specs.Readings.{reading_text, reading}
 use Rattle.sheet_ground.specs.Ground.{ClearTo}
 use Rattle.faulty_step.proofs.NarrowLaws.{faultless}
-use Rattle.readings.specs.Sheet.{SheetState, shown_text, screen_of, answer_on, screen_after, wanted, differing, screen_at}
+use Rattle.readings.specs.Sheet.{SheetState, shown_text, screen_of, answer_on, screen_after, wanted, compared, apart, differing, screen_at}
 use Rattle.readings.specs.Sheet.{Finds, totals_to, alone_to, Sound}
+use Rattle.readings.proofs.ComparedLaws.{apart_unpacked}
 
 -- ---- the texts
 
@@ -150,6 +151,17 @@ module _ (narrow : Bool) (font : List ℕ) (place : Place) (ground : List ℕ) (
   all_known zero = start_known
   all_known (suc k) = next_known (all_known k) k
 
+  -- Where the ground is as long as the framebuffer, the pixels that differ are those that differ unpacked, whatever the format.
+  pub differing_unpacked : BufferFits (length ground) place.framebuffer → (k : ℕ)
+      → differing font place ground (before (suc k)) k
+      ≡ differences (unpacked place.framebuffer (before (suc k)).bytes) (unpacked place.framebuffer (wanted font place ground k))
+  differing_unpacked fits k =
+      let screen : length (before (suc k)).bytes ≡ length ground = (all_known (suc k)).sized.as_long in
+      let shown : length (wanted font place ground k) ≡ length ground = length_reading setting ground (in_color k) ground in
+      let p = place.framebuffer in
+      apart_unpacked p (before (suc k)).bytes (wanted font place ground k)
+      (subst (λ (n : ℕ). BufferFits n p) (sym screen) fits) (subst (λ (n : ℕ). BufferFits n p) (sym shown) fits)
+
   -- ---- a reading that one of the causes 1 to 6 and 9 refuses
 
   abbrev causes : ℕ → List Cause
@@ -212,8 +224,9 @@ module _ (narrow : Bool) (font : List ℕ) (place : Place) (ground : List ℕ) (
 
     none_differing : (k : ℕ) → k < 901 → differing font place ground (before (suc k)) k ≡ 0
     none_differing k h =
-        ap (λ (l : List ℕ). differences (unpacked place.framebuffer l) (unpacked place.framebuffer (wanted font place ground k))) (as_wanted k h)
-        ∙ none_if_same (unpacked place.framebuffer (wanted font place ground k))
+        let p = place.framebuffer in
+        ap (λ (l : List ℕ). apart p l (wanted font place ground k)) (as_wanted k h)
+        ∙ none_if_same (compared p.format p (wanted font place ground k))
 
   -- ---- the totals
 

@@ -1,8 +1,8 @@
 -- The sheet: each reading drawn over the one before by the step of the gauge, and the screen compared with what it is to show.
 use Rattle.std.specs.Prelude.{◌≡◌, Bool, false, List, [], ℕ, zero, suc, ◌+◌, ◌<◌, Option, None, Some}
 use Rattle.integers.specs.Integers.{pick}
-use Rattle.definitions.specs.Vocabulary.{RenderedDimensions, Place}
-use Rattle.definitions.specs.Framebuffer.{unpacked}
+use Rattle.definitions.specs.Vocabulary.{Framebuffer, PixelFormat, Bytes, Packed, RenderedDimensions, Place}
+use Rattle.definitions.specs.Framebuffer.{unpacked, BufferFits}
 use Rattle.definitions.specs.Refusals.{Outcome, outcome}
 use Rattle.redraw_checks.specs.Drawing.{drawn, ground_of}
 use Rattle.buffers.specs.Differences.{differences}
@@ -44,9 +44,23 @@ screen_after narrow font place s k = record {
 abbrev pub wanted : List ℕ → Place → List ℕ → ℕ → List ℕ
 wanted font place ground k = reading_on font (reading place k) (ground_of place ground)
 
+-- the pixels that are compared: packed ones are unpacked, and in bytes each byte is one, however many there are
+abbrev pub compared : PixelFormat → Framebuffer → List ℕ → List ℕ
+compared Bytes p buffer = buffer
+compared Packed p buffer = unpacked p buffer
+
+-- in how many of them two buffers differ
+abbrev pub apart : Framebuffer → List ℕ → List ℕ → ℕ
+apart p a b = differences (compared p.format p a) (compared p.format p b)
+
+-- What comparing asks of a buffer: only unpacking goes by the framebuffer's size.
+abbrev pub Comparable : PixelFormat → ℕ → Framebuffer → Type 0
+Comparable Bytes n p = Unit {0}
+Comparable Packed n p = BufferFits n p
+
 -- the pixels in which it differs from that
 abbrev pub differing : List ℕ → Place → List ℕ → SheetState → ℕ → ℕ
-differing font place ground s k = let p = place.framebuffer in differences (unpacked p s.bytes) (unpacked p (wanted font place ground k))
+differing font place ground s k = apart place.framebuffer s.bytes (wanted font place ground k)
 
 -- the screen before reading k
 unfoldable pub screen_at : Bool → List ℕ → Place → List ℕ → ℕ → SheetState

@@ -8,7 +8,7 @@ ghost use Rattle.redraw.specs.Redraw.{redrawn, taken};
 ghost use Rattle.redraw_checks.specs.Drawing.{ground_of};
 ghost use Rattle.faulty_step.specs.Fault.{step_buffer};
 ghost use Rattle.sheet_ground.specs.Readings.{reading};
-ghost use Rattle.readings.specs.Sheet.{shown_text, screen_of, wanted, Finds};
+ghost use Rattle.readings.specs.Sheet.{shown_text, screen_of, wanted, apart, Comparable, Finds};
 
 use crate::check::draw_alone;
 use crate::values::Found;
@@ -20,7 +20,7 @@ use pixels::unpack::unpack;
 use redraw::reading::is_taken;
 use sheet_ground::texts::reading_text;
 use types::error::Error;
-use types::framebuffer::Framebuffer;
+use types::framebuffer::{Framebuffer, PixelFormat};
 use types::geometry::RenderedDimensions;
 use types::place::Place;
 
@@ -55,8 +55,9 @@ fn draw_over(
     )
 }
 
-// How many pixels of two buffers of the framebuffer differ.
-fn differing(framebuffer: Framebuffer, a: &[u8], b: &[u8]) -> usize
+// How many pixels of two buffers differ, unpacked. Not inlined: a step in bytes takes no stack for it.
+#[inline(never)]
+fn unpacked_differing(framebuffer: Framebuffer, a: &[u8], b: &[u8]) -> usize
     requires { BufferFits (length a.now) framebuffer × (length b.now ≡ length a.now) }
     ensures { result ≡ differences (unpacked framebuffer a.now) (unpacked framebuffer b.now) }
 {
@@ -68,6 +69,17 @@ fn differing(framebuffer: Framebuffer, a: &[u8], b: &[u8]) -> usize
     count_differences(&first[..n], &second[..n])
 }
 
+// How many pixels of two buffers of one framebuffer differ. In bytes they are compared as they are.
+fn differing(framebuffer: Framebuffer, a: &[u8], b: &[u8]) -> usize
+    requires { Comparable framebuffer.format (length a.now) framebuffer × (length b.now ≡ length a.now) }
+    ensures { result ≡ apart framebuffer a.now b.now }
+{
+    match framebuffer.format {
+        PixelFormat::Bytes => count_differences(a, b),
+        PixelFormat::Packed => unpacked_differing(framebuffer, a, b),
+    }
+}
+
 // How many pixels of the screen are not those of reading k drawn alone on the ground, whole or not at all.
 fn compare(
     font: &[u8],
@@ -77,10 +89,9 @@ fn compare(
     screen: &[u8],
     alone: &mut [u8],
 ) -> usize
-    requires { BufferFits (length screen.now) place.framebuffer
+    requires { Comparable place.framebuffer.format (length screen.now) place.framebuffer
         × (length ground.now ≡ length alone.old) × (length screen.now ≡ length alone.old) }
-    ensures { result ≡ differences (unpacked place.framebuffer screen.now)
-        (unpacked place.framebuffer (wanted font.now place ground.now k)) }
+    ensures { result ≡ apart place.framebuffer screen.now (wanted font.now place ground.now k) }
 {
     let text = reading_text(k);
     draw_alone(font, text.as_bytes(), place, ground, alone);
@@ -109,7 +120,7 @@ pub fn step(
     screen: &mut [u8],
     alone: &mut [u8],
 ) -> Found
-    requires { BufferFits (length screen.old) trial.place.framebuffer
+    requires { Comparable trial.place.framebuffer.format (length screen.old) trial.place.framebuffer
         × (length ground.now ≡ length alone.old) × (length screen.old ≡ length alone.old) }
     ensures { Finds trial.narrow font.now trial.place ground.now
         (screen_of old screen.old) k result screen.new }

@@ -1,9 +1,7 @@
--- All pixels are written. Assumes nothing.
-use Rattle.integers.proofs.Prelude.{arith}
-use Rattle.pixels.proofs.UnpackedLaws.{all_unpacked}
+-- In bytes the buffer is copied. Assumes nothing.
+use Rattle.integers.proofs.Prelude.{◌∙◌}
+use Rattle.pixels.proofs.UnpackedLaws.{bytes_unpacked}
 use Rattle.pixels.proofs.unpack.unpack.Goals as goal
 
-pub returns : goal.returns
-returns c =
-    let a = c.args in
-    all_unpacked a.framebuffer a.buffer.now c.loop-i.pixels (omega (arith, c.loop-i.auto.pixels, c.requires.1)) (λ k h. c.loop-i.invariant k (omega arith))
+pub returns-in-Bytes : goal.returns-in-Bytes
+returns-in-Bytes c = c.copy_from_slice.ensures.after ∙ bytes_unpacked c.args.framebuffer c.args.buffer.now c.in-Bytes.is c.requires.0
