@@ -1,25 +1,28 @@
 // The file of pictures: a line with the framebuffer's width and height, and then for each reading a character that says what is
-// seen of it, and the framebuffer's pixels as grey values.
+// seen of it, and the framebuffer's pixels as grey values. Each write is tried, whatever came of those before.
 ghost use Rattle.std.specs.Prelude.{◌≡◌, length};
 ghost use Rattle.definitions.specs.Framebuffer.{BufferFits};
 
 use pixels::unpack::{to_greys, unpack};
 use sight::Sight;
-use std::fs::File;
 use std::io::{Result, Write};
-use std::rt::Files;
-use types::framebuffer::Framebuffer;
+use types::framebuffer::{Framebuffer, PixelFormat};
 
 // The grey of packed rubbish, the darkest that there is in bytes.
 const RUBBISH: u8 = 96;
 
-// The file, with its first line.
-pub fn create<R: Files>(rt: &R, framebuffer: Framebuffer) -> Result<R::File> {
-    let mut file = File::create(rt, "sheet.cells")?;
-    let width = framebuffer.width;
-    let height = framebuffer.height;
-    writeln!(file, "{width} {height}")?;
-    Ok(file)
+// The first line, if there is a file. What failed first is the answer.
+pub fn write_head<W: Write>(cells: &mut Result<W>, framebuffer: Framebuffer) -> Result<()> {
+    match cells {
+        Ok(file) => {
+            let width = write!(file, "{}", framebuffer.width);
+            let space = file.write_all(b" ");
+            let height = write!(file, "{}", framebuffer.height);
+            let end = file.write_all(b"\n");
+            width.and(space).and(height).and(end)
+        }
+        Err(error) => Err(*error),
+    }
 }
 
 // A difference is what the eye is to fall on, so it comes before all else.
@@ -33,7 +36,7 @@ fn letter(sight: Option<Sight>, differing: usize) -> u8 {
     }
 }
 
-// What is black on the ground too is no reading's. (In bytes the ground has no black.)
+// What is black on the ground too is no reading's.
 fn shade(pixel: u8, ground: u8) -> u8 {
     if pixel == 0 && ground == 0 {
         RUBBISH
@@ -42,7 +45,9 @@ fn shade(pixel: u8, ground: u8) -> u8 {
     }
 }
 
-fn write_pixels<W: Write>(
+// The pixels of a packed screen, as grey values. Not inlined: a screen in bytes takes no stack for it.
+#[inline(never)]
+fn write_packed<W: Write>(
     file: &mut W,
     framebuffer: Framebuffer,
     ground: &[u8],
@@ -62,6 +67,21 @@ fn write_pixels<W: Write>(
     file.write_all(&pixels[..n])
 }
 
+// In bytes the screen is written as it is: rubbish there is 96 to 196 and background 255, so that no black is the ground's.
+fn write_pixels<W: Write>(
+    file: &mut W,
+    framebuffer: Framebuffer,
+    ground: &[u8],
+    screen: &[u8],
+) -> Result<()>
+    requires { BufferFits (length screen.now) framebuffer × (length ground.now ≡ length screen.now) }
+{
+    match framebuffer.format {
+        PixelFormat::Bytes => file.write_all(screen),
+        PixelFormat::Packed => write_packed(file, framebuffer, ground, screen),
+    }
+}
+
 // One reading more, if there is a file.
 pub fn write_cell<W: Write>(
     cells: &mut Result<W>,
@@ -75,8 +95,9 @@ pub fn write_cell<W: Write>(
 {
     match cells {
         Ok(file) => {
-            file.write_all(&[letter(sight, differing)])?;
-            write_pixels(file, framebuffer, ground, screen)
+            let marked = file.write_all(&[letter(sight, differing)]);
+            let shown = write_pixels(file, framebuffer, ground, screen);
+            marked.and(shown)
         }
         Err(error) => Err(*error),
     }

@@ -3,7 +3,7 @@ ghost use Rattle.std.specs.Prelude.{length};
 ghost use Rattle.sheet_extent.specs.Extent.{place_for};
 ghost use Rattle.sheet_program.specs.Sheets.{Buffers, LargeBuffers, SheetOf};
 
-use crate::cells;
+use crate::cells::write_head;
 use crate::run::run;
 use crate::values::Sheet;
 use faulty_step::Trial;
@@ -12,6 +12,7 @@ use sheet_extent::place::place_for;
 use sheet_extent::values::Options;
 use sheet_ground::ground::lay_ground;
 use sheet_report::{print_totals, print_verdict};
+use std::fs::File;
 use std::rt::Files;
 use types::place::Place;
 
@@ -30,9 +31,14 @@ fn fill_sheet<R: Files + Print>(
 {
     lay_ground(font, place, &mut ground[..]);
     screen.copy_from_slice(&ground[..]);
-    let mut cells = cells::create(rt, place.framebuffer);
+    let mut cells = File::create(rt, "sheet.cells");
+    let begun = write_head(&mut cells, place.framebuffer);
     let trial = Trial { place, narrow };
-    run(rt, font, trial, &ground[..], screen, alone, &mut cells)
+    let sheet = run(rt, font, trial, &ground[..], screen, alone, &mut cells);
+    Sheet {
+        totals: sheet.totals,
+        written: begun.and(sheet.written),
+    }
 }
 
 // The same on buffers for the largest framebuffers, of 256 × 256 pixels. Whatever the font, the anchor, the alignment and the place,
