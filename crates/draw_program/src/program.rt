@@ -1,5 +1,6 @@
 // The program: draws a text in the font font.bin and prints the answer and the picture.
 ghost use Rattle.std.specs.Prelude.{IfSome, length};
+ghost use Rattle.definitions.specs.Vocabulary.{Packed};
 ghost use Rattle.picture_text.specs.Marks.{IsPicture};
 ghost use Rattle.draw_program.specs.Shown.{Held, Showable};
 
@@ -12,6 +13,7 @@ use pixels::unpack::{to_greys, unpack};
 use printing::{BoxOrNone, Dimensions};
 use std::io::Read;
 use std::rt::Files;
+use types::framebuffer::PixelFormat;
 use types::geometry::{RenderedDimensions, Size};
 use types::style::HorizontalAlignment;
 
@@ -34,7 +36,31 @@ fn show_pixels<R: Files + Print + Eprint + Alloc>(rt: &R, size: Size, pgm: bool,
     print_rows(rt, pixels, size.width as usize, size.height as usize);
 }
 
-// The picture: of the framebuffer's pixels, as grey values, the rows of the text's box.
+// The pixels of a packed framebuffer, as grey values: the rows of the text's box. Not inlined: drawing in bytes takes no stack for it.
+#[inline(never)]
+fn show_packed<R: Files + Print + Eprint + Alloc>(
+    rt: &R,
+    size: Size,
+    pgm: bool,
+    buffer: &[u8; 65536],
+)
+    requires { Held Packed size }
+{
+    let width = size.width as usize;
+    let height = size.height as usize;
+    let framebuffer = room_for(PixelFormat::Packed, width, height);
+    let mut pixels = [0u8; 65536];
+    let pixels = &mut pixels[..framebuffer.height * width];
+    unpack(
+        framebuffer,
+        &buffer[..size_in_bytes(framebuffer)],
+        &mut pixels[..],
+    );
+    to_greys(PixelFormat::Packed, &mut pixels[..]);
+    show_pixels(rt, size, pgm, &pixels[..height * width]);
+}
+
+// The picture. In bytes the pixels are grey values, and the framebuffer is the text's box.
 fn show_box<R: Files + Print + Eprint + Alloc>(
     rt: &R,
     size: Size,
@@ -43,18 +69,13 @@ fn show_box<R: Files + Print + Eprint + Alloc>(
 )
     requires { Held options.format size }
 {
-    let width = size.width as usize;
-    let height = size.height as usize;
-    let framebuffer = room_for(options.format, width, height);
-    let mut pixels = [0u8; 65536];
-    let pixels = &mut pixels[..framebuffer.height * width];
-    unpack(
-        framebuffer,
-        &buffer[..size_in_bytes(framebuffer)],
-        &mut pixels[..],
-    );
-    to_greys(options.format, &mut pixels[..]);
-    show_pixels(rt, size, options.pgm, &pixels[..height * width]);
+    match options.format {
+        PixelFormat::Bytes => {
+            let area = size.height as usize * size.width as usize;
+            show_pixels(rt, size, options.pgm, &buffer[..area]);
+        }
+        PixelFormat::Packed => show_packed(rt, size, options.pgm, buffer),
+    }
 }
 
 // The answer, and the picture, if there is one.

@@ -19,6 +19,9 @@ pub const EMPTY: u8 = 255;
 // The widest picture.
 const WIDEST: usize = 256;
 
+// Its row as a line.
+const LINE_ROOM: usize = WIDEST + 1;
+
 // The ground behind the glyphs. A packed framebuffer has one colour beside the ink's.
 fn ground(format: PixelFormat) -> u8
     ensures { result ≡ ground_of format }
@@ -54,24 +57,26 @@ fn mark(pixel: u8) -> u8
     }
 }
 
-// The characters that show a row's pixels.
-fn marks(row: &[u8]) -> Text<WIDEST>
+// The characters that show a row's pixels. They are stored by number, so that many go at once: pushed, each takes 14 instructions.
+fn marks(row: &[u8]) -> Text<LINE_ROOM>
     requires { length row.now ≤ WIDEST }
     ensures { result ≡ map shade row.now }
 {
-    let mut text = Text::new();
-    for pixel in row {
-        text.push(mark(*pixel));
+    let mut bytes = [0u8; LINE_ROOM];
+    for (i, pixel) in row.iter().enumerate() {
+        bytes[i] = mark(*pixel);
     }
-    text
+    Text::of_buffer(bytes, row.len())
 }
 
-// By the row's number: a picture without columns has its rows too.
+// By the row's number: a picture without columns has its rows too. Each is one write: a formatter would take a character at a time.
 pub fn print_rows<R: Print>(rt: &R, pixels: &[u8], width: usize, height: usize)
     requires { IsPicture width height (length pixels.now) }
 {
     for y in 0..height {
         let start = y * width;
-        let _ = println!(rt; "{}", marks(&pixels[start..start + width]));
+        let mut line = marks(&pixels[start..start + width]);
+        line.push(b'\n');
+        let _ = rt.write_all(line.as_bytes());
     }
 }

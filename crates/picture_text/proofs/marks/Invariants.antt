@@ -1,7 +1,10 @@
--- The text shows the pixels so far. Assumes nothing.
-use Rattle.std.proofs.Common.{◌≡◌, map, take}
+-- The first bytes show the pixels so far. Assumes nothing.
+use Rattle.std.proofs.Common.{◌≡◌, length, map, take}
 use Rattle.picture_text.specs.Marks.{shade}
 use Rattle.picture_text.proofs.marks.Given as goal
 
-abbrev pub invariant-loop-pixel : goal.invariant-loop-pixel
-invariant-loop-pixel l = l.text ≡ map shade (take l.pixel-index l.row)
+abbrev pub invariant-loop-i : goal.invariant-loop-i
+invariant-loop-i l = record {
+  long : length l.bytes ≡ 257;
+  shown : take l.i l.bytes ≡ map shade (take l.i l.row);
+}
