@@ -1,8 +1,8 @@
 -- Which part of a glyph lies on the framebuffer.
 use Rattle.std.specs.Prelude.{ℕ, ◌≤◌, ℤ, pos, negsuc, ◌-ℤ◌, ◌≤ℤ◌}
-use Rattle.std.specs.declared.ops.Range.{Range}
 use Rattle.definitions.specs.Vocabulary.{Point, GlyphReader, Framebuffer}
 use Rattle.framebuffer.specs.Areas.{clamped}
+use Rattle.visible_part.specs.declared.Visible.{Visible}
 use Rattle.visible_part.specs.declared.VisiblePart.{VisiblePart}
 
 -- A place near enough that a glyph's end is a number of 32 bits.
@@ -22,7 +22,7 @@ pub record CornerFits (corner : Point) (framebuffer : Framebuffer) : Type 0 wher
 
 -- Of so many columns or rows of a glyph, of which the first lies at `start`, those that the framebuffer's, from 0 to before
 -- `limit`, show.
-abbrev pub visible : ℤ → ℕ → ℕ → Range ℕ
+abbrev pub visible : ℤ → ℕ → ℕ → Visible
 visible start size limit = record { start = clamped (pos 0 -ℤ start) size; end = clamped (pos limit -ℤ start) size }
 
 abbrev pub visible_part : Point → GlyphReader → Framebuffer → VisiblePart

@@ -1,33 +1,50 @@
 // Which part of a glyph lies on the framebuffer.
 #![tactic(auto)]
 
-ghost use Rattle.std.specs.Prelude.{◌≡◌};
+ghost use Rattle.std.specs.Prelude.{◌≡◌, leb};
 ghost use Rattle.visible_part.specs.Visible.{SideFits, CornerFits, visible, visible_part};
 
 use framebuffer::clamp;
-use std::ops::Range;
 use types::framebuffer::Framebuffer;
 use types::geometry::Point;
 use types::glyph_reader::GlyphReader;
 
+// Columns or rows of a glyph, from `start` to before `end`: a range that is Copy, which std's is not.
+#[derive(Clone, Copy, Debug, PartialEq, Eq)]
+pub struct Visible {
+    pub start: usize,
+    pub end: usize,
+}
+
+impl Visible {
+    pub fn is_empty(self) -> bool
+        ensures { result ≡ leb self.end self.start }
+    {
+        self.end <= self.start
+    }
+}
+
 // The columns and rows of a glyph that lie on the framebuffer, and the column and row of the framebuffer where it begins.
-#[derive(Clone, Debug, PartialEq, Eq, Drop)]
+#[derive(Clone, Copy, Debug, PartialEq, Eq)]
 pub struct VisiblePart {
-    pub columns: Range<usize>,
-    pub rows: Range<usize>,
+    pub columns: Visible,
+    pub rows: Visible,
     pub left: usize,
     pub top: usize,
 }
 
 // The columns of a glyph of that width that lie on a framebuffer of the width `limit`, the first column of the glyph being its
 // column `start`. Rows go the same way, by the heights.
-fn get_visible(start: i32, size: u8, limit: usize) -> Range<usize>
+fn get_visible(start: i32, size: u8, limit: usize) -> Visible
     requires { SideFits start limit }
     ensures { result ≡ visible start size limit }
 {
     let start = i64::from(start);
     let size = usize::from(size);
-    clamp(-start, size)..clamp(limit as i64 - start, size)
+    Visible {
+        start: clamp(-start, size),
+        end: clamp(limit as i64 - start, size),
+    }
 }
 
 // The visible part of a glyph whose top left corner that is.
