@@ -70,7 +70,8 @@ fn draw_line(
 }
 
 // The lines of a checked text, one after the other, and their steps added up. The first that is stopped is the answer, and the
-// lines before it stay.
+// lines before it stay. (Not inlined: plain drawing, which does not come here, would take its stack.)
+#[inline(never)]
 fn draw_lines(
     font: &OpenedFont,
     text: &[u8],

@@ -10,15 +10,28 @@ use font_reader::opened::OpenedFont;
 use framebuffer::line::{Line, fill_columns};
 use runs::run_reader::RunReader;
 use runs::seek;
-use types::framebuffer::Framebuffer;
+use types::framebuffer::{Framebuffer, PixelFormat};
 use types::glyph_reader::GlyphReader;
 use visible_part::VisiblePart;
+
+// The framebuffer, of which the compiler then knows the format.
+#[inline(always)]
+fn of_format(format: PixelFormat, framebuffer: Framebuffer) -> Framebuffer
+    requires { framebuffer.format ≡ format }
+    ensures { result ≡ framebuffer }
+{
+    Framebuffer {
+        format,
+        ..framebuffer
+    }
+}
 
 // Draws the ones of the visible part of a glyph whose runs were checked. A pair's ones go from a column to before another, both
 // counted from the current row's first column: from the glyph's width on they lie in later rows. Pairs before the first visible
 // row are passed over whole, and nothing is read after the last visible row. Neither loop goes over a range: rows end within pairs,
 // and pairs within rows.
-pub fn draw_rows(
+#[inline(always)]
+fn draw_pairs(
     font: &OpenedFont,
     glyph: GlyphReader,
     part: VisiblePart,
@@ -71,5 +84,30 @@ pub fn draw_rows(
         runs = reader.next_pair(runs);
         from = to + runs.zeros;
         to = from + runs.ones;
+    }
+}
+
+// The same, for each format by itself: a loop that asks for it takes 7 instructions more in each row.
+pub fn draw_rows(
+    font: &OpenedFont,
+    glyph: GlyphReader,
+    part: VisiblePart,
+    value: u8,
+    framebuffer: Framebuffer,
+    buffer: &mut [u8],
+)
+    requires { PartDrawable font.now.bytes.now font.now.head glyph part framebuffer (length buffer.old) }
+    ensures { buffer.new ≡ shown framebuffer (ones_picture (pixels_of (u8g2 font.now.bytes.now) glyph)
+        glyph part value) buffer.old }
+{
+    match framebuffer.format {
+        PixelFormat::Bytes => {
+            let framebuffer = of_format(PixelFormat::Bytes, framebuffer);
+            draw_pairs(font, glyph, part, value, framebuffer, buffer);
+        }
+        PixelFormat::Packed => {
+            let framebuffer = of_format(PixelFormat::Packed, framebuffer);
+            draw_pairs(font, glyph, part, value, framebuffer, buffer);
+        }
     }
 }

@@ -2,7 +2,7 @@
 use Rattle.integers.proofs.Prelude.{ap, ℕ, ◌-◌, arith}
 use Rattle.rows.proofs.StateLaws.{at_start, at_row, all_rows, at_next}
 use Rattle.rows.proofs.PartLaws.{part_lies}
-use Rattle.rows.proofs.draw_rows.Goals as goal
+use Rattle.rows.proofs.draw_pairs.Goals as goal
 
 pub pairs-init : goal.pairs-init
 pairs-init c =

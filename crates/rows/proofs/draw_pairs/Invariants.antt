@@ -1,7 +1,7 @@
 -- The invariant of both loops of `draw_rows`: they stand at a state (StateLaws). Assumes nothing.
 use Rattle.integers.proofs.Prelude.{◌-◌, ◌*◌, length}
 use Rattle.rows.proofs.StateLaws.{State}
-use Rattle.rows.proofs.draw_rows.Given as goal
+use Rattle.rows.proofs.draw_pairs.Given as goal
 
 abbrev pub invariant-loop-to : goal.invariant-loop-to
 invariant-loop-to l = State l.font.bytes.now l.font.head l.fn.glyph l.part l.value l.framebuffer l.fn.buffer l.buffer l.runs l.from l.to l.line
