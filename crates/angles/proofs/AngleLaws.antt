@@ -5,16 +5,24 @@ use Rattle.integers.specs.Integers.{pick}
 use Rattle.numbers.specs.Decimal.{decimal}
 use Rattle.numbers.proofs.DecimalLaws.{decimal_small, decimal_more}
 use Rattle.numbers.proofs.DigitsLaws.{few_digits}
-use Rattle.angles.specs.AngleText.{degrees_then, sign_then, angle_text}
+use Rattle.angles.specs.AngleText.{digit, degrees_then, sign_then, angle_text}
+
+module _ (n : ℕ) (rest : List ℕ) where
+  pub one_digit : n < 10 → degrees_then n rest ≡ digit (n % 10) ∷ rest
+  unfolding degrees_then
+  one_digit h = let e : n % 10 ≡ n = omega arith in rw (lt-ltb n 10 h, e)
+
+  pub two_digits : 10 ≤ n → degrees_then n rest ≡ digit (n / 10) ∷ digit (n % 10) ∷ rest
+  unfolding degrees_then
+  two_digits h = rw (le-ltb n 10 h)
 
 -- degrees below 100 are a number in decimal
 degrees_decimal : (n : ℕ) (rest : List ℕ) → n < 100 → degrees_then n rest ≡ decimal n ++ rest
-unfolding degrees_then
 degrees_decimal n rest h = by_size (dec_lt n 10)
   where
-    by_size : Dec (n < 10) → pick (ltb n 10) ((48 + n) ∷ rest) ((48 + n / 10) ∷ (48 + n % 10) ∷ rest) ≡ decimal n ++ rest
-    by_size (yes p) = rw (lt-ltb n 10 p, decimal_small n p) refl
-    by_size (no p) = rw (le-ltb n 10 (omega arith), decimal_more n (omega arith), decimal_small (n / 10) (omega arith)) refl
+    by_size : Dec (n < 10) → degrees_then n rest ≡ decimal n ++ rest
+    by_size (yes p) = let e : n % 10 ≡ n = omega arith in one_digit n rest p ∙ rw (decimal_small n p, e) refl
+    by_size (no p) = two_digits n rest (omega arith) ∙ rw (decimal_more n (omega arith), decimal_small (n / 10) (omega arith)) refl
 
 sign_first : (z : ℤ) (rest : List ℕ) → sign_then z [] ++ rest ≡ sign_then z rest
 sign_first z rest = by_tests (lt_z z (pos 0)) (lt_z (pos 0) z)
@@ -33,11 +41,11 @@ in_pieces z h =
     let t = (48 + nat_abs z % 10) ∷ [] in
     rw (decimal_small (nat_abs z % 10) (omega arith), ← sign_first z (degrees_then d (46 ∷ t)), degrees_decimal d (46 ∷ t) (omega arith)) (simp append_assoc)
 
-pub two_digits : (n : ℕ) → n < 100 → length (decimal n) ≤ 2
-two_digits n h = few_digits 1 n (omega arith)
+pub at_most_two : (n : ℕ) → n < 100 → length (decimal n) ≤ 2
+at_most_two n h = few_digits 1 n (omega arith)
 
-pub one_digit : (n : ℕ) → n < 10 → length (decimal n) ≤ 1
-one_digit n h = few_digits 0 n (omega arith)
+pub at_most_one : (n : ℕ) → n < 10 → length (decimal n) ≤ 1
+at_most_one n h = few_digits 0 n (omega arith)
 
 -- ---- written from its end
 
@@ -50,4 +58,4 @@ front (x ∷ xs) (suc i) v h = front xs i v (omega arith)
 pub written_before : (l : List ℕ) (i v start : ℕ) → i < length l → i + 1 ≡ start → drop i (set l i v) ≡ v ∷ drop start l
 written_before l i v start h e = front l i v h ∙ rw (← e, add-one)
 
-pub ruleset angle_pieces = (in_pieces, two_digits, one_digit, length-append)
+pub ruleset angle_pieces = (in_pieces, at_most_two, at_most_one, length-append)
