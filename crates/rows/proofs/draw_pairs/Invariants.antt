@@ -1,4 +1,4 @@
--- The invariant of both loops of `draw_rows`: they stand at a state (StateLaws). Assumes nothing.
+-- The invariant of both loops of `draw_pairs`: they stand at a state (StateLaws). Assumes nothing.
 use Rattle.integers.proofs.Prelude.{◌-◌, ◌*◌, length}
 use Rattle.rows.proofs.StateLaws.{State}
 use Rattle.rows.proofs.draw_pairs.Given as goal
