@@ -36,7 +36,8 @@ fn show_pixels<R: Files + Print + Eprint + Alloc>(rt: &R, size: Size, pgm: bool,
     print_rows(rt, pixels, size.width as usize, size.height as usize);
 }
 
-// The pixels of a packed framebuffer, as grey values: the rows of the text's box. Not inlined: drawing in bytes takes no stack for it.
+// The pixels of a packed framebuffer, as grey values: the rows of the text's box. Not inlined: drawing in bytes takes no stack
+// for it.
 #[inline(never)]
 fn show_packed<R: Files + Print + Eprint + Alloc>(
     rt: &R,
