@@ -1,7 +1,10 @@
-// A case's numbers, in the order of the file.
+// A case's numbers, in the order of the file. `Case::read` and `Call::try_from` (checked.rt) refuse a code without a meaning;
+// `Case::read_lossy` and `Call::from` read it as one that has. (Both stand beside each other: no impl here makes one of the other.)
 ghost use Rattle.std.specs.Prelude.{◌≡◌};
 ghost use Rattle.cases.specs.Reading.{passed};
-ghost use Rattle.case_calls.specs.Numbers.{behind, call_of, color_at, kind_without, place_of, IsCase};
+ghost use Rattle.case_calls.specs.Numbers.{behind_at, call_or_redraw, color_at, kind_without, place_of, IsCaseAt};
+
+mod checked;
 
 use crate::request::SIZE;
 use c_codes::{known_alignment, known_anchor, known_flag, known_format};
@@ -46,9 +49,9 @@ fn kind_without(format: PixelFormat, kind: u32) -> u32
 }
 
 impl From<u32> for Call {
-    ghost from_gives = { λ code call. call ≡ call_of code };
+    ghost from_gives = { λ code call. call ≡ call_or_redraw code };
 
-    #[tactic(auto, unfolding(crate::specs::Numbers::call_of))]
+    #[tactic(auto, unfolding(crate::specs::Numbers::call_or_redraw))]
     fn from(code: u32) -> Call {
         match code {
             0 => Call::Open,
@@ -65,11 +68,11 @@ impl From<u32> for Call {
 
 fn read_color(cases: &mut Reader) -> FontColor
     ensures value { result ≡ color_at cases.old }
-    ensures after { cases.new ≡ behind 3 cases.old }
+    ensures after { cases.new ≡ behind_at 3 cases.old }
 {
-    let has_background = known_flag(cases.number()).unwrap_or(true);
-    let fg = cases.byte();
-    let bg = cases.byte();
+    let has_background = known_flag(cases.number_or_zero()).unwrap_or(true);
+    let fg = cases.low_byte();
+    let bg = cases.low_byte();
     if has_background {
         FontColor::WithBackground { fg, bg }
     } else {
@@ -95,22 +98,22 @@ pub struct Case {
 }
 
 impl Case {
-    // No number is refused: a code without a meaning has one all the same.
-    pub fn read(cases: &mut Reader) -> Case
-        ensures value { IsCase cases.old result }
+    // No number is refused: a code without a meaning is read as one that has.
+    pub fn read_lossy(cases: &mut Reader) -> Case
+        ensures value { IsCaseAt cases.old result }
         ensures after { cases.new ≡ passed SIZE cases.old }
     {
-        let kind = cases.number();
+        let kind = cases.number_or_zero();
         let format = known_format(kind / FORMAT).unwrap_or(PixelFormat::Bytes);
-        let x = cases.signed_number();
-        let y = cases.signed_number();
-        let vertical_pos = known_anchor(cases.number()).unwrap_or(VerticalPosition::Bottom);
-        let align = known_alignment(cases.number()).unwrap_or(HorizontalAlignment::Right);
-        let line_height = cases.number();
-        let ignore_unknown_chars = known_flag(cases.number()).unwrap_or(false);
+        let x = cases.signed_number_or_zero();
+        let y = cases.signed_number_or_zero();
+        let vertical_pos = known_anchor(cases.number_or_zero()).unwrap_or(VerticalPosition::Bottom);
+        let align = known_alignment(cases.number_or_zero()).unwrap_or(HorizontalAlignment::Right);
+        let line_height = cases.number_or_zero();
+        let ignore_unknown_chars = known_flag(cases.number_or_zero()).unwrap_or(false);
         let color = read_color(cases);
-        let width = cases.number() as usize;
-        let height = cases.number() as usize;
+        let width = cases.number_or_zero() as usize;
+        let height = cases.number_or_zero() as usize;
         Case {
             call: Call::from(kind % SUMS),
             sums: SUMS <= kind_without(format, kind),
@@ -129,10 +132,10 @@ impl Case {
                 width,
                 height,
             },
-            fill: cases.byte(),
-            len: cases.number() as usize,
-            old_len: cases.number() as usize,
-            background: cases.byte(),
+            fill: cases.low_byte(),
+            len: cases.number_or_zero() as usize,
+            old_len: cases.number_or_zero() as usize,
+            background: cases.low_byte(),
         }
     }
 

@@ -1,2 +1,4 @@
 pub mod CutLaws
+pub mod CutStringLaws
+pub mod RestLaws
 pub mod StringLaws

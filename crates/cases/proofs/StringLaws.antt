@@ -1,39 +1,44 @@
 -- Reading the parts of a byte string, one after the other. Assumes nothing.
-use Rattle.std.proofs.Common.{◌≡◌, ap, subst, ℕ, suc, ◌+◌, ◌-◌, ◌<◌, true, false, List, [], ◌++◌, take, arith}
-use Rattle.cases.specs.Reading.{Position, begin_of, is_beyond, passed, number}
-use Rattle.cases.specs.Strings.{part, parts, next_part, behind_parts, one_is_beyond, string, behind_string}
-use Rattle.cases.proofs.CutLaws.{Holds, more}
+use Rattle.std.proofs.Common.{◌≡◌, refl, sym, subst, ◌∙◌, ℕ, suc, ◌+◌, ◌-◌, ◌≤◌, ◌<◌, List, [], ◌++◌, length, drop, append_assoc, append-nil, arith}
+use Rattle.cases.specs.Strings.{number, HasPart, IsPart, part, parts, behind_parts, HasParts, next_part, IsString}
 
--- What the room has of n parts that begin at p, and where the reader stands, from which k parts more are to be read.
-pub record Reached (room n : ℕ) (p : Position) (bytes : List ℕ) (q : Position) (k : ℕ) : Type 0 where
-  pub holds : Holds room (parts n p) bytes (parts k q)
-  pub behind : behind_parts n p ≡ behind_parts k q
-  pub beyond : one_is_beyond n p ≡ one_is_beyond k q
-  pub file : q.file ≡ p.file
+-- What was read of n parts of a file, and what of the file is left, from which k parts more are to be read.
+pub record Reached (n : ℕ) (file bytes rest : List ℕ) (k : ℕ) : Type 0 where
+  pub is : parts n file ≡ bytes ++ parts k rest
+  pub behind : behind_parts n file ≡ behind_parts k rest
+  pub there : HasParts k rest → HasParts n file
+  pub onward : HasParts n file → HasParts k rest
 
-module _ {room n : ℕ} {p : Position} {bytes : List ℕ} {q : Position} (i end : ℕ) (r : Reached room n p bytes q (end - i)) where
-  one_more : i < end → Reached room n p bytes q (suc (end - (i + 1)))
-  one_more h = subst (Reached room n p bytes q) (omega arith) r
+pub begins : {n end : ℕ} {file bytes rest : List ℕ} → end ≡ n → bytes ≡ [] → rest ≡ file → Reached n file bytes rest (end - 0)
+begins {n} {end} {file} e b f =
+    let all : end - 0 ≡ n = omega arith in
+    rw (all, b, f) record { is = refl; behind = refl; there = λ h. h; onward = λ h. h }
 
-  pub next : {now : List ℕ} {after : Position} → i < end → is_beyond q ≡ false → now ≡ take room (bytes ++ part q)
-      → after ≡ next_part q → Reached room n p now after (end - (i + 1))
-  next h within is on =
-      let s = one_more h in
-      rw on record {
-        holds = more (part q) (parts (end - (i + 1)) (next_part q)) s.holds is;
-        behind = s.behind;
-        beyond = rw within at s.beyond;
-        file = s.file;
-      }
+module _ {n : ℕ} {file bytes rest : List ℕ} where
+  after_part : {k : ℕ} {more after : List ℕ} → Reached n file bytes rest (suc k) → IsPart rest more after → Reached n file (bytes ++ more) after k
+  after_part {k = k} r p = rw (p.is, p.rest) record {
+    is = r.is ∙ sym (append_assoc bytes (part rest) (parts k (next_part rest)));
+    behind = r.behind;
+    there = λ h. r.there (p.there, h);
+    onward = λ h. (r.onward h).1;
+  }
 
-  -- a part begins beyond the last place
-  pub stopped : i < end → is_beyond q ≡ true → one_is_beyond n p ≡ true
-  stopped h far = let s = one_more h in rw far at s.beyond
+  module _ (i end : ℕ) (r : Reached n file bytes rest (end - i)) where
+    one_more : i < end → Reached n file bytes rest (suc (end - (i + 1)))
+    one_more h = subst (Reached n file bytes rest) (omega arith) r
 
--- there the string is empty, and the file begins anew
-pub empty : (room : ℕ) (p : Position) → one_is_beyond (number p) (passed 4 p) ≡ true → [] ≡ string room p
-empty room p e = rw e
+    pub next : {more now after : List ℕ} → i < end → IsPart rest more after → now ≡ bytes ++ more → Reached n file now after (end - (i + 1))
+    next {after = after} h p e = subst (λ (l : List ℕ). Reached n file l after (end - (i + 1))) (sym e) (after_part (one_more h) p)
 
-pub anew : (p : Position) {bytes : List ℕ} → one_is_beyond (number p) (passed 4 p) ≡ true → bytes ≡ p.file
-    → begin_of bytes ≡ behind_string p
-anew p e f = rw e (ap begin_of f)
+    -- what fails at a part that is there
+    pub stopped : {P : Type 0} → i < end → (HasPart rest → P) → HasParts n file → P
+    stopped h f p = f ((one_more h).onward p).0
+
+    at_end : end ≤ i → Reached n file bytes rest 0
+    at_end h = subst (Reached n file bytes rest) (omega arith) r
+
+pub ends : {before bytes rest : List ℕ} (i end : ℕ) → Reached (number before) (drop 4 before) bytes rest (end - i) → end ≤ i
+    → 4 ≤ length before → IsString before bytes rest
+ends {bytes = bytes} i end r h long =
+    let e = at_end i end r h in
+    record { there = record { count = long; all = e.there tt }; is = sym (e.is ∙ append-nil bytes); rest = sym e.behind }

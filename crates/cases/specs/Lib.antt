@@ -1,3 +1,4 @@
+pub mod Errors
 pub mod Reading
 pub mod Strings
 pub mod Patterns

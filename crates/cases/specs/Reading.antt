@@ -1,6 +1,9 @@
--- What is read of a file of cases, which may end anywhere: nothing is refused.
-use Rattle.std.specs.Prelude.{ℕ, ◌+◌, ◌-◌, ◌^◌, ◌%◌, min, List, length, take, drop, ℤ, Bool, nat_le, nat_lt, if◌then◌else◌}
+-- What is read of a file of cases, which may end anywhere.
+use Rattle.std.specs.Prelude.{◌≡◌, ℕ, ◌+◌, ◌-◌, ◌^◌, ◌%◌, ◌<◌, ◌≤◌, min, List, length, take, drop, ℤ, Bool, nat_le, nat_lt, if◌then◌else◌}
+use Rattle.std.specs.Prelude.{Result, Ok, Err}
 use Rattle.std.specs.Int.{w32, from_le_bytes, cast_signed}
+use Rattle.cases.specs.declared.reader.CaseError.{CaseError}
+use Rattle.cases.specs.declared.reader.CaseError.TheVariants.{EndsTooEarly}
 
 -- A file, and the place where what is read next begins; it may lie behind the file's end.
 pub record Position : Type 0 where
@@ -18,19 +21,33 @@ rest p = drop p.next p.file
 abbrev pub passed : ℕ → Position → Position
 passed n p = record { file = p.file; next = min (p.next + n) (2 ^ 64 - 1) }
 
+-- ---- what is not there is 0: nothing is refused
+
 -- four bytes, the low one first; 0 where the file does not have them all
-abbrev pub number : Position → ℕ
-number p = (if nat_le 4 (length (rest p)) then from_le_bytes w32 (take 4 (rest p)) else 0)
+abbrev pub number_or_zero : Position → ℕ
+number_or_zero p = (if nat_le 4 (length (rest p)) then from_le_bytes w32 (take 4 (rest p)) else 0)
 
 abbrev pub signed_number : Position → ℤ
-signed_number p = cast_signed w32 (number p)
+signed_number p = cast_signed w32 (number_or_zero p)
 
 abbrev pub byte : Position → ℕ
-byte p = number p % 256
+byte p = number_or_zero p % 256
 
--- No file of cases has a place beyond this one.
+-- The last place from which a file of cases is read, where nothing is refused.
 abbrev pub last_place : ℕ
 last_place = 1048576
 
 abbrev pub is_beyond : Position → Bool
 is_beyond p = nat_lt last_place p.next
+
+-- ---- what is not there is refused; these go by the bytes that are left
+
+-- The next `len` bytes are read as a value and passed, or there are fewer, which is refused and passes none.
+abbrev pub Read : {A : Type 0} → ℕ → List ℕ → List ℕ → (A → List ℕ → Type 0) → Result A CaseError → Type 0
+Read len before after Is (Ok value) = (len ≤ length before) × Is value (take len before) × (after ≡ drop len before)
+Read len before after Is (Err error) = (error ≡ EndsTooEarly) × (length before < len) × (after ≡ before)
+
+-- The next number is read as a byte and passed, or it is too large for one, or there is none.
+abbrev pub ReadByte : List ℕ → List ℕ → Result ℕ CaseError → Type 0
+ReadByte before after (Ok n) = (4 ≤ length before) × (n ≡ from_le_bytes w32 (take 4 before)) × (after ≡ drop 4 before)
+ReadByte before after (Err error) = (4 ≤ length before) → 256 ≤ from_le_bytes w32 (take 4 before)

@@ -40,7 +40,7 @@ fn goes_on(cases: &Reader) -> Result<(), EndsEarly> {
 
 // A byte string of a case, where the file goes on behind it.
 fn string<'a>(cases: &mut Reader, room: &'a mut [u8]) -> Result<&'a [u8], EndsEarly> {
-    let string = cases.bytes(room);
+    let string = cases.bytes_in(room);
     goes_on(cases)?;
     Ok(string)
 }
@@ -52,7 +52,7 @@ fn replay<R: Print>(rt: &R, cases: &mut Reader, rooms: &mut Rooms) -> Result<(),
     let text = string(cases, &mut rooms.text)?;
     printing::text(rt, label);
     let _ = print!(rt; ": ");
-    let case = Case::read(cases);
+    let case = Case::read_lossy(cases);
     request::answer(rt, case, font, text, &mut rooms.framebuffer);
     let _ = println!(rt);
     goes_on(cases)
@@ -60,7 +60,7 @@ fn replay<R: Print>(rt: &R, cases: &mut Reader, rooms: &mut Rooms) -> Result<(),
 
 fn replay_all<R: Print>(rt: &R, file: &[u8], rooms: &mut Rooms) -> Result<(), EndsEarly> {
     let mut cases = Reader::new(file);
-    for _ in 0..cases.number() {
+    for _ in 0..cases.number_or_zero() {
         replay(rt, &mut cases, rooms)?;
     }
     Ok(())

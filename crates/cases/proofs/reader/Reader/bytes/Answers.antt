@@ -1,27 +1,14 @@
--- A part more was read, or it begins beyond the last place.
-use Rattle.std.proofs.Common.{rules, sym, ap, ◌∙◌, arith}
-use Rattle.std.proofs.lemmas.List.{places}
-use Rattle.cases.specs.Reading.{Position}
-use Rattle.cases.proofs.CutLaws.{cut_behind}
-use Rattle.cases.proofs.StringLaws.{next, stopped, empty, anew}
+-- A part more was read, or there is none, or no memory.
+use Rattle.std.proofs.lemmas.Result.{err_from_is_err_and}
+use Rattle.cases.proofs.StringLaws.{next, stopped}
 use Rattle.cases.proofs.reader.Reader.bytes.Goals as goal
 
-pub returns-then-ends_early-clause-value : goal.returns-then-ends_early-clause-value
-returns-then-ends_early-clause-value c =
-    empty _ c.args.self.now
-    (stopped c.loop.counter _ c.loop.invariant.reached c.loop-test.true (sym c.ends_early.ensures ∙ c.if-ends_early.true))
-
-pub returns-then-ends_early-clause-after : goal.returns-then-ends_early-clause-after
-returns-then-ends_early-clause-after c =
-    anew c.args.self.now
-    (stopped c.loop.counter _ c.loop.invariant.reached c.loop-test.true (sym c.ends_early.ensures ∙ c.if-ends_early.true))
-    (ap (λ (q : Position). q.file) c.self.view_is ∙ c.loop.invariant.reached.file)
+pub returns-in_err-whole_part : goal.returns-in_err-whole_part
+returns-in_err-whole_part c =
+    let p = err_from_is_err_and c.from_residual-in_err-whole_part.result c.from_residual-in_err-whole_part.ensures.1 in
+    rw (p.1, p.2) (λ h. stopped c.loop.counter c.in_ok-end.end c.loop.invariant c.loop-test.true c.in_err-whole_part.ensures h.all)
 
 pub loop-preserved : goal.loop-preserved
-loop-preserved c = record {
-  within = search (rules, places);
-  reached = next c.loop.counter _ c.loop.invariant.reached c.loop-test.true (sym c.ends_early.ensures ∙ c.if-ends_early.false)
-      (cut_behind c.loop.room _ c.part-len.new.room _ c.loop.auto.room (omega arith) (omega arith) c.part-len.ensures.filled
-      (search (rules, places)))
-      c.part-len.ensures.after;
-}
+loop-preserved c =
+    let more = rw c.deref.ensures.value at c.in_ok-extend_from_slice.ensures.items in
+    next c.loop.counter c.in_ok-end.end c.loop.invariant c.loop-test.true c.in_ok-whole_part.ensures more
