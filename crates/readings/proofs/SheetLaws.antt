@@ -4,13 +4,14 @@ use Rattle.integers.proofs.Prelude.{◌≡◌, refl, sym, ap, subst, ◌∙◌, 
 use Rattle.integers.proofs.Prelude.{length}
 use Rattle.integers.proofs.Choices.{impossible}
 use Rattle.integers.specs.Integers.{pick}
-use Rattle.std.specs.Prelude.{Option, None, Some}
+use Rattle.std.specs.Prelude.{Option, None, Some, ◌||◌}
 use Rattle.definitions.specs.Vocabulary.{RenderedDimensions, Transparent, Place}
 use Rattle.definitions.specs.Refusals.{Outcome, success, refused, Cause, any_applies, outcome}
 use Rattle.definitions.specs.Header.{font_causes}
 use Rattle.definitions.specs.Utf8.{table, row_of, first_character, decode_from}
 use Rattle.definitions.specs.Font.{u8g2}
 use Rattle.definitions.specs.Framebuffer.{unpacked, framebuffer_cause, BufferFits}
+use Rattle.definitions.proofs.FramebufferLaws.{size_fits}
 use Rattle.definitions.specs.Limits.{text_cause, position_cause, color_off, color_cause, background_cause}
 use Rattle.angles.specs.AngleText.{degrees_then, angle_text}
 use Rattle.redraw_checks.specs.Drawing.{asked, drawn, after, ground_of}
@@ -60,6 +61,14 @@ all_fine = refl
 -- No reading's text is refused for itself.
 fine : (k : ℕ) → k < 901 → (text_cause (reading_text k)).applies ≡ false
 fine = each_to 901 all_fine
+
+applies_behind : (cs : List Cause) (c : Cause) (ds : List Cause) → c.applies ≡ true → any_applies (cs ++ c ∷ ds) ≡ true
+applies_behind [] c ds e = rw e refl
+applies_behind (x ∷ cs) c ds e = by x.applies (applies_behind cs c ds e)
+  where
+    by : (b : Bool) → any_applies (cs ++ c ∷ ds) ≡ true → (b || any_applies (cs ++ c ∷ ds)) ≡ true
+    by true h = refl
+    by false h = h
 
 module _ (narrow : Bool) (font : List ℕ) (place : Place) (ground : List ℕ) (takes : color_off place.framebuffer.format (Transparent place.background) ≡ false) where
   abbrev setting : Setting
@@ -209,6 +218,66 @@ module _ (narrow : Bool) (font : List ℕ) (place : Place) (ground : List ℕ) (
           let late = drawn_late font (reading place k) (ground_of place ground) a in
           let this : (before (suc k)).old ≡ Some k = next_old (all_known k) k ∙ rw late in
           ap standing this
+
+  -- ---- a ground that is not as long as the framebuffer, which cause 3 refuses
+
+  module _ (off : (framebuffer_cause place.framebuffer ground).applies ≡ true) where
+    off_as : (bytes : List ℕ) → length bytes ≡ length ground → (framebuffer_cause place.framebuffer bytes).applies ≡ true
+    off_as bytes e = rw e off
+
+    -- No step writes, ..
+    stays : (k : ℕ) → (before k).bytes ≡ ground
+    unfolding screen_at step_buffer
+    stays zero = refl
+    stays (suc k) =
+        let size : (framebuffer_cause place.framebuffer (before k).bytes).applies ≡ true = off_as (before k).bytes (ap length (stays k)) in
+        let refuses =
+        applies_behind (font_causes font) (framebuffer_cause place.framebuffer (before k).bytes)
+        (text_cause (shown_text (before k).old)
+        ∷ text_cause (reading_text k)
+        ∷ position_cause place.position place.line_height
+        ∷ color_cause place.framebuffer.format place.style.color
+        ∷ color_cause place.framebuffer.format (Transparent place.background)
+        ∷ background_cause place.style.color (u8g2 font).background
+        ∷ [])
+        size
+        in
+        rw refuses (stays k)
+
+    -- .. and no reading is drawn.
+    wanted_none : (k : ℕ) → wanted font place ground k ≡ ground
+    wanted_none k =
+        not_drawn (drawn font (reading place k) (ground_of place ground)) (after font (reading place k) (ground_of place ground))
+        (drawn_early font (reading place k) (ground_of place ground)
+        (applies_behind (font_causes font) (framebuffer_cause place.framebuffer ground)
+        (text_cause (reading_text k)
+        ∷ position_cause place.position place.line_height
+        ∷ color_cause place.framebuffer.format place.style.color
+        ∷ background_cause place.style.color (u8g2 font).background
+        ∷ [])
+        off))
+
+    none_apart : (k : ℕ) → differing font place ground (before (suc k)) k
+        ≡ differences (unpacked place.framebuffer (before (suc k)).bytes) (unpacked place.framebuffer (wanted font place ground k))
+    none_apart k =
+        let p = place.framebuffer in
+        let shown = wanted font place ground k in
+        let same : (before (suc k)).bytes ≡ shown = stays (suc k) ∙ sym (wanted_none k) in
+        ap (λ (l : List ℕ). apart p l shown) same
+        ∙ none_if_same (compared p.format p shown)
+        ∙ sym (ap (λ (l : List ℕ). differences (unpacked p l) (unpacked p shown)) same ∙ none_if_same (unpacked p shown))
+
+  -- Whatever the ground and the format, the pixels that differ are those that differ unpacked.
+  pub unpacked_differing : (k : ℕ)
+      → differing font place ground (before (suc k)) k
+      ≡ differences (unpacked place.framebuffer (before (suc k)).bytes) (unpacked place.framebuffer (wanted font place ground k))
+  unpacked_differing k = by (framebuffer_cause place.framebuffer ground).applies refl
+    where
+      by : (b : Bool) → (framebuffer_cause place.framebuffer ground).applies ≡ b
+          → differing font place ground (before (suc k)) k
+          ≡ differences (unpacked place.framebuffer (before (suc k)).bytes) (unpacked place.framebuffer (wanted font place ground k))
+      by true e = none_apart e k
+      by false e = differing_unpacked (size_fits place.framebuffer ground e) k
 
   module _ (honest : narrow ≡ false) (clear : ClearTo 901 font place ground) where
     clear_for : (k : ℕ) → k < 901 → ClearFor setting ground (in_color k)
