@@ -1,6 +1,6 @@
 -- A case's sixteen numbers, of four bytes each, in the order of the file.
-use Rattle.std.specs.Prelude.{◌≡◌, Bool, true, false, Option, Some, None, ℕ, zero, suc, ◌≤◌, ◌<◌, ◌/◌, ◌%◌, List, length, take, drop, ℤ, eqb, leb}
-use Rattle.std.specs.Prelude.{Result, Ok, Err, unwrap_or}
+use Rattle.std.specs.Prelude.{◌≡◌, Bool, true, false, Option, Some, None, ℕ, zero, suc, ◌≤◌, ◌<◌, ◌/◌, ◌%◌, ℤ, eqb, leb}
+use Rattle.std.specs.Prelude.{List, length, take, drop, Result, Ok, Err, unwrap_or}
 use Rattle.std.specs.Int.{w32, from_le_bytes, cast_signed}
 use Rattle.integers.specs.Integers.{pick}
 use Rattle.definitions.specs.Vocabulary.{FontColor, Place, PixelFormat, Bytes, Packed}

@@ -1,5 +1,5 @@
 // A case's numbers, in the order of the file. `Case::read` and `Call::try_from` (checked.rt) refuse a code without a meaning;
-// `Case::read_lossy` and `Call::from` read it as one that has. (Both stand beside each other: no impl here makes one of the other.)
+// `Case::read_lossy` and `Call::from` read it as one that has. In Rust a `From` brings a `TryFrom`; in Rattle it brings none.
 ghost use Rattle.std.specs.Prelude.{◌≡◌};
 ghost use Rattle.cases.specs.Reading.{passed};
 ghost use Rattle.case_calls.specs.Numbers.{behind_at, call_or_redraw, color_at, kind_without, place_of, IsCaseAt};

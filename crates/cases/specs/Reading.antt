@@ -1,6 +1,6 @@
 -- What is read of a file of cases, which may end anywhere.
-use Rattle.std.specs.Prelude.{◌≡◌, ℕ, ◌+◌, ◌-◌, ◌^◌, ◌%◌, ◌<◌, ◌≤◌, min, List, length, take, drop, ℤ, Bool, nat_le, nat_lt, if◌then◌else◌}
-use Rattle.std.specs.Prelude.{Result, Ok, Err}
+use Rattle.std.specs.Prelude.{◌≡◌, ℕ, ◌+◌, ◌-◌, ◌^◌, ◌%◌, ◌<◌, ◌≤◌, min, List, length, take, drop, ℤ, Bool, nat_le, nat_lt}
+use Rattle.std.specs.Prelude.{if◌then◌else◌, Result, Ok, Err}
 use Rattle.std.specs.Int.{w32, from_le_bytes, cast_signed}
 use Rattle.cases.specs.declared.reader.CaseError.{CaseError}
 use Rattle.cases.specs.declared.reader.CaseError.TheVariants.{EndsTooEarly}
